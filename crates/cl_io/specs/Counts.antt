@@ -1,0 +1,11 @@
+-- Counts that only rise (this project's profile).
+use Rattle.std.specs.Prelude.{◌≡◌, ◌≢◌, ℕ, ◌-◌, ◌<◌, ◌≤◌, ◌^◌, List}
+
+-- The count rose, or it stood at the greatest u64 already, where it stays.
+abbrev pub Rose : ℕ → ℕ → Type 0
+Rose before after = before < 2 ^ 64 - 1 → before < after
+
+-- At this name the number hasn't fallen, and at every other it is as it was.
+pub record RisesAlone (name : List ℕ) (before after : List ℕ → ℕ) : Type 0 where
+  pub here : before name ≤ after name
+  pub others : (other : List ℕ) → other ≢ name → after other ≡ before other

@@ -1,0 +1,30 @@
+-- Shelves in memory (this project's profile).
+use Rattle.std.specs.Prelude.{◌≡◌, ℕ, Bool, true, false, ◌||◌, ◌==◌, List, [], unwrap_or, is_none, Result, Ok, Err, Vec}
+use Rattle.std.specs.List.{list_any}
+use Rattle.std.specs.Option.{option_map_or}
+use Rattle.std.specs.declared.alloc.Global.{Global}
+use Rattle.cl_io.specs.declared.fault.FetchFault.{FetchFault}
+use Rattle.cl_io.specs.declared.fault.FetchFault.TheVariants.{Failed, Long, NoMemory}
+use Rattle.cl_io.specs.declared.mem_shelf.MemShelf.{MemShelf}
+use Rattle.cl_io.specs.declared.sure_shelf.SureShelf.{SureShelf}
+use Rattle.cl_io.specs.Files.{file_of}
+use Rattle.cl_io.specs.Shelf.{Held, Absent, Content}
+
+-- what a memory shelf holds under a name
+abbrev pub mem_held : MemShelf → List ℕ → Held
+mem_held shelf name = option_map_or Content (file_of shelf.files name) Absent
+
+-- what a sure shelf holds under a name: no bytes, where nothing was put there
+abbrev pub sure_held : SureShelf → List ℕ → Held
+sure_held shelf name = Content (unwrap_or (file_of shelf.files name) [])
+
+-- The next fetch of the name fails: there is no file of that name, or it is one of those that are to fail.
+abbrev pub fails_next : MemShelf → List ℕ → Bool
+fails_next shelf name = is_none (file_of shelf.files name) || list_any (λ call. call == shelf.calls) shelf.failing.items
+
+-- A fetch that is to fail does, and no other does. Memory may run out in either.
+abbrev pub FailsExactly : Bool → Result (Vec ℕ Global) FetchFault → Type 0
+FailsExactly fails (Ok bytes) = fails ≡ false
+FailsExactly fails (Err (Long taken)) = fails ≡ false
+FailsExactly fails (Err Failed) = fails ≡ true
+FailsExactly fails (Err NoMemory) = Unit {0}

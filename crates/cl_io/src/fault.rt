@@ -1,0 +1,35 @@
+use thiserror::Error;
+
+/// Why a fetch gave no bytes.
+#[derive(Clone, Copy, Debug, PartialEq, Eq, Error)]
+pub enum FetchFault {
+    /// The file couldn't be read.
+    #[error("the file couldn't be read")]
+    Failed,
+    /// The file has more bytes than the limit.
+    #[error("the file is too long: more than {taken} bytes")]
+    Long {
+        /// How many bytes were taken before the fetch stopped, more than the limit.
+        taken: u64,
+    },
+    /// No memory was found for the file.
+    #[error("memory ran out")]
+    NoMemory,
+}
+
+/// Why a sink took nothing.
+#[derive(Clone, Copy, Debug, PartialEq, Eq, Error)]
+pub enum SinkFault {
+    #[error("the output couldn't be written")]
+    Failed,
+}
+
+/// Why a piece wasn't written whole.
+#[derive(Clone, Copy, Debug, PartialEq, Eq, Error)]
+pub enum WriteFault {
+    #[error("the output stopped after {written} bytes")]
+    Failed {
+        /// How many bytes of the piece were written before the sink failed.
+        written: u64,
+    },
+}

@@ -1,0 +1,125 @@
+ghost use Rattle.std.specs.Prelude.{◌≡◌, ◌∷◌, ◌++◌, ◌+◌, ◌-◌, ◌^◌, List, [], ℕ, min, OnOk, OnErr};
+ghost use Rattle.cl_io.specs.Counts.{Rose, RisesAlone};
+ghost use Rattle.cl_io.specs.Names.{ChangesAlone, SameAtEach};
+ghost use Rattle.cl_io.specs.NameNumbers.{no_numbers, numbers_of, faults_of, longest_of, IsEntered};
+ghost use Rattle.cl_io.specs.Shelf.{Absent, Content, MayAnswer};
+ghost use Rattle.cl_io.specs.MemShelf.{mem_held, fails_next, FailsExactly};
+
+use crate::files::Files;
+use crate::{FetchFault, NameNumbers, Shelf};
+use cl_time::NoMemory;
+use std::alloc::Global;
+
+/// A shelf in memory that tells what it holds, and fails where it is told to. A fetch of a name that it doesn't
+/// hold fails.
+#[derive(Drop)]
+pub struct MemShelf {
+    files: Files,
+    numbers: NameNumbers,
+    failing: Vec<u64>,
+    calls: u64,
+}
+
+impl MemShelf {
+    /// An empty shelf, on which each number of each name is 0. Takes no memory.
+    pub fn new(alloc: Global) -> Self
+        ensures held { SameAtEach (λ _. Absent) (mem_held result) }
+        ensures numbers { SameAtEach (λ _. no_numbers) (numbers_of result.numbers) }
+        ensures failing { result.failing.items ≡ [] }
+        ensures calls { result.calls ≡ 0 }
+    {
+        MemShelf {
+            files: Files::new(alloc),
+            numbers: NameNumbers::new(alloc),
+            failing: Vec::new(alloc),
+            calls: 0,
+        }
+    }
+
+    /// Puts a file on the shelf, in place of what stood under the name. Where memory runs out, the shelf holds what it held.
+    pub fn put(&mut self, name: &str, content: &[u8]) -> Result<(), NoMemory>
+        ensures ok { OnOk result (ChangesAlone name.now (Content content.now) (mem_held self.old) (mem_held self.new)) }
+        ensures err { OnErr result (SameAtEach (mem_held self.old) (mem_held self.new)) }
+        ensures numbers { SameAtEach (numbers_of self.old.numbers) (numbers_of self.new.numbers) }
+        ensures failing { self.new.failing ≡ self.old.failing }
+        ensures calls { self.new.calls ≡ self.old.calls }
+    {
+        self.files.put(name, content)
+    }
+
+    /// Makes the fetch of that number fail, from 0 for the first. Where memory runs out, the shelf is as it was.
+    pub fn fail_call(&mut self, call: u64) -> Result<(), NoMemory>
+        ensures ok { OnOk result (self.new.failing.items ≡ self.old.failing.items ++ call ∷ []) }
+        ensures err { OnErr result (self.new.failing.items ≡ self.old.failing.items) }
+        ensures held { SameAtEach (mem_held self.old) (mem_held self.new) }
+        ensures numbers { SameAtEach (numbers_of self.old.numbers) (numbers_of self.new.numbers) }
+        ensures calls { self.new.calls ≡ self.old.calls }
+    {
+        self.failing.push(call)?;
+        Ok(())
+    }
+}
+
+impl Shelf for MemShelf {
+    ghost held = { mem_held };
+
+    ghost faults = { λ s. faults_of s.numbers };
+
+    ghost longest = { λ s. longest_of s.numbers };
+
+    fn fetch(&mut self, alloc: Global, name: &str, limit: u64) -> Result<Vec<u8>, FetchFault>
+        ensures same { SameAtEach (mem_held self.old) (mem_held self.new) }
+        ensures faults { RisesAlone name.now (faults_of self.old.numbers) (faults_of self.new.numbers) }
+        ensures longest { RisesAlone name.now (longest_of self.old.numbers) (longest_of self.new.numbers) }
+        ensures answer { MayAnswer (mem_held self.old name.now) limit
+            (Rose (faults_of self.old.numbers name.now) (faults_of self.new.numbers name.now))
+            (longest_of self.old.numbers name.now) (longest_of self.new.numbers name.now) result }
+
+        // As it was told to, and nothing is forgotten of that.
+        ensures scripted { FailsExactly (fails_next self.old name.now) result }
+        ensures failing { self.new.failing ≡ self.old.failing }
+        ensures calls { self.new.calls ≡ min (self.old.calls + 1) (2 ^ 64 - 1) }
+    {
+        let call = self.calls;
+        self.calls = call.saturating_add(1);
+        if self.numbers.enter(name).is_err() {
+            return Err(FetchFault::NoMemory);
+        }
+        match self.files.get(name) {
+            Some(content) if !self.failing.contains(&call) => {
+                give(alloc, content, name, limit, &mut self.numbers)
+            }
+            _ => {
+                self.numbers.count_fault(name);
+                Err(FetchFault::Failed)
+            }
+        }
+    }
+}
+
+/// Hands out a copy of what lies under a name, or says that it is too long, and notes how many bytes were taken.
+pub(crate) fn give(
+    alloc: Global,
+    content: &[u8],
+    name: &str,
+    limit: u64,
+    numbers: &mut NameNumbers,
+) -> Result<Vec<u8>, FetchFault>
+    requires { IsEntered numbers.old name.now }
+    ensures faults { SameAtEach (faults_of numbers.old) (faults_of numbers.new) }
+    ensures longest { RisesAlone name.now (longest_of numbers.old) (longest_of numbers.new) }
+    ensures answer { MayAnswer (Content content.now) limit ⊥
+        (longest_of numbers.old name.now) (longest_of numbers.new name.now) result }
+{
+    let taken = content.len() as u64;
+    if taken > limit {
+        numbers.note_taken(name, taken);
+        return Err(FetchFault::Long { taken });
+    }
+    let bytes = match Vec::from_slice(alloc, content) {
+        Ok(bytes) => bytes,
+        Err(_) => return Err(FetchFault::NoMemory),
+    };
+    numbers.note_taken(name, taken);
+    Ok(bytes)
+}

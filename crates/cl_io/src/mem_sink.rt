@@ -1,0 +1,96 @@
+ghost use Rattle.std.specs.Prelude.{◌≡◌, [], ◌∷◌, ◌++◌, ◌<◌, ◌≤◌, Some, IfOk, OnOk, OnErr};
+ghost use Rattle.cl_io.specs.Counts.{Rose};
+ghost use Rattle.cl_io.specs.Sink.{MayTake};
+ghost use Rattle.cl_io.specs.MemSink.{new_sink, answer_of, after_write};
+
+use crate::{Sink, SinkFault};
+use cl_time::NoMemory;
+use std::alloc::Global;
+use std::marker::Model;
+
+/// A sink in memory, with room for so many bytes, that takes at most a step of them at a time and fails where it is told to.
+#[derive(Drop)]
+pub struct MemSink {
+    bytes: Vec<u8>,
+    room: usize,
+    step: usize,
+    failing: Vec<u64>,
+    calls: u64,
+    faults: u64,
+}
+
+impl Model for MemSink {
+    ghost use Rattle.std.specs.Prelude.{◌≤◌, ◌<◌, vec_len, vec_capacity};
+    ghost use Rattle.cl_io.specs.MemSink.{MemSinkState, IsRoomy};
+
+    ghost Value = { MemSinkState };
+
+    ghost view = { λ s. record {
+      written = s.bytes.items;
+      room = s.room;
+      step = s.step;
+      failing = s.failing.items;
+      calls = s.calls;
+      faults = s.faults;
+    } };
+
+    ghost invariant = { λ s. IsRoomy (vec_len s.bytes) s.room (vec_capacity s.bytes) s.step };
+}
+
+impl MemSink {
+    /// A sink with room for `room` bytes, taken at once, of which one write takes at most `step`.
+    pub fn new(alloc: Global, room: usize, step: usize) -> Result<Self, NoMemory>
+        requires { 0 < step }
+        ensures { IfOk result (λ sink. sink ≡ new_sink room step) }
+    {
+        Ok(MemSink {
+            bytes: Vec::with_capacity(alloc, room)?,
+            room,
+            step,
+            failing: Vec::new(alloc),
+            calls: 0,
+            faults: 0,
+        })
+    }
+
+    /// Makes the write of that number fail, from 0 for the first. Where memory runs out, the sink is as it was.
+    pub fn fail_call(&mut self, call: u64) -> Result<(), NoMemory>
+        ensures ok { OnOk result (self.new ≡ record self.old { failing = self.old.failing ++ call ∷ [] }) }
+        ensures err { OnErr result (self.new ≡ self.old) }
+    {
+        self.failing.push(call)?;
+        Ok(())
+    }
+
+    /// All that was written.
+    pub fn bytes(&self) -> &[u8]
+        ensures { result.now ≡ self.now.written }
+    {
+        self.bytes.as_slice()
+    }
+}
+
+impl Sink for MemSink {
+    ghost written = { λ s. Some s.written };
+
+    ghost faults = { λ s. s.faults };
+
+    fn write(&mut self, piece: &[u8]) -> Result<usize, SinkFault>
+        ensures faults { self.old.faults ≤ self.new.faults }
+        ensures answer { MayTake piece.now (Rose self.old.faults self.new.faults) (Some self.old.written) (Some self.new.written) result }
+        ensures scripted { result ≡ answer_of self.old piece.now }
+        ensures after { self.new ≡ after_write self.old piece.now }
+    {
+        let call = self.calls;
+        self.calls = call.saturating_add(1);
+        let left = self.room - self.bytes.len();
+        if left == 0 || self.failing.contains(&call) {
+            self.faults = self.faults.saturating_add(1);
+            return Err(SinkFault::Failed);
+        }
+        let taken = piece.len().min(self.step).min(left);
+        // The room was taken at once, so this can't fail.
+        self.bytes.extend_from_slice(&piece[..taken]).unwrap();
+        Ok(taken)
+    }
+}

@@ -1,0 +1,32 @@
+ghost use Rattle.std.specs.Prelude.{◌≡◌, List, ℕ};
+ghost use Rattle.cl_io.specs.Counts.{Rose, RisesAlone};
+ghost use Rattle.cl_io.specs.Shelf.{Held, MayAnswer};
+
+use crate::FetchFault;
+use std::alloc::Global;
+
+/// Where files come from. For each name a shelf keeps two numbers that never fall: how often a fetch of that
+/// name has failed, and the most bytes that one fetch of it took.
+pub trait Shelf {
+    /// What it holds under a name, where it tells that.
+    ghost held: { Self → List ℕ → Held };
+
+    /// How often a fetch of the name has failed. A count at the greatest `u64` stays there.
+    ghost faults: { Self → List ℕ → ℕ };
+
+    /// The most bytes that one fetch of the name took.
+    ghost longest: { Self → List ℕ → ℕ };
+
+    /// Reads all that lies under a name, where that is at most `limit` bytes.
+    ///
+    /// `Failed` comes only where the name's count of faults rose in this call, `Long` where more than `limit`
+    /// bytes were taken, and `NoMemory` where memory ran out. Whatever it answers, what the shelf holds stays
+    /// as it was, and so do the two numbers of every other name.
+    fn fetch(&mut self, alloc: Global, name: &str, limit: u64) -> Result<Vec<u8>, FetchFault>
+        ensures same { (other : List ℕ) → held self.new other ≡ held self.old other }
+        ensures faults { RisesAlone name.now (faults self.old) (faults self.new) }
+        ensures longest { RisesAlone name.now (longest self.old) (longest self.new) }
+        ensures answer { MayAnswer (held self.old name.now) limit
+            (Rose (faults self.old name.now) (faults self.new name.now))
+            (longest self.old name.now) (longest self.new name.now) result };
+}

@@ -1,0 +1,59 @@
+ghost use Rattle.std.specs.Prelude.{◌≡◌, List, [], ℕ, OnOk, OnErr};
+ghost use Rattle.cl_io.specs.Counts.{Rose, RisesAlone};
+ghost use Rattle.cl_io.specs.Names.{ChangesAlone, SameAtEach};
+ghost use Rattle.cl_io.specs.NameNumbers.{longest_of};
+ghost use Rattle.cl_io.specs.Shelf.{Content, MayAnswer};
+ghost use Rattle.cl_io.specs.MemShelf.{sure_held};
+
+use crate::files::Files;
+use crate::mem_shelf::give;
+use crate::{FetchFault, NameNumbers, Shelf};
+use cl_time::NoMemory;
+use std::alloc::Global;
+
+/// A shelf in memory of which no fetch fails: a name under which nothing was put is an empty file.
+#[derive(Drop)]
+pub struct SureShelf {
+    files: Files,
+    numbers: NameNumbers,
+}
+
+impl SureShelf {
+    /// A shelf on which every name is an empty file that was never fetched. Takes no memory.
+    pub fn new(alloc: Global) -> Self
+        ensures held { SameAtEach (λ _. Content []) (sure_held result) }
+        ensures longest { SameAtEach (λ _. 0) (longest_of result.numbers) }
+    {
+        SureShelf {
+            files: Files::new(alloc),
+            numbers: NameNumbers::new(alloc),
+        }
+    }
+
+    /// Puts a file on the shelf, in place of what stood under the name. Where memory runs out, the shelf holds what it held.
+    pub fn put(&mut self, name: &str, content: &[u8]) -> Result<(), NoMemory>
+        ensures ok { OnOk result (ChangesAlone name.now (Content content.now) (sure_held self.old) (sure_held self.new)) }
+        ensures err { OnErr result (SameAtEach (sure_held self.old) (sure_held self.new)) }
+        ensures longest { SameAtEach (longest_of self.old.numbers) (longest_of self.new.numbers) }
+    {
+        self.files.put(name, content)
+    }
+}
+
+impl Shelf for SureShelf {
+    ghost held = { sure_held };
+
+    ghost faults = { λ _ _. 0 };
+
+    ghost longest = { λ s. longest_of s.numbers };
+
+    fn fetch(&mut self, alloc: Global, name: &str, limit: u64) -> Result<Vec<u8>, FetchFault> {
+        if self.numbers.enter(name).is_err() {
+            return Err(FetchFault::NoMemory);
+        }
+        match self.files.get(name) {
+            Some(content) => give(alloc, content, name, limit, &mut self.numbers),
+            None => give(alloc, &[], name, limit, &mut self.numbers),
+        }
+    }
+}

@@ -1,0 +1,42 @@
+ghost use Rattle.std.specs.Prelude.{◌≡◌, ◌+◌, ◌-◌, ◌^◌, ◌≤◌, List, ℕ, None, Ok, min, length};
+ghost use Rattle.cl_io.specs.Counts.{Rose};
+ghost use Rattle.cl_io.specs.Sink.{MayTake};
+
+use crate::{Sink, SinkFault};
+
+/// A sink that takes every piece whole and keeps only how many bytes it took. It never fails and needs no memory.
+#[derive(Clone, Copy, Debug, PartialEq, Eq)]
+pub struct SureSink {
+    taken: u64,
+}
+
+impl SureSink {
+    pub fn new() -> Self
+        ensures { result.taken ≡ 0 }
+    {
+        SureSink { taken: 0 }
+    }
+
+    /// How many bytes it has taken. At the greatest `u64` the number stays.
+    pub fn taken(&self) -> u64
+        ensures { result ≡ self.now.taken }
+    {
+        self.taken
+    }
+}
+
+impl Sink for SureSink {
+    ghost written = { λ _. None };
+
+    ghost faults = { λ _. 0 };
+
+    fn write(&mut self, piece: &[u8]) -> Result<usize, SinkFault>
+        ensures faults { 0 ≤ 0 }
+        ensures answer { MayTake piece.now (Rose 0 0) None None result }
+        ensures whole { result ≡ Ok (length piece.now) }
+        ensures taken { self.new.taken ≡ min (self.old.taken + length piece.now) (2 ^ 64 - 1) }
+    {
+        self.taken = self.taken.saturating_add(piece.len() as u64);
+        Ok(piece.len())
+    }
+}

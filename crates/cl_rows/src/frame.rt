@@ -1,0 +1,110 @@
+use crate::calls::{roomy_sink, run_uncounted, shelf_of, words_of};
+use cl_io::{MemSink, Shelf, Sink, SureShelf, SureSink, Words};
+use cl_top::FILE_LIMIT;
+use std::alloc::Global;
+use std::marker::Brand;
+use std::sync::ledger::Blank;
+use std::test::Fail;
+
+/// Runs a command with a counter of its own.
+fn run_here<S: Shelf, K: Sink>(alloc: Global, words: &Words, shelf: &mut S, sink: &mut K) -> u8 {
+    run_uncounted::<S, K, Brand>(alloc, words, shelf, sink, Blank::new(1))
+}
+
+#[test]
+fn words_that_are_no_command_are_refused(rt: HostRuntime) -> Result<(), Fail> {
+    let alloc = rt.alloc();
+    for line in ["", "analyse", "analyse a b", "analyze a", "a analyse"] {
+        let mut shelf = shelf_of(alloc, "a", b"")?;
+        let mut sink = roomy_sink(alloc)?;
+        let status = run_here(alloc, &words_of(alloc, line)?, &mut shelf, &mut sink);
+        assert_eq!(rt; status, 2, "{line}");
+        assert_eq!(rt; sink.bytes(), b"words refused\n".as_slice(), "{line}");
+    }
+    Ok(())
+}
+
+#[test]
+fn a_file_is_read_to_its_limit(rt: HostRuntime) -> Result<(), Fail> {
+    let alloc = rt.alloc();
+    let words = words_of(alloc, "analyse model")?;
+    let cases = [
+        (0, 11, b"form not built\n".as_slice()),
+        (16_777_216, 11, b"form not built\n".as_slice()),
+        (16_777_217, 4, b"long file 1\n".as_slice()),
+    ];
+    assert_eq!(rt; FILE_LIMIT, 16_777_216);
+    for (len, status, text) in cases {
+        let content = vec![in alloc; b'#'; len]?;
+        let mut shelf = shelf_of(alloc, "model", content.as_slice())?;
+        let mut sink = roomy_sink(alloc)?;
+        assert_eq!(rt;
+            run_here(alloc, &words, &mut shelf, &mut sink),
+            status,
+            "{len}"
+        );
+        assert_eq!(rt; sink.bytes(), text, "{len}");
+    }
+    Ok(())
+}
+
+#[test]
+fn a_file_that_cannot_be_read_is_a_read_fault(rt: HostRuntime) -> Result<(), Fail> {
+    let alloc = rt.alloc();
+    let words = words_of(alloc, "analyse model")?;
+
+    let mut absent = shelf_of(alloc, "another", b"")?;
+    let mut sink = roomy_sink(alloc)?;
+    assert_eq!(rt; run_here(alloc, &words, &mut absent, &mut sink), 3);
+    assert_eq!(rt; sink.bytes(), b"read fault 1\n".as_slice());
+
+    let mut failing = shelf_of(alloc, "model", b"")?;
+    failing.fail_call(0)?;
+    let mut sink = roomy_sink(alloc)?;
+    assert_eq!(rt; run_here(alloc, &words, &mut failing, &mut sink), 3);
+    assert_eq!(rt; sink.bytes(), b"read fault 1\n".as_slice());
+
+    // The command has one file, so there is no second fetch to fail.
+    let mut failing_later = shelf_of(alloc, "model", b"")?;
+    failing_later.fail_call(1)?;
+    let mut sink = roomy_sink(alloc)?;
+    assert_eq!(rt; run_here(alloc, &words, &mut failing_later, &mut sink), 11);
+    Ok(())
+}
+
+#[test]
+fn a_sink_that_fails_keeps_a_proper_prefix(rt: HostRuntime) -> Result<(), Fail> {
+    let alloc = rt.alloc();
+    let words = words_of(alloc, "analyse model")?;
+    // room, step, the write that fails, and what is written
+    let cases = [
+        (10, 64, 9, b"form not b".as_slice()),
+        (0, 64, 9, b"".as_slice()),
+        (64, 7, 1, b"form no".as_slice()),
+        (14, 1, 99, b"form not built".as_slice()),
+    ];
+    for (room, step, failing, text) in cases {
+        let mut shelf = shelf_of(alloc, "model", b"")?;
+        assert!(rt; step > 0);
+        let mut sink = MemSink::new(alloc, room, step)?;
+        sink.fail_call(failing)?;
+        assert_eq!(rt;
+            run_here(alloc, &words, &mut shelf, &mut sink),
+            9,
+            "{room} {step}"
+        );
+        assert_eq!(rt; sink.bytes(), text, "{room} {step}");
+    }
+    Ok(())
+}
+
+#[test]
+fn sure_shelves_and_sinks_never_fail(rt: HostRuntime) -> Result<(), Fail> {
+    let alloc = rt.alloc();
+    let words = words_of(alloc, "analyse nothing")?;
+    let mut shelf = SureShelf::new(alloc);
+    let mut sink = SureSink::new();
+    assert_eq!(rt; run_here(alloc, &words, &mut shelf, &mut sink), 11);
+    assert_eq!(rt; sink.taken(), 15);
+    Ok(())
+}

@@ -1,0 +1,10 @@
+#![tactic(auto)]
+//! Texts of lines and words: decimals, the ends of lines and words, and a text that grows.
+
+mod decimal;
+mod line;
+mod text;
+
+pub use decimal::{decimal_grammar, read_decimal};
+pub use line::{line_grammar, next_line, next_word, word_grammar};
+pub use text::Text;

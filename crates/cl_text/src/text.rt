@@ -1,0 +1,76 @@
+ghost use Rattle.std.specs.Prelude.{◌≡◌, ℕ, List, [], ◌++◌, OnOk, OnErr, decimal};
+
+use cl_time::NoMemory;
+use itoa::Buffer;
+use std::alloc::Global;
+use std::marker::Model;
+
+/// A text that grows at its end. Contracts see its bytes.
+#[derive(Debug, Drop)]
+pub struct Text {
+    bytes: Vec<u8>,
+}
+
+impl Model for Text {
+    ghost Value = { List ℕ };
+
+    ghost view = { λ t. t.bytes.items };
+}
+
+impl Text {
+    /// The empty text.
+    pub fn new(alloc: Global) -> Text
+        ensures { result ≡ [] }
+    {
+        Text {
+            bytes: Vec::new(alloc),
+        }
+    }
+
+    /// Appends the piece. `NoMemory` leaves the text as it was.
+    pub fn put(&mut self, piece: &[u8]) -> Result<(), NoMemory>
+        ensures ok { OnOk result (self.new ≡ self.old ++ piece.now) }
+        ensures err { OnErr result (self.new ≡ self.old) }
+    {
+        self.bytes.extend_from_slice(piece)?;
+        Ok(())
+    }
+
+    /// Appends the number as a decimal. `NoMemory` leaves the text as it was.
+    pub fn put_number(&mut self, number: u64) -> Result<(), NoMemory>
+        ensures ok { OnOk result (self.new ≡ self.old ++ decimal number) }
+        ensures err { OnErr result (self.new ≡ self.old) }
+    {
+        let mut buffer = Buffer::new();
+        self.put(buffer.format(number).as_bytes())
+    }
+
+    /// The text's bytes.
+    pub fn as_slice(&self) -> &[u8]
+        ensures { result.now ≡ self.now }
+    {
+        self.bytes.as_slice()
+    }
+}
+
+#[cfg(test)]
+mod tests {
+    use super::Text;
+    use std::test::Fail;
+
+    #[test]
+    fn holds_what_was_put(rt: HostRuntime) -> Result<(), Fail> {
+        let mut text = Text::new(rt.alloc());
+        assert_eq!(rt; text.as_slice(), b"".as_slice());
+        text.put(b"ticks ")?;
+        text.put_number(0)?;
+        text.put(b"")?;
+        text.put(b"\n")?;
+        text.put_number(u64::MAX)?;
+        assert_eq!(rt;
+            text.as_slice(),
+            b"ticks 0\n18446744073709551615".as_slice()
+        );
+        Ok(())
+    }
+}

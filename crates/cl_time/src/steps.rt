@@ -1,0 +1,79 @@
+ghost use Rattle.std.specs.Prelude.{◌≡◌, ◌+◌, ◌<◌};
+
+use std::marker::Model;
+use std::sync::ledger::{Blank, Book, Ledger, Share};
+
+/// A counter of analysing steps, seen by contracts as the number of steps so far.
+///
+/// It stands on a ledger `L` of std, whose tokens take no bytes, so neither the counter nor a tick
+/// costs anything at run time; no code can read it. Only `tick` changes it.
+///
+/// A caller makes a counter inside a function that is generic in `L` and takes a [`Blank`], with the
+/// conditions of `Steps::open`, and calls that function with `Brand` for `L` and `Blank::new(1)`. The
+/// proof of that call picks the ledger of the blank.
+#[derive(Drop)]
+pub struct Steps<L: Ledger> {
+    book: Book<L>,
+    share: Share<L>,
+}
+
+impl<L: Ledger> Model for Steps<L> {
+    ghost use Rattle.std.specs.Prelude.{ℕ, ◌<◌};
+
+    ghost Value = { ℕ };
+
+    ghost view = { λ s. s.book.total };
+
+    ghost invariant = { λ s. 0 < s.share.parts };
+}
+
+impl<L: Ledger> Steps<L> {
+    /// A counter at 0 over the blank's ledger. The blank is of that ledger and has a part. It takes
+    /// no memory.
+    pub fn open(blank: Blank) -> Self
+        requires name { blank.name ≡ L.name }
+        requires parts { blank.parts ≡ L.parts }
+        requires a_part { 0 < blank.parts }
+        ensures { result ≡ 0 }
+    {
+        let (book, share) = blank.open::<L>();
+        Steps { book, share }
+    }
+
+    /// Counts one step. It does nothing at run time, and takes no memory.
+    pub fn tick(&mut self)
+        ensures { self.new ≡ self.old + 1 }
+    {
+        self.book.add(&mut self.share, 1);
+    }
+}
+
+#[cfg(test)]
+mod tests {
+    use super::*;
+    use std::marker::Brand;
+
+    fn tick_twice<L: Ledger>(steps: &mut Steps<L>)
+        ensures { steps.new ≡ steps.old + 2 }
+    {
+        steps.tick();
+        steps.tick();
+    }
+
+    // The bytes of a counter that was made and raised.
+    fn bytes_of_a_counter<L: Ledger>(blank: Blank) -> usize
+        requires name { blank.name ≡ L.name }
+        requires parts { blank.parts ≡ L.parts }
+        requires a_part { 0 < blank.parts }
+    {
+        let mut steps = Steps::<L>::open(blank);
+        tick_twice(&mut steps);
+        size_of_val(&steps)
+    }
+
+    #[test]
+    fn a_counter_takes_no_bytes(rt: HostRuntime) {
+        assert_eq!(rt; bytes_of_a_counter::<Brand>(Blank::new(1)), 0);
+        assert_eq!(rt; size_of::<Steps<Brand>>(), 0);
+    }
+}

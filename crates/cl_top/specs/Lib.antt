@@ -1,0 +1,5 @@
+pub mod Command
+pub mod Files
+pub mod Fetch
+pub mod Outcome
+pub mod Run

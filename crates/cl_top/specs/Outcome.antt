@@ -1,0 +1,40 @@
+-- The outcome of a command: its status and its text (this project's profile).
+use Rattle.std.specs.Prelude.{ℕ, List, [], ◌∷◌, ◌++◌, codes, decimal, Option, Some, None}
+use Rattle.cl_top.specs.declared.outcome.Outcome.{Outcome}
+use Rattle.cl_top.specs.declared.status.TheConstants.{WORDS_REFUSED, READ_FAULT, LONG_FILE, FORM_NOT_BUILT}
+use Rattle.cl_top.specs.declared.command.Command.{Command}
+use Rattle.cl_top.specs.declared.command.Command.TheVariants.{Analyse}
+use Rattle.cl_top.specs.Command.{command_of}
+use Rattle.cl_top.specs.Files.{Fetched, Unasked, Bytes, Fault, TooLong}
+
+-- one line, with its end
+abbrev pub line : List ℕ → List ℕ
+line words = words ++ 10 ∷ []
+
+abbrev pub words_refused : Outcome
+words_refused = record { status = WORDS_REFUSED; text = line (codes "words refused") }
+
+abbrev pub read_fault : ℕ → Outcome
+read_fault place = record { status = READ_FAULT; text = line (codes "read fault " ++ decimal place) }
+
+abbrev pub long_file : ℕ → Outcome
+long_file place = record { status = LONG_FILE; text = line (codes "long file " ++ decimal place) }
+
+abbrev pub form_not_built : Outcome
+form_not_built = record { status = FORM_NOT_BUILT; text = line (codes "form not built") }
+
+-- what becomes of the file at a place: a fault of it is the outcome, and its bytes go on to what follows
+abbrev pub with_file : (place : ℕ) → Fetched → (List ℕ → Option Outcome) → Option Outcome
+with_file place Unasked next = None
+with_file place Fault next = Some (read_fault place)
+with_file place TooLong next = Some (long_file place)
+with_file place (Bytes bytes) next = next bytes
+
+-- what becomes of a command whose files gave this; there is no outcome without a file that it needs
+abbrev pub outcome_of : Option Command → (ℕ → Fetched) → Option Outcome
+outcome_of None gave = Some words_refused
+outcome_of (Some Analyse) gave = with_file 1 (gave 1) (λ model. Some form_not_built)
+
+-- the outcome of a command's words, where the file at each place gave this
+abbrev pub outcome : List (List ℕ) → (gave : ℕ → Fetched) → Option Outcome
+outcome words gave = outcome_of (command_of words) gave

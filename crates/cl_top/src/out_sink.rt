@@ -1,0 +1,48 @@
+ghost use Rattle.std.specs.Prelude.{◌≡◌, ◌≤◌, length, None, IfOk};
+
+use cl_io::{Sink, SinkFault};
+use std::io;
+use std::io::Write;
+
+/// The standard output, as a runtime gives it. It tells nothing of what was written.
+#[derive(Drop)]
+pub struct OutSink<'a, P: Print> {
+    out: &'a P,
+    faults: u64,
+}
+
+impl<'a, P: Print> OutSink<'a, P> {
+    /// A sink that has not failed yet. Takes no memory.
+    pub fn new(out: &'a P) -> Self
+        ensures { result.faults ≡ 0 }
+    {
+        OutSink { out, faults: 0 }
+    }
+}
+
+impl<P: Print> Sink for OutSink<'_, P> {
+    ghost written = { λ _. None };
+
+    ghost faults = { λ s. s.faults };
+
+    fn write(&mut self, piece: &[u8]) -> Result<usize, SinkFault> {
+        match write_through(self.out, piece) {
+            Ok(taken) if taken > 0 || piece.is_empty() => Ok(taken),
+            // An output that takes nothing of a piece has failed as well.
+            _ => {
+                self.faults = self.faults.saturating_add(1);
+                Err(SinkFault::Failed)
+            }
+        }
+    }
+}
+
+/// Writes the first bytes of a piece and flushes them, and says how many.
+fn write_through<P: Print>(out: &P, piece: &[u8]) -> io::Result<usize>
+    ensures { IfOk result (λ taken. taken ≤ length piece.now) }
+{
+    let mut writer = io::writer(out);
+    let taken = writer.write(piece)?;
+    writer.flush()?;
+    Ok(taken)
+}

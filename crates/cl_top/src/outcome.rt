@@ -1,0 +1,63 @@
+ghost use Rattle.std.specs.Prelude.{◌≡◌, ◌∷◌, [], ◌++◌, decimal, IfOk};
+ghost use Rattle.cl_top.specs.Outcome.{line, words_refused, read_fault, long_file, form_not_built};
+
+use crate::status;
+use cl_text::Text;
+use cl_time::NoMemory;
+use std::alloc::Global;
+
+/// What a command comes to: the number that it ends with, and the text that it writes.
+#[derive(Drop)]
+pub struct Outcome {
+    pub status: u8,
+    pub text: Text,
+}
+
+impl Outcome {
+    fn of_line(alloc: Global, status: u8, words: &[u8]) -> Result<Outcome, NoMemory>
+        ensures { IfOk result (λ outcome. outcome ≡ record { status = status; text = line words.now }) }
+    {
+        let mut text = Text::new(alloc);
+        text.put(words)?;
+        text.put(b"\n")?;
+        Ok(Outcome { status, text })
+    }
+
+    fn of_file(alloc: Global, status: u8, words: &[u8], place: u64) -> Result<Outcome, NoMemory>
+        ensures { IfOk result (λ outcome. outcome ≡ record { status = status; text = line (words.now ++ decimal place) }) }
+    {
+        let mut text = Text::new(alloc);
+        text.put(words)?;
+        text.put_number(place)?;
+        text.put(b"\n")?;
+        Ok(Outcome { status, text })
+    }
+
+    /// The words are no command.
+    pub(crate) fn words_refused(alloc: Global) -> Result<Outcome, NoMemory>
+        ensures { IfOk result (λ outcome. outcome ≡ words_refused) }
+    {
+        Outcome::of_line(alloc, status::WORDS_REFUSED, b"words refused")
+    }
+
+    /// The file that the word at this place names couldn't be read.
+    pub(crate) fn read_fault(alloc: Global, place: u64) -> Result<Outcome, NoMemory>
+        ensures { IfOk result (λ outcome. outcome ≡ read_fault place) }
+    {
+        Outcome::of_file(alloc, status::READ_FAULT, b"read fault ", place)
+    }
+
+    /// The file that the word at this place names is longer than its limit.
+    pub(crate) fn long_file(alloc: Global, place: u64) -> Result<Outcome, NoMemory>
+        ensures { IfOk result (λ outcome. outcome ≡ long_file place) }
+    {
+        Outcome::of_file(alloc, status::LONG_FILE, b"long file ", place)
+    }
+
+    /// The analysis of the model isn't built yet.
+    pub(crate) fn form_not_built(alloc: Global) -> Result<Outcome, NoMemory>
+        ensures { IfOk result (λ outcome. outcome ≡ form_not_built) }
+    {
+        Outcome::of_line(alloc, status::FORM_NOT_BUILT, b"form not built")
+    }
+}

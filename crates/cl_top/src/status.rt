@@ -1,0 +1,19 @@
+//! The numbers that a call of `run`, and so the program, ends with.
+
+/// The words are no command.
+pub const WORDS_REFUSED: u8 = 2;
+
+/// A file couldn't be read.
+pub const READ_FAULT: u8 = 3;
+
+/// A file is longer than its limit.
+pub const LONG_FILE: u8 = 4;
+
+/// The output couldn't be written whole.
+pub const WRITE_FAULT: u8 = 9;
+
+/// Memory ran out, and nothing was written.
+pub const NO_MEMORY: u8 = 10;
+
+/// The analysis of such a model isn't built yet.
+pub const FORM_NOT_BUILT: u8 = 11;
