@@ -7,6 +7,8 @@ use Rattle.cl_io.specs.declared.fault.FetchFault.{FetchFault}
 use Rattle.cl_io.specs.declared.fault.FetchFault.TheVariants.{Failed, Long, NoMemory}
 use Rattle.cl_io.specs.declared.mem_shelf.MemShelf.{MemShelf}
 use Rattle.cl_io.specs.declared.sure_shelf.SureShelf.{SureShelf}
+use Rattle.cl_io.specs.declared.name_numbers.Numbers.{Numbers}
+use Rattle.cl_io.specs.NameNumbers.{numbers_of, longest_of}
 use Rattle.cl_io.specs.Files.{file_of}
 use Rattle.cl_io.specs.Shelf.{Held, Absent, Content}
 
@@ -18,9 +20,25 @@ mem_held shelf name = option_map_or Content (file_of shelf.files name) Absent
 abbrev pub sure_held : SureShelf → List ℕ → Held
 sure_held shelf name = Content (unwrap_or (file_of shelf.files name) [])
 
+-- the numbers of a name
+abbrev pub mem_numbers : MemShelf → List ℕ → Numbers
+mem_numbers shelf name = numbers_of shelf.numbers name
+
+-- the numbers of the fetches that fail, from 0 for the first
+abbrev pub failing_calls : MemShelf → List ℕ
+failing_calls shelf = shelf.failing.items
+
+-- how many fetches there were; at the greatest u64 the number stays
+abbrev pub calls_made : MemShelf → ℕ
+calls_made shelf = shelf.calls
+
+-- the most bytes that one fetch of a name took
+abbrev pub sure_longest : SureShelf → List ℕ → ℕ
+sure_longest shelf name = longest_of shelf.numbers name
+
 -- The next fetch of the name fails: there is no file of that name, or it is one of those that are to fail.
 abbrev pub fails_next : MemShelf → List ℕ → Bool
-fails_next shelf name = is_none (file_of shelf.files name) || list_any (λ call. call == shelf.calls) shelf.failing.items
+fails_next shelf name = is_none (file_of shelf.files name) || list_any (λ call. call == calls_made shelf) (failing_calls shelf)
 
 -- A fetch that is to fail does, and no other does. Memory may run out in either.
 abbrev pub FailsExactly : Bool → Result (Vec ℕ Global) FetchFault → Type 0

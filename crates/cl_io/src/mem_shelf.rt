@@ -1,9 +1,9 @@
 ghost use Rattle.std.specs.Prelude.{◌≡◌, ◌∷◌, ◌++◌, ◌+◌, ◌-◌, ◌^◌, List, [], ℕ, min, OnOk, OnErr};
 ghost use Rattle.cl_io.specs.Counts.{Rose, RisesAlone};
 ghost use Rattle.cl_io.specs.Names.{ChangesAlone, SameAtEach};
-ghost use Rattle.cl_io.specs.NameNumbers.{no_numbers, numbers_of, faults_of, longest_of, IsEntered};
+ghost use Rattle.cl_io.specs.NameNumbers.{no_numbers, faults_of, longest_of, IsEntered};
 ghost use Rattle.cl_io.specs.Shelf.{Absent, Content, MayAnswer};
-ghost use Rattle.cl_io.specs.MemShelf.{mem_held, fails_next, FailsExactly};
+ghost use Rattle.cl_io.specs.MemShelf.{mem_held, mem_numbers, failing_calls, calls_made, fails_next, FailsExactly};
 
 use crate::files::Files;
 use crate::{FetchFault, NameNumbers, Shelf};
@@ -24,9 +24,9 @@ impl MemShelf {
     /// An empty shelf, on which each number of each name is 0. Takes no memory.
     pub fn new(alloc: Global) -> Self
         ensures held { SameAtEach (λ _. Absent) (mem_held result) }
-        ensures numbers { SameAtEach (λ _. no_numbers) (numbers_of result.numbers) }
-        ensures failing { result.failing.items ≡ [] }
-        ensures calls { result.calls ≡ 0 }
+        ensures numbers { SameAtEach (λ _. no_numbers) (mem_numbers result) }
+        ensures failing { failing_calls result ≡ [] }
+        ensures calls { calls_made result ≡ 0 }
     {
         MemShelf {
             files: Files::new(alloc),
@@ -40,20 +40,20 @@ impl MemShelf {
     pub fn put(&mut self, name: &str, content: &[u8]) -> Result<(), NoMemory>
         ensures ok { OnOk result (ChangesAlone name.now (Content content.now) (mem_held self.old) (mem_held self.new)) }
         ensures err { OnErr result (SameAtEach (mem_held self.old) (mem_held self.new)) }
-        ensures numbers { SameAtEach (numbers_of self.old.numbers) (numbers_of self.new.numbers) }
-        ensures failing { self.new.failing ≡ self.old.failing }
-        ensures calls { self.new.calls ≡ self.old.calls }
+        ensures numbers { SameAtEach (mem_numbers self.old) (mem_numbers self.new) }
+        ensures failing { failing_calls self.new ≡ failing_calls self.old }
+        ensures calls { calls_made self.new ≡ calls_made self.old }
     {
         self.files.put(name, content)
     }
 
     /// Makes the fetch of that number fail, from 0 for the first. Where memory runs out, the shelf is as it was.
     pub fn fail_call(&mut self, call: u64) -> Result<(), NoMemory>
-        ensures ok { OnOk result (self.new.failing.items ≡ self.old.failing.items ++ call ∷ []) }
-        ensures err { OnErr result (self.new.failing.items ≡ self.old.failing.items) }
+        ensures ok { OnOk result (failing_calls self.new ≡ failing_calls self.old ++ call ∷ []) }
+        ensures err { OnErr result (failing_calls self.new ≡ failing_calls self.old) }
         ensures held { SameAtEach (mem_held self.old) (mem_held self.new) }
-        ensures numbers { SameAtEach (numbers_of self.old.numbers) (numbers_of self.new.numbers) }
-        ensures calls { self.new.calls ≡ self.old.calls }
+        ensures numbers { SameAtEach (mem_numbers self.old) (mem_numbers self.new) }
+        ensures calls { calls_made self.new ≡ calls_made self.old }
     {
         self.failing.push(call)?;
         Ok(())
@@ -63,22 +63,21 @@ impl MemShelf {
 impl Shelf for MemShelf {
     ghost held = { mem_held };
 
-    ghost faults = { λ s. faults_of s.numbers };
+    ghost faults = { λ s name. (mem_numbers s name).faults };
 
-    ghost longest = { λ s. longest_of s.numbers };
+    ghost longest = { λ s name. (mem_numbers s name).longest };
 
     fn fetch(&mut self, alloc: Global, name: &str, limit: u64) -> Result<Vec<u8>, FetchFault>
         ensures same { SameAtEach (mem_held self.old) (mem_held self.new) }
-        ensures faults { RisesAlone name.now (faults_of self.old.numbers) (faults_of self.new.numbers) }
-        ensures longest { RisesAlone name.now (longest_of self.old.numbers) (longest_of self.new.numbers) }
-        ensures answer { MayAnswer (mem_held self.old name.now) limit
-            (Rose (faults_of self.old.numbers name.now) (faults_of self.new.numbers name.now))
-            (longest_of self.old.numbers name.now) (longest_of self.new.numbers name.now) result }
+        ensures faults { RisesAlone name.now (λ n. (mem_numbers self.old n).faults) (λ n. (mem_numbers self.new n).faults) }
+        ensures longest { RisesAlone name.now (λ n. (mem_numbers self.old n).longest) (λ n. (mem_numbers self.new n).longest) }
+        ensures answer { let before = mem_numbers self.old name.now in let after = mem_numbers self.new name.now in
+            MayAnswer (mem_held self.old name.now) limit (Rose before.faults after.faults) before.longest after.longest result }
 
         // As it was told to, and nothing is forgotten of that.
         ensures scripted { FailsExactly (fails_next self.old name.now) result }
-        ensures failing { self.new.failing ≡ self.old.failing }
-        ensures calls { self.new.calls ≡ min (self.old.calls + 1) (2 ^ 64 - 1) }
+        ensures failing { failing_calls self.new ≡ failing_calls self.old }
+        ensures calls { calls_made self.new ≡ min (calls_made self.old + 1) (2 ^ 64 - 1) }
     {
         let call = self.calls;
         self.calls = call.saturating_add(1);

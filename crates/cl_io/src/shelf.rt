@@ -1,5 +1,6 @@
-ghost use Rattle.std.specs.Prelude.{◌≡◌, List, ℕ};
+ghost use Rattle.std.specs.Prelude.{List, ℕ};
 ghost use Rattle.cl_io.specs.Counts.{Rose, RisesAlone};
+ghost use Rattle.cl_io.specs.Names.{SameAtEach};
 ghost use Rattle.cl_io.specs.Shelf.{Held, MayAnswer};
 
 use crate::FetchFault;
@@ -23,7 +24,7 @@ pub trait Shelf {
     /// bytes were taken, and `NoMemory` where memory ran out. Whatever it answers, what the shelf holds stays
     /// as it was, and so do the two numbers of every other name.
     fn fetch(&mut self, alloc: Global, name: &str, limit: u64) -> Result<Vec<u8>, FetchFault>
-        ensures same { (other : List ℕ) → held self.new other ≡ held self.old other }
+        ensures same { SameAtEach (held self.old) (held self.new) }
         ensures faults { RisesAlone name.now (faults self.old) (faults self.new) }
         ensures longest { RisesAlone name.now (longest self.old) (longest self.new) }
         ensures answer { MayAnswer (held self.old name.now) limit

@@ -1,9 +1,8 @@
 ghost use Rattle.std.specs.Prelude.{◌≡◌, List, [], ℕ, OnOk, OnErr};
 ghost use Rattle.cl_io.specs.Counts.{Rose, RisesAlone};
 ghost use Rattle.cl_io.specs.Names.{ChangesAlone, SameAtEach};
-ghost use Rattle.cl_io.specs.NameNumbers.{longest_of};
 ghost use Rattle.cl_io.specs.Shelf.{Content, MayAnswer};
-ghost use Rattle.cl_io.specs.MemShelf.{sure_held};
+ghost use Rattle.cl_io.specs.MemShelf.{sure_held, sure_longest};
 
 use crate::files::Files;
 use crate::mem_shelf::give;
@@ -22,7 +21,7 @@ impl SureShelf {
     /// A shelf on which every name is an empty file that was never fetched. Takes no memory.
     pub fn new(alloc: Global) -> Self
         ensures held { SameAtEach (λ _. Content []) (sure_held result) }
-        ensures longest { SameAtEach (λ _. 0) (longest_of result.numbers) }
+        ensures longest { SameAtEach (λ _. 0) (sure_longest result) }
     {
         SureShelf {
             files: Files::new(alloc),
@@ -34,7 +33,7 @@ impl SureShelf {
     pub fn put(&mut self, name: &str, content: &[u8]) -> Result<(), NoMemory>
         ensures ok { OnOk result (ChangesAlone name.now (Content content.now) (sure_held self.old) (sure_held self.new)) }
         ensures err { OnErr result (SameAtEach (sure_held self.old) (sure_held self.new)) }
-        ensures longest { SameAtEach (longest_of self.old.numbers) (longest_of self.new.numbers) }
+        ensures longest { SameAtEach (sure_longest self.old) (sure_longest self.new) }
     {
         self.files.put(name, content)
     }
@@ -45,7 +44,7 @@ impl Shelf for SureShelf {
 
     ghost faults = { λ _ _. 0 };
 
-    ghost longest = { λ s. longest_of s.numbers };
+    ghost longest = { sure_longest };
 
     fn fetch(&mut self, alloc: Global, name: &str, limit: u64) -> Result<Vec<u8>, FetchFault> {
         if self.numbers.enter(name).is_err() {

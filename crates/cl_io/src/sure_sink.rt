@@ -3,23 +3,31 @@ ghost use Rattle.cl_io.specs.Counts.{Rose};
 ghost use Rattle.cl_io.specs.Sink.{MayTake};
 
 use crate::{Sink, SinkFault};
+use std::marker::Model;
 
-/// A sink that takes every piece whole and keeps only how many bytes it took. It never fails and needs no memory.
-#[derive(Clone, Copy, Debug, PartialEq, Eq)]
+/// A sink that takes every piece whole and keeps only how many bytes it took, which is what contracts see. It never
+/// fails and needs no memory.
+#[derive(Debug, Drop)]
 pub struct SureSink {
     taken: u64,
 }
 
+impl Model for SureSink {
+    ghost Value = { ℕ };
+
+    ghost view = { λ s. s.taken };
+}
+
 impl SureSink {
     pub fn new() -> Self
-        ensures { result.taken ≡ 0 }
+        ensures { result ≡ 0 }
     {
         SureSink { taken: 0 }
     }
 
     /// How many bytes it has taken. At the greatest `u64` the number stays.
     pub fn taken(&self) -> u64
-        ensures { result ≡ self.now.taken }
+        ensures { result ≡ self.now }
     {
         self.taken
     }
@@ -34,7 +42,7 @@ impl Sink for SureSink {
         ensures faults { 0 ≤ 0 }
         ensures answer { MayTake piece.now (Rose 0 0) None None result }
         ensures whole { result ≡ Ok (length piece.now) }
-        ensures taken { self.new.taken ≡ min (self.old.taken + length piece.now) (2 ^ 64 - 1) }
+        ensures taken { self.new ≡ min (self.old + length piece.now) (2 ^ 64 - 1) }
     {
         self.taken = self.taken.saturating_add(piece.len() as u64);
         Ok(piece.len())

@@ -1,6 +1,6 @@
 ghost use Rattle.std.specs.Prelude.{◌≡◌, List, ℕ};
 ghost use Rattle.cl_io.specs.Names.{SameAtEach};
-ghost use Rattle.cl_io.specs.NameNumbers.{no_numbers, numbers_of, faults_of, longest_of};
+ghost use Rattle.cl_io.specs.NameNumbers.{faults_of, longest_of};
 ghost use Rattle.cl_io.specs.Shelf.{Untold};
 
 use cl_io::{FetchFault, NameNumbers, Shelf};
@@ -19,7 +19,8 @@ pub struct FileShelf<'a, R: Files> {
 impl<'a, R: Files> FileShelf<'a, R> {
     /// A shelf on which each number of each name is 0. Takes no memory.
     pub fn new(alloc: Global, files: &'a R) -> Self
-        ensures { SameAtEach (λ _. no_numbers) (numbers_of result.numbers) }
+        ensures faults { SameAtEach (λ _. 0) (⟦<FileShelf<'a, R> as Shelf>⟧.faults result) }
+        ensures longest { SameAtEach (λ _. 0) (⟦<FileShelf<'a, R> as Shelf>⟧.longest result) }
     {
         FileShelf {
             files,

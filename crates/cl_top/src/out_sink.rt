@@ -14,7 +14,7 @@ pub struct OutSink<'a, P: Print> {
 impl<'a, P: Print> OutSink<'a, P> {
     /// A sink that has not failed yet. Takes no memory.
     pub fn new(out: &'a P) -> Self
-        ensures { result.faults ≡ 0 }
+        ensures { ⟦<OutSink<'a, P> as Sink>⟧.faults result ≡ 0 }
     {
         OutSink { out, faults: 0 }
     }
