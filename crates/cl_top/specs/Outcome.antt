@@ -1,7 +1,11 @@
 -- The outcome of a command: its status and its text (this project's profile).
-use Rattle.std.specs.Prelude.{ℕ, List, [], ◌∷◌, ◌++◌, codes, decimal, Option, Some, None}
+use Rattle.std.specs.Prelude.{ℕ, List, [], ◌∷◌, ◌++◌, codes, decimal, Option, Some, None, Result, Ok, Err}
+use Rattle.cl_model.specs.declared.model.SystemModel.{SystemModel}
+use Rattle.cl_model.specs.declared.refusal.Refusal.{Refusal}
+use Rattle.cl_model.specs.Reading.{model_of}
+use Rattle.cl_model.specs.Refusal.{refusal_text}
 use Rattle.cl_top.specs.declared.outcome.Outcome.{Outcome}
-use Rattle.cl_top.specs.declared.status.TheConstants.{WORDS_REFUSED, READ_FAULT, LONG_FILE, FORM_NOT_BUILT}
+use Rattle.cl_top.specs.declared.status.TheConstants.{WORDS_REFUSED, READ_FAULT, LONG_FILE, MODEL_REFUSED, FORM_NOT_BUILT}
 use Rattle.cl_top.specs.declared.command.Command.{Command}
 use Rattle.cl_top.specs.declared.command.Command.TheVariants.{Analyse}
 use Rattle.cl_top.specs.Command.{command_of}
@@ -20,6 +24,9 @@ read_fault place = record { status = READ_FAULT; text = line (codes "read fault 
 abbrev pub long_file : ℕ → Outcome
 long_file place = record { status = LONG_FILE; text = line (codes "long file " ++ decimal place) }
 
+abbrev pub model_refused : Refusal → Outcome
+model_refused refusal = record { status = MODEL_REFUSED; text = line (codes "model refused " ++ refusal_text refusal) }
+
 abbrev pub form_not_built : Outcome
 form_not_built = record { status = FORM_NOT_BUILT; text = line (codes "form not built") }
 
@@ -30,10 +37,15 @@ with_file place Fault next = Some (read_fault place)
 with_file place TooLong next = Some (long_file place)
 with_file place (Bytes bytes) next = next bytes
 
+-- what becomes of an analysis whose file was read so
+abbrev pub analysed : Result SystemModel Refusal → Outcome
+analysed (Ok model) = form_not_built
+analysed (Err refusal) = model_refused refusal
+
 -- what becomes of a command whose files gave this; there is no outcome without a file that it needs
 abbrev pub outcome_of : Option Command → (ℕ → Fetched) → Option Outcome
 outcome_of None gave = Some words_refused
-outcome_of (Some Analyse) gave = with_file 1 (gave 1) (λ model. Some form_not_built)
+outcome_of (Some Analyse) gave = with_file 1 (gave 1) (λ bytes. Some (analysed (model_of bytes)))
 
 -- the outcome of a command's words, where the file at each place gave this
 abbrev pub outcome : List (List ℕ) → (gave : ℕ → Fetched) → Option Outcome

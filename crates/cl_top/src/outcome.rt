@@ -1,7 +1,8 @@
 ghost use Rattle.std.specs.Prelude.{◌≡◌, ◌∷◌, [], ◌++◌, decimal, IfOk};
-ghost use Rattle.cl_top.specs.Outcome.{line, words_refused, read_fault, long_file, form_not_built};
+ghost use Rattle.cl_top.specs.Outcome.{line, words_refused, read_fault, long_file, model_refused, form_not_built};
 
 use crate::status;
+use cl_model::Refusal;
 use cl_text::Text;
 use cl_time::NoMemory;
 use std::alloc::Global;
@@ -52,6 +53,14 @@ impl Outcome {
         ensures { IfOk result (λ outcome. outcome ≡ long_file place) }
     {
         Outcome::of_file(alloc, status::LONG_FILE, b"long file ", place)
+    }
+
+    /// The model is refused.
+    pub(crate) fn model_refused(alloc: Global, refusal: Refusal) -> Result<Outcome, NoMemory>
+        ensures { IfOk result (λ outcome. outcome ≡ model_refused refusal) }
+    {
+        let words = format!(in alloc; "model refused {refusal}")?;
+        Outcome::of_line(alloc, status::MODEL_REFUSED, words.as_bytes())
     }
 
     /// The analysis of the model isn't built yet.

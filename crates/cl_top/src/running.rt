@@ -1,16 +1,18 @@
 ghost use Rattle.std.specs.Prelude.{◌≡◌, ◌⊎◌, None, Some, IfOk};
 ghost use Rattle.cl_io.specs.Counts.{Rose};
+ghost use Rattle.cl_model.specs.Reading.{model_of};
 ghost use Rattle.cl_top.specs.declared.status.TheConstants.{WORDS_REFUSED, READ_FAULT, LONG_FILE, WRITE_FAULT, NO_MEMORY};
 ghost use Rattle.cl_top.specs.Command.{command_of};
 ghost use Rattle.cl_top.specs.Files.{SomeRose, NoneRose, SomeTooLong};
 ghost use Rattle.cl_top.specs.Fetch.{given};
-ghost use Rattle.cl_top.specs.Outcome.{outcome_of};
+ghost use Rattle.cl_top.specs.Outcome.{analysed, outcome_of};
 ghost use Rattle.cl_top.specs.Run.{ComesTo, IsWhole, IsCut, Ends, KeepsToTold};
 
 use crate::command::{Command, read_command};
 use crate::fetching::{FileFetch, fetch_file};
 use crate::{Outcome, status};
 use cl_io::{Shelf, Sink, Words, WriteFault, write_all};
+use cl_read::{ReadFault, read_model};
 use cl_time::{NoMemory, Steps};
 use std::alloc::Global;
 use std::sync::ledger::Ledger;
@@ -81,9 +83,20 @@ fn analysed(alloc: Global, fetch: &FileFetch) -> Result<Outcome, NoMemory>
     ensures { IfOk result (λ found. outcome_of (Some Command.Analyse) (λ _. given fetch.now) ≡ Some found) }
 {
     match fetch {
-        FileFetch::Bytes(_) => Outcome::form_not_built(alloc),
+        FileFetch::Bytes(bytes) => analysed_file(alloc, bytes.as_slice()),
         FileFetch::Fault => Outcome::read_fault(alloc, 1),
         FileFetch::TooLong => Outcome::long_file(alloc, 1),
+    }
+}
+
+/// The outcome of the analysis of a file of these bytes.
+fn analysed_file(alloc: Global, bytes: &[u8]) -> Result<Outcome, NoMemory>
+    ensures { IfOk result (λ found. found ≡ analysed (model_of bytes.now)) }
+{
+    match read_model(alloc, bytes) {
+        Ok(_) => Outcome::form_not_built(alloc),
+        Err(ReadFault::Refused(refusal)) => Outcome::model_refused(alloc, refusal),
+        Err(ReadFault::NoMemory) => Err(NoMemory),
     }
 }
 

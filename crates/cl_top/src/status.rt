@@ -9,6 +9,9 @@ pub const READ_FAULT: u8 = 3;
 /// A file is longer than its limit.
 pub const LONG_FILE: u8 = 4;
 
+/// The model is refused.
+pub const MODEL_REFUSED: u8 = 5;
+
 /// The output couldn't be written whole.
 pub const WRITE_FAULT: u8 = 9;
 

@@ -1,0 +1,5 @@
+pub mod Name
+pub mod Place
+pub mod Refusal
+pub mod Reading
+pub mod Ranges

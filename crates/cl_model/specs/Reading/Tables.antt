@@ -1,0 +1,170 @@
+-- The tables of a model file, version 1: the keys of each in reading order, and what it means. Times are in ticks.
+-- Source: this project's profile.
+use Rattle.std.specs.Prelude.{ℕ, List, [], ◌∷◌, ◌++◌, map, Option, Some, None, codes}
+use Rattle.toml.specs.Data.{Members}
+use Rattle.cl_model.specs.declared.limits.TheConstants.{MOST_TICKS, MOST_REQUIRED, MOST_PRIORITY, MOST_RUNNABLES, MOST_ACCESSES, MOST_STEPS, MOST_HOPS}
+use Rattle.cl_model.specs.declared.place.Key.TheVariants as key
+use Rattle.cl_model.specs.declared.place.Place.{Place}
+use Rattle.cl_model.specs.declared.refusal.Code.TheVariants.{M4}
+use Rattle.cl_model.specs.declared.refusal.Refusal.{Refusal}
+use Rattle.cl_model.specs.declared.model.CoreDef.{CoreDef}
+use Rattle.cl_model.specs.declared.model.LabelDef.{LabelDef}
+use Rattle.cl_model.specs.declared.stimulus.StimulusDef.{StimulusDef}
+use Rattle.cl_model.specs.declared.stimulus.StimulusKind.{StimulusKind}
+use Rattle.cl_model.specs.declared.stimulus.StimulusKind.TheVariants.{Periodic, Sporadic}
+use Rattle.cl_model.specs.declared.task.AccessKind.{AccessKind}
+use Rattle.cl_model.specs.declared.task.AccessKind.TheVariants.{Explicit, Implicit, Timed}
+use Rattle.cl_model.specs.declared.task.RunnableDef.{RunnableDef}
+use Rattle.cl_model.specs.declared.task.TaskDef.{TaskDef}
+use Rattle.cl_model.specs.declared.chain.LengthKind.{LengthKind}
+use Rattle.cl_model.specs.declared.chain.LengthKind.TheVariants.{Reaction, Age, Reduced}
+use Rattle.cl_model.specs.declared.chain.ChainDef.{ChainDef}
+use Rattle.cl_model.specs.declared.chain.RequirementDef.{RequirementDef}
+use Rattle.cl_model.specs.Reading.Checks.{Check, a_name, a_word, a_number, names, an_array, a_table_of, Field, required, optional, field_checks, keys_of, has_only}
+use Rattle.cl_model.specs.Place.{at_sub}
+use Rattle.cl_model.specs.Refusal.{unless, in_order}
+use Rattle.cl_model.specs.Reading.Meanings.{text_at, number_at, number_or, number_if, word_if, word_at, names_at, tables_at}
+
+-- a time from 1 up, and one from 0 up
+abbrev pub a_time : Check
+a_time = a_number 1 MOST_TICKS
+
+abbrev pub a_time_or_zero : Check
+a_time_or_zero = a_number 0 MOST_TICKS
+
+-- ---- cores and labels
+
+abbrev pub core_fields : List Field
+core_fields = required key.Name a_name ∷ []
+
+abbrev pub core_meaning : Members → CoreDef
+core_meaning ms = record { name = text_at key.Name ms }
+
+abbrev pub label_fields : List Field
+label_fields = required key.Name a_name ∷ []
+
+abbrev pub label_meaning : Members → LabelDef
+label_meaning ms = record { name = text_at key.Name ms }
+
+-- ---- stimuli
+
+-- a kind of stimulus: its keys after `name` and `kind`, and what they mean
+pub record StimulusForm : Type 0 where
+  pub fields : List Field
+  pub meaning : Members → StimulusKind
+
+abbrev pub periodic_form : StimulusForm
+periodic_form = record {
+  fields = required key.Period a_time ∷ optional key.Offset a_time_or_zero ∷ optional key.Jitter a_time_or_zero ∷ [];
+  meaning = λ ms. Periodic (number_at key.Period ms) (number_or 0 key.Offset ms) (number_or 0 key.Jitter ms);
+}
+
+abbrev pub sporadic_form : StimulusForm
+sporadic_form = record {
+  fields = required key.Least a_time ∷ required key.Greatest a_time ∷ [];
+  meaning = λ ms. Sporadic (number_at key.Least ms) (number_at key.Greatest ms);
+}
+
+abbrev pub stimulus_forms : List (List ℕ × StimulusForm)
+stimulus_forms = (codes "periodic", periodic_form) ∷ (codes "sporadic", sporadic_form) ∷ []
+
+-- the keys that every stimulus has
+abbrev pub stimulus_fields : List Field
+stimulus_fields = required key.Name a_name ∷ required key.Kind (a_word stimulus_forms) ∷ []
+
+-- M4 where the table has a key that no stimulus of its kind has, and then the keys of that kind; nothing where the kind isn't known
+abbrev pub form_checks : Place → Members → Option StimulusForm → List Refusal
+form_checks place ms None = []
+form_checks place ms (Some form) =
+    in_order (unless (has_only (keys_of (stimulus_fields ++ form.fields)) ms) M4 place ∷ map (field_checks place ms) form.fields)
+
+-- `name` and `kind`, and then what the kind asks
+unfoldable pub stimulus_checks : Place → Members → List Refusal
+stimulus_checks place ms =
+    in_order (map (field_checks place ms) stimulus_fields ++ form_checks place ms (word_if stimulus_forms key.Kind ms) ∷ [])
+
+unfoldable pub stimulus_meaning : Members → StimulusDef
+stimulus_meaning ms = record {
+  name = text_at key.Name ms;
+  kind = (word_at stimulus_forms periodic_form key.Kind ms).meaning ms;
+}
+
+-- ---- tasks and their runnables
+
+abbrev pub runnable_fields : List Field
+runnable_fields =
+    required key.Name a_name
+    ∷ required key.Least a_time
+    ∷ required key.Greatest a_time
+    ∷ optional key.Reads (names MOST_ACCESSES)
+    ∷ optional key.Writes (names MOST_ACCESSES)
+    ∷ []
+
+unfoldable pub runnable_meaning : Members → RunnableDef
+runnable_meaning ms = record {
+  name = text_at key.Name ms;
+  least = number_at key.Least ms;
+  greatest = number_at key.Greatest ms;
+  reads = names_at key.Reads ms;
+  writes = names_at key.Writes ms;
+}
+
+abbrev pub access_words : List (List ℕ × AccessKind)
+access_words = (codes "explicit", Explicit) ∷ (codes "implicit", Implicit) ∷ (codes "timed", Timed) ∷ []
+
+abbrev pub task_fields : List Field
+task_fields =
+    required key.Name a_name
+    ∷ required key.Core a_name
+    ∷ required key.Stimulus a_name
+    ∷ required key.Priority (a_number 0 MOST_PRIORITY)
+    ∷ required key.Access (a_word access_words)
+    ∷ optional key.Deadline a_time
+    ∷ optional key.Runnable (an_array MOST_RUNNABLES at_sub (a_table_of runnable_fields))
+    ∷ []
+
+unfoldable pub task_meaning : Members → TaskDef
+task_meaning ms = record {
+  name = text_at key.Name ms;
+  core = text_at key.Core ms;
+  stimulus = text_at key.Stimulus ms;
+  priority = number_at key.Priority ms;
+  access = word_at access_words Explicit key.Access ms;
+  deadline = number_if key.Deadline ms;
+  runnables = tables_at runnable_meaning key.Runnable ms;
+}
+
+-- ---- chains and requirements
+
+abbrev pub chain_fields : List Field
+chain_fields =
+    required key.Name a_name
+    ∷ optional key.Runnables (names MOST_STEPS)
+    ∷ optional key.Labels (names MOST_HOPS)
+    ∷ []
+
+unfoldable pub chain_meaning : Members → ChainDef
+chain_meaning ms = record {
+  name = text_at key.Name ms;
+  runnables = names_at key.Runnables ms;
+  labels = names_at key.Labels ms;
+}
+
+abbrev pub length_words : List (List ℕ × LengthKind)
+length_words = (codes "reaction", Reaction) ∷ (codes "age", Age) ∷ (codes "reduced", Reduced) ∷ []
+
+abbrev pub requirement_fields : List Field
+requirement_fields =
+    required key.Name a_name
+    ∷ required key.Chain a_name
+    ∷ required key.Kind (a_word length_words)
+    ∷ required key.Most (a_number 0 MOST_REQUIRED)
+    ∷ []
+
+unfoldable pub requirement_meaning : Members → RequirementDef
+requirement_meaning ms = record {
+  name = text_at key.Name ms;
+  chain = text_at key.Chain ms;
+  kind = word_at length_words Reaction key.Kind ms;
+  most = number_at key.Most ms;
+}

@@ -1,0 +1,40 @@
+//! The limits of a model. Times are in ticks.
+
+/// The greatest time in a model.
+pub const MOST_TICKS: u64 = 1_000_000_000_000;
+
+/// The greatest length that a requirement may ask.
+pub const MOST_REQUIRED: u64 = 1_000_000_000_000_000;
+
+/// The highest priority.
+pub const MOST_PRIORITY: u64 = 1_000_000;
+
+/// The most cores.
+pub const MOST_CORES: usize = 64;
+
+/// The most stimuli.
+pub const MOST_STIMULI: usize = 1_024;
+
+/// The most labels.
+pub const MOST_LABELS: usize = 8_192;
+
+/// The most tasks.
+pub const MOST_TASKS: usize = 1_024;
+
+/// The most runnables of one task.
+pub const MOST_RUNNABLES: usize = 256;
+
+/// The most labels that one runnable reads, and the most that it writes.
+pub const MOST_ACCESSES: usize = 256;
+
+/// The most chains.
+pub const MOST_CHAINS: usize = 1_024;
+
+/// The most runnables of one chain.
+pub const MOST_STEPS: usize = 64;
+
+/// The most labels of one chain.
+pub const MOST_HOPS: usize = 63;
+
+/// The most requirements.
+pub const MOST_REQUIREMENTS: usize = 1_024;

@@ -1,0 +1,106 @@
+//! Lists that grow as long as there is memory.
+ghost use Rattle.std.specs.Prelude.{◌≡◌, ◌↔◌, [], ◌∷◌, ◌++◌, length, take, slice_get, IsTrue, IfOk, OnOk, OnErr};
+ghost use Rattle.std.specs.Option.{option_copied};
+ghost use Rattle.std.specs.Slice.Iter.{iter_rest};
+
+use crate::copying::TryCopy;
+use cl_time::NoMemory;
+use std::alloc::Global;
+use std::marker::Model;
+use std::slice;
+
+/// A list in the order in which its items were pushed.
+#[derive(Debug, Drop)]
+pub struct List<T> {
+    items: Vec<T>,
+}
+
+impl<T> Model for List<T> {
+    ghost use Rattle.std.specs.Prelude.{List as Items};
+    ghost use Rattle.std.specs.Coded.{coded_list};
+
+    ghost Value = { Items T };
+
+    ghost coded = { coded_list T.code };
+
+    ghost view = { λ list. list.items.items };
+}
+
+impl<T> List<T> {
+    /// An empty list. It takes no memory.
+    pub fn new(alloc: Global) -> List<T>
+        ensures { result ≡ [] }
+    {
+        List {
+            items: Vec::new(alloc),
+        }
+    }
+
+    /// The number of items.
+    pub fn len(&self) -> usize
+        ensures { result ≡ length self.now }
+    {
+        self.items.len()
+    }
+
+    /// Whether there is no item.
+    pub fn is_empty(&self) -> bool
+        ensures { IsTrue result ↔ (self.now ≡ []) }
+    {
+        self.items.is_empty()
+    }
+
+    /// The item at a place, counted from 0. There is none exactly where the place is past the last item.
+    pub fn at(&self, place: usize) -> Option<&T>
+        ensures { option_copied result ≡ slice_get self.now place }
+    {
+        self.items.as_slice().get(place)
+    }
+
+    /// The items in order.
+    pub fn as_slice(&self) -> &[T]
+        ensures { result.now ≡ self.now }
+    {
+        self.items.as_slice()
+    }
+
+    /// Goes over the items in order.
+    pub fn iter(&self) -> slice::Iter<'_, T>
+        ensures { iter_rest result ≡ self.now }
+    {
+        self.items.iter()
+    }
+}
+
+impl<T: Drop> List<T> {
+    /// Appends an item. Where there is no memory for it, the list stays as it was and the item is dropped.
+    pub fn push(&mut self, item: T) -> Result<(), NoMemory>
+        ensures ok { OnOk result (self.new ≡ self.old ++ item ∷ []) }
+        ensures err { OnErr result (self.new ≡ self.old) }
+    {
+        self.items.push(item)?;
+        Ok(())
+    }
+}
+
+impl<'a, T> IntoIterator for &'a List<T> {
+    type Item = &'a T;
+
+    type IntoIter = slice::Iter<'a, T>;
+
+    ghost into_iter_gives = { λ list it. iter_rest it ≡ list.now };
+
+    fn into_iter(self) -> slice::Iter<'a, T> {
+        self.iter()
+    }
+}
+
+impl<T: TryCopy + Drop> TryCopy for List<T> {
+    fn try_copy(&self, alloc: Global) -> Result<List<T>, NoMemory> {
+        let mut copy = List::new(alloc);
+        for item in self.as_slice() {
+            copy.push(item.try_copy(alloc)?)?;
+        }
+        Ok(copy)
+    }
+}

@@ -1,0 +1,247 @@
+//! Places in a model file.
+ghost use Rattle.std.specs.Prelude.{◌≡◌, Some};
+ghost use Rattle.cl_model.specs.Place.{whole, top, at_item, at_sub, at_key, at_spot, part_text, key_text, index_text, sub_text, dotted_text, place_text};
+
+use std::fmt;
+
+/// A part of a model file: its top level or one of its sections.
+#[derive(Clone, Copy, Debug, PartialEq, Eq)]
+pub enum Part {
+    Top,
+    Core,
+    Stimulus,
+    Label,
+    Task,
+    Chain,
+    Requirement,
+}
+
+/// A key of a model file.
+#[derive(Clone, Copy, Debug, PartialEq, Eq)]
+pub enum Key {
+    Format,
+    Version,
+    Core,
+    Stimulus,
+    Label,
+    Task,
+    Chain,
+    Requirement,
+    Name,
+    Kind,
+    Period,
+    Offset,
+    Jitter,
+    Least,
+    Greatest,
+    Priority,
+    Access,
+    Deadline,
+    Runnable,
+    Reads,
+    Writes,
+    Runnables,
+    Labels,
+    Most,
+}
+
+/// Where in a model file something stands. Numbers count from 0.
+#[derive(Clone, Copy, Debug, PartialEq, Eq)]
+pub struct Place {
+    pub part: Part,
+    /// The entry of the section.
+    pub item: Option<u32>,
+    /// The runnable of the task.
+    pub sub: Option<u32>,
+    pub key: Option<Key>,
+    /// The member of the array under the key.
+    pub spot: Option<u32>,
+}
+
+impl Part {
+    /// The part as a whole.
+    pub fn whole(self) -> Place
+        ensures { result ≡ whole self }
+    {
+        Place {
+            part: self,
+            item: None,
+            sub: None,
+            key: None,
+            spot: None,
+        }
+    }
+
+    /// The word by which the part prints.
+    pub fn word(self) -> &'static str
+        ensures { result.now ≡ part_text self }
+    {
+        match self {
+            Part::Top => "top",
+            Part::Core => "core",
+            Part::Stimulus => "stimulus",
+            Part::Label => "label",
+            Part::Task => "task",
+            Part::Chain => "chain",
+            Part::Requirement => "requirement",
+        }
+    }
+}
+
+impl Key {
+    /// The key as a model file writes it.
+    pub fn word(self) -> &'static str
+        ensures { result.now ≡ key_text self }
+    {
+        match self {
+            Key::Format => "format",
+            Key::Version => "version",
+            Key::Core => "core",
+            Key::Stimulus => "stimulus",
+            Key::Label => "label",
+            Key::Task => "task",
+            Key::Chain => "chain",
+            Key::Requirement => "requirement",
+            Key::Name => "name",
+            Key::Kind => "kind",
+            Key::Period => "period",
+            Key::Offset => "offset",
+            Key::Jitter => "jitter",
+            Key::Least => "least",
+            Key::Greatest => "greatest",
+            Key::Priority => "priority",
+            Key::Access => "access",
+            Key::Deadline => "deadline",
+            Key::Runnable => "runnable",
+            Key::Reads => "reads",
+            Key::Writes => "writes",
+            Key::Runnables => "runnables",
+            Key::Labels => "labels",
+            Key::Most => "most",
+        }
+    }
+}
+
+impl Place {
+    /// The top level of a file.
+    pub fn top() -> Place
+        ensures { result ≡ top }
+    {
+        Part::Top.whole()
+    }
+
+    /// An entry of this section.
+    pub fn at_item(self, item: u32) -> Place
+        ensures { result ≡ at_item item self }
+    {
+        Place {
+            item: Some(item),
+            ..self
+        }
+    }
+
+    /// A runnable of this task.
+    pub fn at_sub(self, sub: u32) -> Place
+        ensures { result ≡ at_sub sub self }
+    {
+        Place {
+            sub: Some(sub),
+            key: None,
+            ..self
+        }
+    }
+
+    /// A key of this table.
+    pub fn at_key(self, key: Key) -> Place
+        ensures { result ≡ at_key key self }
+    {
+        Place {
+            key: Some(key),
+            ..self
+        }
+    }
+
+    /// A member of this array.
+    pub fn at_spot(self, spot: u32) -> Place
+        ensures { result ≡ at_spot spot self }
+    {
+        Place {
+            spot: Some(spot),
+            ..self
+        }
+    }
+}
+
+impl fmt::Display for Part {
+    ghost output = { λ part. Some (part_text part) };
+
+    fn fmt<W: fmt::Write>(&self, f: &mut fmt::Formatter<W>) -> fmt::Result {
+        f.write_str(self.word())
+    }
+}
+
+impl fmt::Display for Key {
+    ghost output = { λ key. Some (key_text key) };
+
+    fn fmt<W: fmt::Write>(&self, f: &mut fmt::Formatter<W>) -> fmt::Result {
+        f.write_str(self.word())
+    }
+}
+
+/// A number in brackets, where there is one.
+#[derive(Clone, Copy)]
+struct Index(Option<u32>);
+
+impl fmt::Display for Index {
+    ghost output = { λ index. Some (index_text index.0) };
+
+    fn fmt<W: fmt::Write>(&self, f: &mut fmt::Formatter<W>) -> fmt::Result {
+        match self.0 {
+            None => Ok(()),
+            Some(number) => write!(f, "[{number}]"),
+        }
+    }
+}
+
+/// The runnable of a task, where there is one.
+#[derive(Clone, Copy)]
+struct Sub(Option<u32>);
+
+impl fmt::Display for Sub {
+    ghost output = { λ sub. Some (sub_text sub.0) };
+
+    fn fmt<W: fmt::Write>(&self, f: &mut fmt::Formatter<W>) -> fmt::Result {
+        match self.0 {
+            None => Ok(()),
+            Some(number) => write!(f, ".runnable[{number}]"),
+        }
+    }
+}
+
+/// A key behind a dot, where there is one.
+#[derive(Clone, Copy)]
+struct Dotted(Option<Key>);
+
+impl fmt::Display for Dotted {
+    ghost output = { λ key. Some (dotted_text key.0) };
+
+    fn fmt<W: fmt::Write>(&self, f: &mut fmt::Formatter<W>) -> fmt::Result {
+        match self.0 {
+            None => Ok(()),
+            Some(key) => write!(f, ".{key}"),
+        }
+    }
+}
+
+impl fmt::Display for Place {
+    ghost output = { λ place. Some (place_text place) };
+
+    fn fmt<W: fmt::Write>(&self, f: &mut fmt::Formatter<W>) -> fmt::Result {
+        let part = self.part;
+        let item = Index(self.item);
+        let sub = Sub(self.sub);
+        let key = Dotted(self.key);
+        let spot = Index(self.spot);
+        write!(f, "{part}{item}{sub}{key}{spot}")
+    }
+}

@@ -1,0 +1,72 @@
+//! Tasks and the runnables that a job of a task executes. Times are in ticks.
+ghost use Rattle.std.specs.Prelude.{◌≡◌, IfOk};
+
+use crate::copying::TryCopy;
+use crate::list::List;
+use crate::name::Name;
+use cl_time::NoMemory;
+use std::alloc::Global;
+
+/// When the runnables of a task read and write labels.
+#[derive(Clone, Copy, Debug, PartialEq, Eq)]
+pub enum AccessKind {
+    /// Each runnable reads at its start and writes at its finish.
+    Explicit,
+    /// A job reads at its start and writes at its finish.
+    Implicit,
+    /// A job reads at its arrival and writes at its deadline.
+    Timed,
+}
+
+/// A step of a job: how long it executes, and which labels it reads and writes.
+#[derive(Debug, Drop)]
+pub struct RunnableDef {
+    pub name: Name,
+    /// The least execution time.
+    pub least: u64,
+    /// The greatest execution time.
+    pub greatest: u64,
+    pub reads: List<Name>,
+    pub writes: List<Name>,
+}
+
+/// A task: a pattern of jobs on one core.
+#[derive(Debug, Drop)]
+pub struct TaskDef {
+    pub name: Name,
+    pub core: Name,
+    pub stimulus: Name,
+    /// A greater number is a higher priority.
+    pub priority: u64,
+    pub access: AccessKind,
+    /// The deadline, from arrival. One that isn't given is the least distance between arrivals.
+    pub deadline: Option<u64>,
+    /// The runnables, in the order in which a job executes them.
+    pub runnables: List<RunnableDef>,
+}
+
+impl TryCopy for RunnableDef {
+    fn try_copy(&self, alloc: Global) -> Result<RunnableDef, NoMemory> {
+        Ok(RunnableDef {
+            name: self.name.copy(),
+            least: self.least,
+            greatest: self.greatest,
+            reads: self.reads.try_copy(alloc)?,
+            writes: self.writes.try_copy(alloc)?,
+        })
+    }
+}
+
+impl TryCopy for TaskDef {
+    fn try_copy(&self, alloc: Global) -> Result<TaskDef, NoMemory> {
+        Ok(TaskDef {
+            name: self.name.copy(),
+            core: self.core.copy(),
+            stimulus: self.stimulus.copy(),
+            priority: self.priority,
+            access: self.access,
+            deadline: self.deadline,
+            runnables: self.runnables.try_copy(alloc)?,
+        })
+    }
+}

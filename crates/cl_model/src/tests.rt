@@ -1,0 +1,125 @@
+use super::*;
+use std::alloc::Global;
+use std::test::Fail;
+
+fn name(word: &str) -> Result<Name, Fail> {
+    Ok(Name::read(word.as_bytes()).ok_or("not a name")?)
+}
+
+fn names(alloc: Global, words: &[&str]) -> Result<List<Name>, Fail> {
+    let mut names = List::new(alloc);
+    for word in words {
+        names.push(name(word)?)?;
+    }
+    Ok(names)
+}
+
+#[test]
+fn reads_names_of_the_grammar(rt: HostRuntime) -> Result<(), Fail> {
+    assert_eq!(rt; name("A.b_c-9")?.as_slice(), b"A.b_c-9".as_slice());
+    let longest = [b'x'; 64];
+    assert!(rt; Name::read(&longest).is_some());
+    let too_long = [b'x'; 65];
+    assert!(rt; Name::read(&too_long).is_none());
+    for word in ["", "a b", "a/b", "é", "a\n"] {
+        assert!(rt; Name::read(word.as_bytes()).is_none(), "{word}");
+    }
+    assert!(rt; name("a")? < name("ab")? && name("ab")?.copy() == name("ab")?);
+    Ok(())
+}
+
+#[test]
+fn keeps_items_in_order(rt: HostRuntime) -> Result<(), Fail> {
+    let list = names(rt.alloc(), &["b", "a"])?;
+    assert_eq!(rt; list.len(), 2);
+    assert!(rt; !list.is_empty());
+    assert_eq!(rt; list.at(1), Some(&name("a")?));
+    assert_eq!(rt; list.at(2), None);
+    let text = format!(in rt.alloc(); "{list:?}")?;
+    assert_eq!(rt; text.as_str(), "List { items: [\"b\", \"a\"] }");
+    Ok(())
+}
+
+#[test]
+fn copies_whole_models(rt: HostRuntime) -> Result<(), Fail> {
+    let alloc = rt.alloc();
+    let mut model = SystemModel {
+        cores: List::new(alloc),
+        stimuli: List::new(alloc),
+        labels: List::new(alloc),
+        tasks: List::new(alloc),
+        chains: List::new(alloc),
+        requirements: List::new(alloc),
+    };
+    let kind = StimulusKind::Sporadic {
+        least: 5,
+        greatest: 8,
+    };
+    let mut runnables = List::new(alloc);
+    runnables.push(RunnableDef {
+        name: name("a")?,
+        least: 2,
+        greatest: 3,
+        reads: names(alloc, &["x"])?,
+        writes: names(alloc, &["y", "z"])?,
+    })?;
+    model.cores.push(CoreDef { name: name("c0")? })?;
+    model.stimuli.push(StimulusDef {
+        name: name("s")?,
+        kind,
+    })?;
+    model.labels.push(LabelDef { name: name("x")? })?;
+    model.tasks.push(TaskDef {
+        name: name("A")?,
+        core: name("c0")?,
+        stimulus: name("s")?,
+        priority: 2,
+        access: AccessKind::Timed,
+        deadline: Some(4),
+        runnables,
+    })?;
+    model.chains.push(ChainDef {
+        name: name("ab")?,
+        runnables: names(alloc, &["a", "b"])?,
+        labels: names(alloc, &["x"])?,
+    })?;
+    model.requirements.push(RequirementDef {
+        name: name("r")?,
+        chain: name("ab")?,
+        kind: LengthKind::Age,
+        most: 46,
+    })?;
+    let copy = model.copy(alloc)?;
+    let wanted = format!(in alloc; "{model:?}")?;
+    let found = format!(in alloc; "{copy:?}")?;
+    assert_eq!(rt; found.as_str(), wanted.as_str());
+    assert!(rt;
+        found
+            .as_str()
+            .contains("writes: List { items: [\"y\", \"z\"] }")
+    );
+    Ok(())
+}
+
+#[test]
+fn prints_places(rt: HostRuntime) -> Result<(), Fail> {
+    let place = Part::Task
+        .whole()
+        .at_item(2)
+        .at_sub(0)
+        .at_key(Key::Reads)
+        .at_spot(13);
+    let refusal = Refusal {
+        code: Code::M37,
+        place,
+    };
+    let text = format!(in rt.alloc(); "{refusal}")?;
+    assert_eq!(rt; text.as_str(), "M37 task[2].runnable[0].reads[13]");
+    let top = Refusal {
+        code: Code::M1,
+        place: Place::top(),
+    };
+    let text = format!(in rt.alloc(); "{top}")?;
+    assert_eq!(rt; text.as_str(), "M1 top");
+    Ok(())
+}

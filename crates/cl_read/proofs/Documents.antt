@@ -1,0 +1,41 @@
+-- The members of a table as the entries of a map, and the items of an array as a list.
+use Rattle.std.proofs.Common.{◌≡◌, ℕ, ◌<◌, ◌≤◌, Bool, true, false, ◌&&◌, leb, List, [], ◌∷◌, length, map, Some, String, Global, string_bytes, refl, ap, arith}
+use Rattle.std.proofs.lemmas.Bool.{le-leb, lt-leb}
+use Rattle.std.proofs.lemmas.List.{append-nil, length-map}
+use Rattle.std.specs.List.{list_any, list_all}
+use Rattle.std.specs.Str.{bytes_eq}
+use Rattle.toml.specs.declared.value.Value.{Value}
+use Rattle.toml.specs.View.{view, items_view, members_view}
+use Rattle.cl_model.specs.declared.place.Key.{Key}
+use Rattle.cl_model.specs.declared.place.Place.{Place}
+use Rattle.cl_model.specs.declared.refusal.Code.TheVariants.{M10}
+use Rattle.cl_model.specs.Place.{key_text}
+use Rattle.cl_model.specs.Refusal.{first}
+use Rattle.cl_model.specs.Reading.Checks.{Check, members_of, each_from, an_array, has_only}
+use Rattle.toml.specs.Data.{array}
+
+-- the word is one of the keys
+abbrev pub is_key : List Key → String Global → Bool
+is_key keys word = list_any (λ key. bytes_eq (key_text key) (string_bytes word)) keys
+
+pub has_only-members : (keys : List Key) (es : List (String Global × Value)) → has_only keys (members_view es) ≡ list_all (is_key keys) (map (λ e. e.0) es)
+has_only-members keys [] = refl
+has_only-members keys (e ∷ es) = ap (λ rest. is_key keys e.0 && rest) (has_only-members keys es)
+
+pub members_of-items : (vs : List Value) → members_of (items_view vs) ≡ map view vs
+members_of-items [] = refl
+members_of-items (v ∷ vs) = ap (λ ds. view v ∷ ds) (members_of-items vs)
+
+-- an array with too many members is refused
+pub array_too_long : (limit : ℕ) (place_in : ℕ → Place → Place) (check : Check) (place : Place) (vs : List Value) → limit < length vs
+    → first (an_array limit place_in check place (array (items_view vs))) ≡ Some (record { code = M10; place = place })
+array_too_long limit place_in check place vs lt =
+    let long : leb (length (map view vs)) limit ≡ false = lt-leb _ _ (omega (arith, length-map vs view)) in
+    rw (members_of-items vs, long) refl
+
+-- and in one that fits its members are checked
+pub array_fits : (limit : ℕ) (place_in : ℕ → Place → Place) (check : Check) (place : Place) (vs : List Value) → length vs ≤ limit
+    → an_array limit place_in check place (array (items_view vs)) ≡ each_from 0 (λ n. check (place_in n place)) (map view vs)
+array_fits limit place_in check place vs le =
+    let short : leb (length (map view vs)) limit ≡ true = le-leb _ _ (omega (arith, length-map vs view)) in
+    rw (members_of-items vs, short) (append-nil (each_from 0 (λ n. check (place_in n place)) (map view vs)))

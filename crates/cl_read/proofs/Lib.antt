@@ -1,0 +1,5 @@
+pub mod Documents
+pub mod Faults
+pub mod InRange
+pub mod Readings
+pub mod Texts

@@ -1,0 +1,82 @@
+//! Arrays of a document, and what they may hold.
+ghost use Rattle.std.specs.Prelude.{◌≡◌, ℕ, ◌^◌, ◌<◌, ◌+◌, List as Items, [], map, option_map, length};
+ghost use Rattle.toml.specs.Data.{Data};
+ghost use Rattle.toml.specs.View.{view, table_view};
+ghost use Rattle.cl_model.specs.declared.place.Place.{Place as Spot};
+ghost use Rattle.cl_model.specs.declared.refusal.Refusal.{Refusal};
+ghost use Rattle.cl_model.specs.Reading.Checks.{an_array, each_from, found_or};
+ghost use Rattle.cl_model.specs.Reading.Meanings.{list_of};
+ghost use Rattle.cl_read.specs.Answers.{Answers};
+
+use crate::fault::{ReadFault, refused};
+use cl_model::{Code, Key, List, Place};
+use std::alloc::Global;
+use toml::{Table, Value};
+
+/// What an array of a document may hold.
+pub(crate) trait Member: Drop {
+    /// The checks of a member at its place.
+    ghost checks: { Spot → Data → Items Refusal };
+
+    /// What a member means where nothing is refused.
+    ghost meaning: { Data → Self };
+
+    /// The place of the member of a number in the array at a place.
+    ghost place_in: { ℕ → Spot → Spot };
+
+    fn place_in(array: Place, number: u32) -> Place
+        ensures { result ≡ place_in number array };
+
+    fn read(alloc: Global, place: Place, value: &Value) -> Result<Self, ReadFault>
+        ensures { Answers result (checks place (view value.now)) (meaning (view value.now)) };
+}
+
+/// Reads members, of which the first has the number `from`.
+fn members<T: Member>(alloc: Global, place: Place, values: &[Value]) -> Result<List<T>, ReadFault>
+    requires { length values.now < 2 ^ 32 }
+    ensures { Answers result (each_from 0 (λ n. T.checks (T.place_in n place)) (map view values.now)) (map T.meaning (map view values.now)) }
+{
+    let mut members = List::new(alloc);
+    for (i, value) in values.iter().enumerate() {
+        members.push(T::read(alloc, T::place_in(place, i as u32), value)?)?;
+    }
+    Ok(members)
+}
+
+/// Reads an array of at most `limit` members.
+pub(crate) fn array<T: Member>(
+    alloc: Global,
+    place: Place,
+    limit: usize,
+    value: &Value,
+) -> Result<List<T>, ReadFault>
+    requires { limit < 2 ^ 32 }
+    ensures { Answers result (an_array limit T.place_in T.checks place (view value.now)) (map T.meaning (list_of (view value.now))) }
+{
+    match value {
+        Value::Array(values) => {
+            if values.len() > limit {
+                return Err(refused(Code::M10, place));
+            }
+            members(alloc, place, values.as_slice())
+        }
+        _ => Err(refused(Code::M6, place)),
+    }
+}
+
+/// The array at a place, none where it is absent.
+pub(crate) fn array_or_none<T: Member>(
+    alloc: Global,
+    place: Place,
+    limit: usize,
+    found: Option<&Value>,
+) -> Result<List<T>, ReadFault>
+    requires { limit < 2 ^ 32 }
+    ensures { let value = option_map (λ value. view value.now) found.entry in
+        Answers result (found_or [] (an_array limit T.place_in T.checks place) value) (found_or [] (λ d. map T.meaning (list_of d)) value) }
+{
+    match found {
+        Some(value) => array(alloc, place, limit, value),
+        None => Ok(List::new(alloc)),
+    }
+}

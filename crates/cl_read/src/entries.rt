@@ -1,0 +1,264 @@
+//! The tables of a document, one reader for each.
+ghost use Rattle.std.specs.Prelude.{◌≡◌, ◌^◌, ◌<◌};
+ghost use Rattle.toml.specs.View.{view, table_view};
+ghost use Rattle.cl_model.specs.declared.limits.TheConstants.{MOST_RUNNABLES};
+ghost use Rattle.cl_model.specs.declared.place.Key.TheVariants as key;
+ghost use Rattle.cl_model.specs.Place.{at_item, at_sub, at_spot};
+ghost use Rattle.cl_model.specs.Reading.Checks.{a_name, a_table, a_table_of, fields_checks, field_checks, an_array, optional, names};
+ghost use Rattle.cl_model.specs.Reading.Meanings.{text_of, table_of, names_at, tables_at};
+ghost use Rattle.cl_model.specs.Reading.Tables.{core_fields, core_meaning, label_fields, label_meaning, stimulus_checks, stimulus_meaning, runnable_fields, runnable_meaning, task_fields, task_meaning, chain_fields, chain_meaning, requirement_fields, requirement_meaning};
+ghost use Rattle.cl_read.specs.Answers.{Answers};
+
+use crate::arrays::{Member, array_or_none};
+use crate::fault::{ReadFault, refused};
+use crate::keys::{has_only, value_at};
+use crate::{fields, values};
+use cl_model::{
+    ChainDef, Code, CoreDef, Key, LabelDef, List, MOST_ACCESSES, MOST_HOPS, MOST_PRIORITY,
+    MOST_REQUIRED, MOST_RUNNABLES, MOST_STEPS, MOST_TICKS, Name, Place, RequirementDef,
+    RunnableDef, TaskDef,
+};
+use std::alloc::Global;
+use toml::{Table, Value};
+
+impl Member for Name {
+    ghost checks = { a_name };
+
+    ghost meaning = { text_of };
+
+    ghost place_in = { at_spot };
+
+    fn place_in(array: Place, number: u32) -> Place {
+        array.at_spot(number)
+    }
+
+    fn read(_alloc: Global, place: Place, value: &Value) -> Result<Name, ReadFault> {
+        values::name(place, value)
+    }
+}
+
+impl Member for CoreDef {
+    ghost checks = { a_table_of core_fields };
+
+    ghost meaning = { λ entry. core_meaning (table_of entry) };
+
+    ghost place_in = { at_item };
+
+    fn place_in(section: Place, number: u32) -> Place {
+        section.at_item(number)
+    }
+
+    fn read(_alloc: Global, place: Place, value: &Value) -> Result<CoreDef, ReadFault> {
+        match value {
+            Value::Table(table) => core(place, table),
+            _ => Err(refused(Code::M6, place)),
+        }
+    }
+}
+
+impl Member for LabelDef {
+    ghost checks = { a_table_of label_fields };
+
+    ghost meaning = { λ entry. label_meaning (table_of entry) };
+
+    ghost place_in = { at_item };
+
+    fn place_in(section: Place, number: u32) -> Place {
+        section.at_item(number)
+    }
+
+    fn read(_alloc: Global, place: Place, value: &Value) -> Result<LabelDef, ReadFault> {
+        match value {
+            Value::Table(table) => label(place, table),
+            _ => Err(refused(Code::M6, place)),
+        }
+    }
+}
+
+impl Member for RunnableDef {
+    ghost checks = { a_table_of runnable_fields };
+
+    ghost meaning = { λ entry. runnable_meaning (table_of entry) };
+
+    ghost place_in = { at_sub };
+
+    fn place_in(section: Place, number: u32) -> Place {
+        section.at_sub(number)
+    }
+
+    fn read(alloc: Global, place: Place, value: &Value) -> Result<RunnableDef, ReadFault> {
+        match value {
+            Value::Table(table) => runnable(alloc, place, table),
+            _ => Err(refused(Code::M6, place)),
+        }
+    }
+}
+
+impl Member for TaskDef {
+    ghost checks = { a_table_of task_fields };
+
+    ghost meaning = { λ entry. task_meaning (table_of entry) };
+
+    ghost place_in = { at_item };
+
+    fn place_in(section: Place, number: u32) -> Place {
+        section.at_item(number)
+    }
+
+    fn read(alloc: Global, place: Place, value: &Value) -> Result<TaskDef, ReadFault> {
+        match value {
+            Value::Table(table) => task(alloc, place, table),
+            _ => Err(refused(Code::M6, place)),
+        }
+    }
+}
+
+impl Member for ChainDef {
+    ghost checks = { a_table_of chain_fields };
+
+    ghost meaning = { λ entry. chain_meaning (table_of entry) };
+
+    ghost place_in = { at_item };
+
+    fn place_in(section: Place, number: u32) -> Place {
+        section.at_item(number)
+    }
+
+    fn read(alloc: Global, place: Place, value: &Value) -> Result<ChainDef, ReadFault> {
+        match value {
+            Value::Table(table) => chain(alloc, place, table),
+            _ => Err(refused(Code::M6, place)),
+        }
+    }
+}
+
+impl Member for RequirementDef {
+    ghost checks = { a_table_of requirement_fields };
+
+    ghost meaning = { λ entry. requirement_meaning (table_of entry) };
+
+    ghost place_in = { at_item };
+
+    fn place_in(section: Place, number: u32) -> Place {
+        section.at_item(number)
+    }
+
+    fn read(_alloc: Global, place: Place, value: &Value) -> Result<RequirementDef, ReadFault> {
+        match value {
+            Value::Table(table) => requirement(place, table),
+            _ => Err(refused(Code::M6, place)),
+        }
+    }
+}
+
+fn core(place: Place, table: &Table) -> Result<CoreDef, ReadFault>
+    ensures { Answers result (fields_checks core_fields place (table_view table.now)) (core_meaning (table_view table.now)) }
+{
+    has_only(place, table, &[Key::Name])?;
+    Ok(CoreDef {
+        name: fields::name(place, table, Key::Name)?,
+    })
+}
+
+fn label(place: Place, table: &Table) -> Result<LabelDef, ReadFault>
+    ensures { Answers result (fields_checks label_fields place (table_view table.now)) (label_meaning (table_view table.now)) }
+{
+    has_only(place, table, &[Key::Name])?;
+    Ok(LabelDef {
+        name: fields::name(place, table, Key::Name)?,
+    })
+}
+
+/// The names in an array of at most `limit` members, none where it is absent.
+fn names(
+    alloc: Global,
+    place: Place,
+    table: &Table,
+    key: Key,
+    limit: usize,
+) -> Result<List<Name>, ReadFault>
+    requires { limit < 2 ^ 32 }
+    ensures { Answers result (field_checks place (table_view table.now) (optional key (names limit))) (names_at key (table_view table.now)) }
+{
+    array_or_none(alloc, place.at_key(key), limit, value_at(table, key))
+}
+
+#[tactic(auto, using(crate::proofs::Faults::fault_of_front, crate::proofs::Faults::fault_of_back), unfolding(cl_model::specs::Reading::Tables::runnable_meaning))]
+fn runnable(alloc: Global, place: Place, table: &Table) -> Result<RunnableDef, ReadFault>
+    ensures { Answers result (fields_checks runnable_fields place (table_view table.now)) (runnable_meaning (table_view table.now)) }
+{
+    let keys = [
+        Key::Name,
+        Key::Least,
+        Key::Greatest,
+        Key::Reads,
+        Key::Writes,
+    ];
+    has_only(place, table, &keys)?;
+    Ok(RunnableDef {
+        name: fields::name(place, table, Key::Name)?,
+        least: fields::number(place, table, Key::Least, 1, MOST_TICKS)?,
+        greatest: fields::number(place, table, Key::Greatest, 1, MOST_TICKS)?,
+        reads: names(alloc, place, table, Key::Reads, MOST_ACCESSES)?,
+        writes: names(alloc, place, table, Key::Writes, MOST_ACCESSES)?,
+    })
+}
+
+/// The runnables of a task, none where they are absent.
+fn runnables(alloc: Global, place: Place, table: &Table) -> Result<List<RunnableDef>, ReadFault>
+    ensures { Answers result (field_checks place (table_view table.now) (optional key.Runnable (an_array MOST_RUNNABLES at_sub (a_table_of runnable_fields))))
+        (tables_at runnable_meaning key.Runnable (table_view table.now)) }
+{
+    let place = place.at_key(Key::Runnable);
+    array_or_none(alloc, place, MOST_RUNNABLES, value_at(table, Key::Runnable))
+}
+
+#[tactic(auto, using(crate::proofs::Faults::fault_of_front, crate::proofs::Faults::fault_of_back), unfolding(cl_model::specs::Reading::Tables::task_meaning))]
+fn task(alloc: Global, place: Place, table: &Table) -> Result<TaskDef, ReadFault>
+    ensures { Answers result (fields_checks task_fields place (table_view table.now)) (task_meaning (table_view table.now)) }
+{
+    let keys = [
+        Key::Name,
+        Key::Core,
+        Key::Stimulus,
+        Key::Priority,
+        Key::Access,
+        Key::Deadline,
+        Key::Runnable,
+    ];
+    has_only(place, table, &keys)?;
+    Ok(TaskDef {
+        name: fields::name(place, table, Key::Name)?,
+        core: fields::name(place, table, Key::Core)?,
+        stimulus: fields::name(place, table, Key::Stimulus)?,
+        priority: fields::number(place, table, Key::Priority, 0, MOST_PRIORITY)?,
+        access: fields::access(place, table, Key::Access)?,
+        deadline: fields::number_if(place, table, Key::Deadline, 1, MOST_TICKS)?,
+        runnables: runnables(alloc, place, table)?,
+    })
+}
+
+#[tactic(auto, using(crate::proofs::Faults::fault_of_front, crate::proofs::Faults::fault_of_back), unfolding(cl_model::specs::Reading::Tables::chain_meaning))]
+fn chain(alloc: Global, place: Place, table: &Table) -> Result<ChainDef, ReadFault>
+    ensures { Answers result (fields_checks chain_fields place (table_view table.now)) (chain_meaning (table_view table.now)) }
+{
+    has_only(place, table, &[Key::Name, Key::Runnables, Key::Labels])?;
+    Ok(ChainDef {
+        name: fields::name(place, table, Key::Name)?,
+        runnables: names(alloc, place, table, Key::Runnables, MOST_STEPS)?,
+        labels: names(alloc, place, table, Key::Labels, MOST_HOPS)?,
+    })
+}
+
+#[tactic(auto, using(crate::proofs::Faults::fault_of_front, crate::proofs::Faults::fault_of_back), unfolding(cl_model::specs::Reading::Tables::requirement_meaning))]
+fn requirement(place: Place, table: &Table) -> Result<RequirementDef, ReadFault>
+    ensures { Answers result (fields_checks requirement_fields place (table_view table.now)) (requirement_meaning (table_view table.now)) }
+{
+    has_only(place, table, &[Key::Name, Key::Chain, Key::Kind, Key::Most])?;
+    Ok(RequirementDef {
+        name: fields::name(place, table, Key::Name)?,
+        chain: fields::name(place, table, Key::Chain)?,
+        kind: fields::length(place, table, Key::Kind)?,
+        most: fields::number(place, table, Key::Most, 0, MOST_REQUIRED)?,
+    })
+}

@@ -1,0 +1,92 @@
+//! The fields of a table: the values at its keys.
+ghost use Rattle.std.specs.Prelude.{◌≡◌, Option, Some, None};
+ghost use Rattle.toml.specs.View.{view, table_view};
+ghost use Rattle.cl_model.specs.declared.task.AccessKind.TheVariants.{Explicit};
+ghost use Rattle.cl_model.specs.declared.chain.LengthKind.TheVariants.{Reaction};
+ghost use Rattle.cl_model.specs.Reading.Checks.{a_name, a_number, a_word, required, optional, field_checks};
+ghost use Rattle.cl_model.specs.Reading.Meanings.{text_at, number_at, number_or, number_if, word_at};
+ghost use Rattle.cl_model.specs.Reading.Tables.{access_words, length_words};
+ghost use Rattle.cl_read.specs.Answers.{Answers};
+
+use crate::fault::{ReadFault, refused};
+use crate::keys::value_at;
+use crate::values;
+use cl_model::{AccessKind, Code, Key, LengthKind, Name, Place};
+use toml::Table;
+
+pub(crate) fn name(place: Place, table: &Table, key: Key) -> Result<Name, ReadFault>
+    ensures { Answers result (field_checks place (table_view table.now) (required key a_name)) (text_at key (table_view table.now)) }
+{
+    let place = place.at_key(key);
+    match value_at(table, key) {
+        Some(value) => values::name(place, value),
+        None => Err(refused(Code::M5, place)),
+    }
+}
+
+pub(crate) fn number(
+    place: Place,
+    table: &Table,
+    key: Key,
+    low: u64,
+    high: u64,
+) -> Result<u64, ReadFault>
+    ensures { Answers result (field_checks place (table_view table.now) (required key (a_number low high))) (number_at key (table_view table.now)) }
+{
+    let place = place.at_key(key);
+    match value_at(table, key) {
+        Some(value) => values::number(place, low, high, value),
+        None => Err(refused(Code::M5, place)),
+    }
+}
+
+/// A number up to `high`, 0 where the key is absent.
+pub(crate) fn number_or_zero(
+    place: Place,
+    table: &Table,
+    key: Key,
+    high: u64,
+) -> Result<u64, ReadFault>
+    ensures { Answers result (field_checks place (table_view table.now) (optional key (a_number 0 high))) (number_or 0 key (table_view table.now)) }
+{
+    match value_at(table, key) {
+        Some(value) => values::number(place.at_key(key), 0, high, value),
+        None => Ok(0),
+    }
+}
+
+/// A number from `low` to `high`, or none where the key is absent.
+pub(crate) fn number_if(
+    place: Place,
+    table: &Table,
+    key: Key,
+    low: u64,
+    high: u64,
+) -> Result<Option<u64>, ReadFault>
+    ensures { Answers result (field_checks place (table_view table.now) (optional key (a_number low high))) (number_if key (table_view table.now)) }
+{
+    match value_at(table, key) {
+        Some(value) => Ok(Some(values::number(place.at_key(key), low, high, value)?)),
+        None => Ok(None),
+    }
+}
+
+pub(crate) fn access(place: Place, table: &Table, key: Key) -> Result<AccessKind, ReadFault>
+    ensures { Answers result (field_checks place (table_view table.now) (required key (a_word access_words))) (word_at access_words Explicit key (table_view table.now)) }
+{
+    let place = place.at_key(key);
+    match value_at(table, key) {
+        Some(value) => values::access(place, value),
+        None => Err(refused(Code::M5, place)),
+    }
+}
+
+pub(crate) fn length(place: Place, table: &Table, key: Key) -> Result<LengthKind, ReadFault>
+    ensures { Answers result (field_checks place (table_view table.now) (required key (a_word length_words))) (word_at length_words Reaction key (table_view table.now)) }
+{
+    let place = place.at_key(key);
+    match value_at(table, key) {
+        Some(value) => values::length(place, value),
+        None => Err(refused(Code::M5, place)),
+    }
+}

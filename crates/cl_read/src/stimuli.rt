@@ -1,0 +1,105 @@
+//! Stimuli: what one is asked depends on its kind.
+ghost use Rattle.std.specs.Prelude.{◌≡◌, Some, [], ◌∷◌, unwrap_or};
+ghost use Rattle.toml.specs.Data.{string};
+ghost use Rattle.toml.specs.View.{table_view};
+ghost use Rattle.cl_model.specs.declared.place.Key.TheVariants as key;
+ghost use Rattle.cl_model.specs.Place.{at_key, at_item};
+ghost use Rattle.cl_model.specs.Refusal.{in_order};
+ghost use Rattle.cl_model.specs.Reading.Checks.{a_word, a_table, required, field_checks, meaning_of};
+ghost use Rattle.cl_model.specs.Reading.Meanings.{table_of, word_if, word_at};
+ghost use Rattle.cl_model.specs.Reading.Tables.{stimulus_forms, periodic_form, sporadic_form, form_checks, stimulus_checks, stimulus_meaning};
+ghost use Rattle.cl_read.specs.Answers.{Answers};
+
+use crate::arrays::Member;
+use crate::fault::{ReadFault, refused};
+use crate::fields;
+use crate::keys::{has_only, value_at};
+use cl_model::{Code, Key, MOST_TICKS, Place, StimulusDef, StimulusKind};
+use std::alloc::Global;
+use toml::{Table, Value};
+
+impl Member for StimulusDef {
+    ghost checks = { a_table stimulus_checks };
+
+    ghost meaning = { λ entry. stimulus_meaning (table_of entry) };
+
+    ghost place_in = { at_item };
+
+    fn place_in(section: Place, number: u32) -> Place {
+        section.at_item(number)
+    }
+
+    fn read(_alloc: Global, place: Place, value: &Value) -> Result<StimulusDef, ReadFault> {
+        match value {
+            Value::Table(table) => stimulus(place, table),
+            _ => Err(refused(Code::M6, place)),
+        }
+    }
+}
+
+#[tactic(auto, using(crate::proofs::Faults::fault_of_front, crate::proofs::Faults::fault_of_back), unfolding(cl_model::specs::Reading::Tables::stimulus_checks, cl_model::specs::Reading::Tables::stimulus_meaning))]
+fn stimulus(place: Place, table: &Table) -> Result<StimulusDef, ReadFault>
+    ensures { Answers result (stimulus_checks place (table_view table.now)) (stimulus_meaning (table_view table.now)) }
+{
+    Ok(StimulusDef {
+        name: fields::name(place, table, Key::Name)?,
+        kind: kind(place, table)?,
+    })
+}
+
+/// The kind, with the keys that it asks for.
+fn kind(place: Place, table: &Table) -> Result<StimulusKind, ReadFault>
+    ensures { let ms = table_view table.now in
+        Answers result
+        (in_order (field_checks place ms (required key.Kind (a_word stimulus_forms)) ∷ form_checks place ms (word_if stimulus_forms key.Kind ms) ∷ []))
+        ((word_at stimulus_forms periodic_form key.Kind ms).meaning ms) }
+{
+    let kind = place.at_key(Key::Kind);
+    match value_at(table, Key::Kind) {
+        Some(Value::String(word)) => of_kind(place, table, word.as_str()),
+        Some(_) => Err(refused(Code::M6, kind)),
+        None => Err(refused(Code::M5, kind)),
+    }
+}
+
+/// The kind that a word stands for.
+fn of_kind(place: Place, table: &Table, word: &str) -> Result<StimulusKind, ReadFault>
+    ensures { let ms = table_view table.now in
+        Answers result
+        (in_order (a_word stimulus_forms (at_key key.Kind place) (string word.now) ∷ form_checks place ms (meaning_of stimulus_forms word.now) ∷ []))
+        ((unwrap_or (meaning_of stimulus_forms word.now) periodic_form).meaning ms) }
+{
+    match word {
+        "periodic" => periodic(place, table),
+        "sporadic" => sporadic(place, table),
+        _ => Err(refused(Code::M9, place.at_key(Key::Kind))),
+    }
+}
+
+#[tactic(auto, using(crate::proofs::Faults::fault_of_front, crate::proofs::Faults::fault_of_back))]
+fn periodic(place: Place, table: &Table) -> Result<StimulusKind, ReadFault>
+    ensures { Answers result (form_checks place (table_view table.now) (Some periodic_form)) (periodic_form.meaning (table_view table.now)) }
+{
+    let keys = [Key::Name, Key::Kind, Key::Period, Key::Offset, Key::Jitter];
+    has_only(place, table, &keys)?;
+    Ok(StimulusKind::Periodic {
+        period: fields::number(place, table, Key::Period, 1, MOST_TICKS)?,
+        offset: fields::number_or_zero(place, table, Key::Offset, MOST_TICKS)?,
+        jitter: fields::number_or_zero(place, table, Key::Jitter, MOST_TICKS)?,
+    })
+}
+
+#[tactic(auto, using(crate::proofs::Faults::fault_of_front, crate::proofs::Faults::fault_of_back))]
+fn sporadic(place: Place, table: &Table) -> Result<StimulusKind, ReadFault>
+    ensures { Answers result (form_checks place (table_view table.now) (Some sporadic_form)) (sporadic_form.meaning (table_view table.now)) }
+{
+    has_only(
+        place,
+        table,
+        &[Key::Name, Key::Kind, Key::Least, Key::Greatest],
+    )?;
+    Ok(StimulusKind::Sporadic {
+        least: fields::number(place, table, Key::Least, 1, MOST_TICKS)?,
+        greatest: fields::number(place, table, Key::Greatest, 1, MOST_TICKS)?,
+    })
+}

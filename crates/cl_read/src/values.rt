@@ -1,0 +1,86 @@
+//! Single values of a document: names, numbers and words.
+ghost use Rattle.std.specs.Prelude.{◌≡◌, ◌≤◌, ◌^◌, ◌<◌, unwrap_or};
+ghost use Rattle.toml.specs.View.{view};
+ghost use Rattle.cl_model.specs.declared.task.AccessKind.TheVariants.{Explicit};
+ghost use Rattle.cl_model.specs.declared.chain.LengthKind.TheVariants.{Reaction};
+ghost use Rattle.cl_model.specs.Reading.Checks.{a_name, a_number, a_word, meaning_of};
+ghost use Rattle.cl_model.specs.Reading.Meanings.{text_of, number_of};
+ghost use Rattle.cl_model.specs.Reading.Tables.{access_words, length_words};
+ghost use Rattle.cl_read.specs.Answers.{Answers};
+
+use crate::fault::{ReadFault, refused};
+use cl_model::{AccessKind, Code, LengthKind, Name, Place};
+use toml::Value;
+
+pub(crate) fn name(place: Place, value: &Value) -> Result<Name, ReadFault>
+    ensures { Answers result (a_name place (view value.now)) (text_of (view value.now)) }
+{
+    match value {
+        Value::String(word) => match Name::read(word.as_bytes()) {
+            Some(name) => Ok(name),
+            None => Err(refused(Code::M7, place)),
+        },
+        _ => Err(refused(Code::M6, place)),
+    }
+}
+
+/// A whole number from `low` to `high`.
+pub(crate) fn number(place: Place, low: u64, high: u64, value: &Value) -> Result<u64, ReadFault>
+    ensures { Answers result (a_number low high place (view value.now)) (number_of (view value.now)) }
+{
+    match value {
+        Value::Integer(number) => match u64::try_from(*number) {
+            Ok(number) if low <= number && number <= high => Ok(number),
+            _ => Err(refused(Code::M8, place)),
+        },
+        _ => Err(refused(Code::M6, place)),
+    }
+}
+
+fn access_of(word: &str) -> Option<AccessKind>
+    ensures { result ≡ meaning_of access_words word.now }
+{
+    match word {
+        "explicit" => Some(AccessKind::Explicit),
+        "implicit" => Some(AccessKind::Implicit),
+        "timed" => Some(AccessKind::Timed),
+        _ => None,
+    }
+}
+
+pub(crate) fn access(place: Place, value: &Value) -> Result<AccessKind, ReadFault>
+    ensures { Answers result (a_word access_words place (view value.now))
+        (unwrap_or (meaning_of access_words (text_of (view value.now))) Explicit) }
+{
+    match value {
+        Value::String(word) => match access_of(word.as_str()) {
+            Some(access) => Ok(access),
+            None => Err(refused(Code::M9, place)),
+        },
+        _ => Err(refused(Code::M6, place)),
+    }
+}
+
+fn length_of(word: &str) -> Option<LengthKind>
+    ensures { result ≡ meaning_of length_words word.now }
+{
+    match word {
+        "reaction" => Some(LengthKind::Reaction),
+        "age" => Some(LengthKind::Age),
+        "reduced" => Some(LengthKind::Reduced),
+        _ => None,
+    }
+}
+
+pub(crate) fn length(place: Place, value: &Value) -> Result<LengthKind, ReadFault>
+    ensures { Answers result (a_word length_words place (view value.now))
+        (unwrap_or (meaning_of length_words (text_of (view value.now))) Reaction) }
+{
+    match value {
+        Value::String(word) => match length_of(word.as_str()) {
+            Some(length) => Ok(length),
+            None => Err(refused(Code::M9, place)),
+        },
+        _ => Err(refused(Code::M6, place)),
+    }
+}
