@@ -1,2 +1,5 @@
 pub mod Names
 pub mod ReadingExamples
+pub mod Refused
+pub mod Found
+pub mod ValidFacts

@@ -1,5 +1,14 @@
 pub mod Name
 pub mod Place
 pub mod Refusal
+pub mod Refusals
 pub mod Reading
 pub mod Ranges
+pub mod Named
+pub mod NameSets
+pub mod Timing
+pub mod ValidNames
+pub mod ValidTasks
+pub mod Validity
+pub mod OfTask
+pub mod ValidModel

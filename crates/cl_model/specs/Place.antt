@@ -19,6 +19,10 @@ top = whole part.Top
 abbrev pub at_item : ℕ → Place → Place
 at_item n place = record place { item = Some n }
 
+-- entry n of a section
+abbrev pub entry_of : Part → ℕ → Place
+entry_of section n = at_item n (whole section)
+
 -- a runnable of a task
 abbrev pub at_sub : ℕ → Place → Place
 at_sub n place = record place { sub = Some n; key = None }

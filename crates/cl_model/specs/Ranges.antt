@@ -18,23 +18,26 @@ abbrev pub IsKindInRange : StimulusKind → Type 0
 IsKindInRange (Periodic period offset jitter) = IsTime period × (offset ≤ MOST_TICKS) × (jitter ≤ MOST_TICKS)
 IsKindInRange (Sporadic least greatest) = IsTime least × IsTime greatest
 
+-- the times of a runnable, and how many labels it reads and writes
 pub record IsRunnableInRange (r : RunnableDef) : Type 0 where
   pub least : IsTime r.least
   pub greatest : IsTime r.greatest
   pub reads : length r.reads ≤ MOST_ACCESSES
   pub writes : length r.writes ≤ MOST_ACCESSES
 
+-- the numbers of a task, and how many runnables it has
 pub record IsTaskInRange (t : TaskDef) : Type 0 where
   pub priority : t.priority ≤ MOST_PRIORITY
   pub deadline : IfSome t.deadline IsTime
   pub count : length t.runnables ≤ MOST_RUNNABLES
   pub runnables : All IsRunnableInRange t.runnables
 
+-- how many runnables and labels a chain has
 pub record IsChainInRange (c : ChainDef) : Type 0 where
   pub runnables : length c.runnables ≤ MOST_STEPS
   pub labels : length c.labels ≤ MOST_HOPS
 
--- no part has too many entries
+-- how many entries each section has
 pub record IsCountInRange (m : SystemModel) : Type 0 where
   pub cores : length m.cores ≤ MOST_CORES
   pub stimuli : length m.stimuli ≤ MOST_STIMULI
@@ -43,7 +46,7 @@ pub record IsCountInRange (m : SystemModel) : Type 0 where
   pub chains : length m.chains ≤ MOST_CHAINS
   pub requirements : length m.requirements ≤ MOST_REQUIREMENTS
 
--- nor does any entry, and each number is in its range
+-- each section has few enough entries, and each entry is in range
 pub record IsInRange (m : SystemModel) : Type 0 where
   pub counts : IsCountInRange m
   pub stimuli : All (λ s. IsKindInRange s.kind) m.stimuli

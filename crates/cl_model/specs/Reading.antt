@@ -17,7 +17,7 @@ use Rattle.cl_model.specs.declared.refusal.Code.TheVariants.{M1, M2, M3, M4}
 use Rattle.cl_model.specs.declared.refusal.Refusal.{Refusal}
 use Rattle.cl_model.specs.declared.model.SystemModel.{SystemModel}
 use Rattle.cl_model.specs.Place.{whole, top, at_key, at_item}
-use Rattle.cl_model.specs.Refusal.{unless, in_order, answer}
+use Rattle.cl_model.specs.Refusals.{unless, in_order, answer}
 use Rattle.cl_model.specs.Reading.Checks.{Check, a_table, a_table_of, an_array, value_at, found_or, has_only}
 use Rattle.cl_model.specs.Reading.Meanings.{tables_at}
 use Rattle.cl_model.specs.Reading.Tables.{core_fields, core_meaning, stimulus_checks, stimulus_meaning, label_fields, label_meaning, task_fields, task_meaning, chain_fields, chain_meaning, requirement_fields, requirement_meaning}

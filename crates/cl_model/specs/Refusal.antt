@@ -1,33 +1,10 @@
--- Lists of refusals, and how one prints. A check gives a refusal or nothing, and the first refusal in a list of checks answers.
+-- How a refusal prints.
 use Rattle.std.specs.Prelude.{ℕ, Bool, if◌then◌else◌, List, [], ◌∷◌, ◌++◌, Option, Some, None, Result, Ok, Err, codes}
 use Rattle.cl_model.specs.declared.refusal.Code.{Code}
 use Rattle.cl_model.specs.declared.refusal.Code.TheVariants as code
 use Rattle.cl_model.specs.declared.refusal.Refusal.{Refusal}
 use Rattle.cl_model.specs.declared.place.Place.{Place}
 use Rattle.cl_model.specs.Place.{place_text}
-
--- a refusal
-abbrev pub refuse : Code → Place → List Refusal
-refuse code place = record { code = code; place = place } ∷ []
-
--- a refusal, unless the test passes
-abbrev pub unless : Bool → Code → Place → List Refusal
-unless test code place = if test then [] else refuse code place
-
--- one list of checks after another
-abbrev pub in_order : List (List Refusal) → List Refusal
-in_order [] = []
-in_order (checks ∷ others) = checks ++ in_order others
-
--- the first refusal, if there is one
-abbrev pub first : List Refusal → Option Refusal
-first [] = None
-first (refusal ∷ others) = Some refusal
-
--- the first refusal, or the meaning where there is none
-abbrev pub answer : {X : Type 0} → List Refusal → X → Result X Refusal
-answer [] meaning = Ok meaning
-answer (refusal ∷ others) meaning = Err refusal
 
 -- a code as it prints
 abbrev pub code_text : Code → List ℕ

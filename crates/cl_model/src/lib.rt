@@ -3,28 +3,36 @@
 
 mod chain;
 mod copying;
+mod entries;
 mod limits;
 mod list;
 mod model;
 mod name;
+mod name_set;
 mod place;
 mod refusal;
 mod stimulus;
 mod task;
+mod timing;
+mod valid_model;
 
 pub use chain::{ChainDef, LengthKind, RequirementDef};
 pub use copying::TryCopy;
+pub use entries::{Named, name_numbers};
 pub use limits::{
-    MOST_ACCESSES, MOST_CHAINS, MOST_CORES, MOST_HOPS, MOST_LABELS, MOST_PRIORITY, MOST_REQUIRED,
-    MOST_REQUIREMENTS, MOST_RUNNABLES, MOST_STEPS, MOST_STIMULI, MOST_TASKS, MOST_TICKS,
+    MOST_ACCESSES, MOST_CHAINS, MOST_CORES, MOST_DISTANCES, MOST_HOPS, MOST_LABELS, MOST_PRIORITY,
+    MOST_REQUIRED, MOST_REQUIREMENTS, MOST_RUNNABLES, MOST_RUNNABLES_OF_MODEL, MOST_STEPS,
+    MOST_STIMULI, MOST_TASKS, MOST_TASKS_OF_CORE, MOST_TICKS,
 };
 pub use list::List;
 pub use model::{CoreDef, LabelDef, SystemModel};
 pub use name::{LONGEST_NAME, Name};
+pub use name_set::NameSet;
 pub use place::{Key, Part, Place};
 pub use refusal::{Code, Refusal};
 pub use stimulus::{StimulusDef, StimulusKind};
 pub use task::{AccessKind, RunnableDef, TaskDef};
+pub use valid_model::{ValidModel, kind_named};
 
 #[cfg(test)]
 mod tests;

@@ -38,3 +38,12 @@ pub const MOST_HOPS: usize = 63;
 
 /// The most requirements.
 pub const MOST_REQUIREMENTS: usize = 1_024;
+
+/// The most tasks of one core.
+pub const MOST_TASKS_OF_CORE: usize = 128;
+
+/// The most runnables of all tasks together.
+pub const MOST_RUNNABLES_OF_MODEL: usize = 8_192;
+
+/// How many least distances of a task of higher priority a deadline may span, with the jitter of that task.
+pub const MOST_DISTANCES: u64 = 1_000_000;

@@ -10,8 +10,9 @@ use Rattle.cl_model.specs.declared.place.Key.{Key}
 use Rattle.cl_model.specs.declared.place.Place.{Place}
 use Rattle.cl_model.specs.declared.refusal.Code.TheVariants.{M10}
 use Rattle.cl_model.specs.Place.{key_text}
-use Rattle.cl_model.specs.Refusal.{first}
-use Rattle.cl_model.specs.Reading.Checks.{Check, members_of, each_from, an_array, has_only}
+use Rattle.cl_model.specs.Refusals.{first}
+use Rattle.cl_model.specs.Reading.Checks.{Check, members_of, an_array, has_only}
+use Rattle.cl_model.specs.Refusals.{each_from}
 use Rattle.toml.specs.Data.{array}
 
 -- the word is one of the keys

@@ -1,7 +1,7 @@
 -- The fault of lists of refusals, one after another.
 use Rattle.std.proofs.Common.{◌≡◌, List, [], ◌∷◌, ◌++◌, Some}
 use Rattle.cl_model.specs.declared.refusal.Refusal.{Refusal}
-use Rattle.cl_model.specs.Refusal.{first}
+use Rattle.cl_model.specs.Refusals.{first}
 use Rattle.cl_read.specs.declared.fault.ReadFault.{ReadFault}
 use Rattle.cl_read.specs.declared.fault.ReadFault.TheVariants.{Refused, NoMemory}
 use Rattle.cl_read.specs.Answers.{IsFaultOf}
@@ -19,3 +19,6 @@ fault_of_front a b NoMemory h = tt
 -- and of any list that it ends, where nothing is refused before
 pub fault_of_back : (a b : List Refusal) (e : ReadFault) → a ≡ [] → IsFaultOf b e → IsFaultOf (a ++ b) e
 fault_of_back a b e none h = rw none h
+
+-- what the exit of a reader by `?` wants
+pub ruleset faults = (fault_of_front, fault_of_back)

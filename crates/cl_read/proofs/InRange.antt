@@ -1,5 +1,5 @@
 -- A document in which nothing is refused means a model in range.
-use Rattle.std.proofs.Common.{◌≡◌, ℕ, zero, suc, ◌+◌, ◌≤◌, ◌<◌, pos, negsuc, Bool, true, false, cond, ◌&&◌, leb, List, [], ◌∷◌, ◌++◌, length, get_or, map, All, Option, Some, None, refl, sym, ap, subst, ◌∙◌, arith, inl, inr, ◌⊎◌}
+use Rattle.std.proofs.Common.{◌≡◌, ℕ, ◌+◌, ◌≤◌, pos, negsuc, Bool, true, false, cond, ◌&&◌, leb, List, [], ◌∷◌, ◌++◌, length, map, All, Option, Some, None, refl, sym, subst, arith, inl, inr, ◌⊎◌}
 use Rattle.std.specs.Prelude.{IfSome, is_some, unwrap_or}
 use Rattle.std.proofs.lemmas.Bool.{leb-true}
 use Rattle.std.proofs.lemmas.List.{length-map}
@@ -9,20 +9,20 @@ use Rattle.std.specs.Str.{bytes_eq}
 use Rattle.std.specs.Prelude.{codes}
 use Rattle.toml.specs.Data.{Data, string, integer, float, boolean, datetime, array, table, Members}
 use Rattle.cl_model.specs.declared.limits.TheConstants.{MOST_TICKS, MOST_REQUIRED, MOST_PRIORITY, MOST_CORES, MOST_STIMULI, MOST_LABELS, MOST_TASKS, MOST_RUNNABLES, MOST_ACCESSES, MOST_CHAINS, MOST_STEPS, MOST_HOPS, MOST_REQUIREMENTS}
-use Rattle.cl_model.specs.declared.place.Key.{Key}
 use Rattle.cl_model.specs.declared.place.Key.TheVariants as key
 use Rattle.cl_model.specs.declared.place.Part.TheVariants as part
 use Rattle.cl_model.specs.declared.place.Place.{Place}
 use Rattle.cl_model.specs.declared.refusal.Code.{Code}
 use Rattle.cl_model.specs.declared.refusal.Code.TheVariants.{M2, M3, M4, M5}
 use Rattle.cl_model.specs.declared.refusal.Refusal.{Refusal}
-use Rattle.cl_model.specs.Refusal.{unless, in_order}
-use Rattle.cl_model.specs.Reading.Checks.{Check, a_name, a_word, a_number, a_table, an_array, each_from, found_or, members_of, meaning_of, value_at, fields_checks, field_checks, a_table_of, Field, keys_of, has_only}
+use Rattle.cl_model.specs.Refusals.{unless, in_order}
+use Rattle.cl_model.specs.Reading.Checks.{Check, a_name, a_word, a_number, a_table, an_array, found_or, members_of, meaning_of, value_at, fields_checks, field_checks, a_table_of, Field, keys_of, has_only}
+use Rattle.cl_model.specs.Refusals.{each_from}
 use Rattle.cl_model.specs.Reading.Meanings.{text_of, number_of, list_of, table_of, word_if}
 use Rattle.cl_model.specs.Reading.Tables.{core_fields, core_meaning, label_fields, label_meaning, StimulusForm, stimulus_forms, periodic_form, sporadic_form, stimulus_fields, form_checks, stimulus_checks, stimulus_meaning, runnable_fields, runnable_meaning, task_fields, task_meaning, chain_fields, chain_meaning, requirement_fields, requirement_meaning}
 use Rattle.cl_model.specs.Place.{whole, top, at_item, at_sub, at_key, at_spot}
 use Rattle.cl_model.specs.Reading.{sections, section_checks, top_keys, is_format, is_version, model_checks, model_meaning}
-use Rattle.cl_model.specs.Ranges.{IsTime, IsKindInRange, IsRunnableInRange, IsTaskInRange, IsChainInRange, IsCountInRange, IsInRange}
+use Rattle.cl_model.specs.Ranges.{IsKindInRange, IsRunnableInRange, IsTaskInRange, IsChainInRange, IsCountInRange, IsInRange}
 
 -- ---- lists of refusals in which there is none
 

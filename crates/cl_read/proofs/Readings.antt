@@ -1,10 +1,10 @@
 -- What is answered of a document is the reading of the bytes that write it.
-use Rattle.std.proofs.Common.{◌≡◌, ℕ, List, [], ◌∷◌, Option, Some, None, Result, Ok, Err, refl, sym, ap, subst, ◌∙◌}
+use Rattle.std.proofs.Common.{◌≡◌, ℕ, List, [], ◌∷◌, Some, Result, Ok, Err, refl, sym, ap, subst, ◌∙◌}
 use Rattle.std.specs.Prelude.{IfOk}
 use Rattle.toml.specs.Data.{Members}
 use Rattle.cl_model.specs.declared.model.SystemModel.{SystemModel}
 use Rattle.cl_model.specs.declared.refusal.Refusal.{Refusal}
-use Rattle.cl_model.specs.Refusal.{first, answer}
+use Rattle.cl_model.specs.Refusals.{first, answer}
 use Rattle.cl_model.specs.Reading.{document_of, model_checks, model_meaning, model_in, model_of}
 use Rattle.cl_model.specs.Ranges.{IsInRange}
 use Rattle.cl_read.specs.declared.fault.ReadFault.{ReadFault}

@@ -8,7 +8,7 @@ use Rattle.toml.specs.declared.value.Value.{Value}
 use Rattle.cl_model.specs.declared.refusal.Refusal.{Refusal}
 use Rattle.cl_model.specs.declared.refusal.Code.TheVariants.{M1}
 use Rattle.cl_model.specs.Place.{top}
-use Rattle.cl_model.specs.Refusal.{first}
+use Rattle.cl_model.specs.Refusals.{first}
 use Rattle.cl_read.specs.declared.fault.ReadFault.{ReadFault}
 use Rattle.cl_read.specs.declared.fault.ReadFault.TheVariants.{Refused, NoMemory}
 

@@ -1,10 +1,11 @@
 //! Arrays of a document, and what they may hold.
-ghost use Rattle.std.specs.Prelude.{◌≡◌, ℕ, ◌^◌, ◌<◌, ◌+◌, List as Items, [], map, option_map, length};
+ghost use Rattle.std.specs.Prelude.{◌≡◌, ℕ, ◌≤◌, List as Items, [], map, option_map, length};
 ghost use Rattle.toml.specs.Data.{Data};
 ghost use Rattle.toml.specs.View.{view, table_view};
 ghost use Rattle.cl_model.specs.declared.place.Place.{Place as Spot};
 ghost use Rattle.cl_model.specs.declared.refusal.Refusal.{Refusal};
-ghost use Rattle.cl_model.specs.Reading.Checks.{an_array, each_from, found_or};
+ghost use Rattle.cl_model.specs.Reading.Checks.{an_array, found_or};
+ghost use Rattle.cl_model.specs.Refusals.{each_from};
 ghost use Rattle.cl_model.specs.Reading.Meanings.{list_of};
 ghost use Rattle.cl_read.specs.Answers.{Answers};
 
@@ -28,13 +29,15 @@ pub(crate) trait Member: Drop {
         ensures { result ≡ place_in number array };
 
     fn read(alloc: Global, place: Place, value: &Value) -> Result<Self, ReadFault>
-        ensures { Answers result (checks place (view value.now)) (meaning (view value.now)) };
+        ensures { let d = view value.now in
+            Answers result (checks place d) (meaning d) };
 }
 
-/// Reads members, of which the first has the number `from`.
+/// The members of an array, numbered from 0.
 fn members<T: Member>(alloc: Global, place: Place, values: &[Value]) -> Result<List<T>, ReadFault>
-    requires { length values.now < 2 ^ 32 }
-    ensures { Answers result (each_from 0 (λ n. T.checks (T.place_in n place)) (map view values.now)) (map T.meaning (map view values.now)) }
+    requires { length values.now ≤ u32.MAX }
+    ensures { let ds = map view values.now in
+        Answers result (each_from 0 (λ n. T.checks (T.place_in n place)) ds) (map T.meaning ds) }
 {
     let mut members = List::new(alloc);
     for (i, value) in values.iter().enumerate() {
@@ -43,15 +46,16 @@ fn members<T: Member>(alloc: Global, place: Place, values: &[Value]) -> Result<L
     Ok(members)
 }
 
-/// Reads an array of at most `limit` members.
+/// An array of at most `limit` members.
 pub(crate) fn array<T: Member>(
     alloc: Global,
     place: Place,
     limit: usize,
     value: &Value,
 ) -> Result<List<T>, ReadFault>
-    requires { limit < 2 ^ 32 }
-    ensures { Answers result (an_array limit T.place_in T.checks place (view value.now)) (map T.meaning (list_of (view value.now))) }
+    requires { limit ≤ u32.MAX }
+    ensures { let d = view value.now in
+        Answers result (an_array limit T.place_in T.checks place d) (map T.meaning (list_of d)) }
 {
     match value {
         Value::Array(values) => {
@@ -71,9 +75,11 @@ pub(crate) fn array_or_none<T: Member>(
     limit: usize,
     found: Option<&Value>,
 ) -> Result<List<T>, ReadFault>
-    requires { limit < 2 ^ 32 }
+    requires { limit ≤ u32.MAX }
     ensures { let value = option_map (λ value. view value.now) found.entry in
-        Answers result (found_or [] (an_array limit T.place_in T.checks place) value) (found_or [] (λ d. map T.meaning (list_of d)) value) }
+        Answers result
+        (found_or [] (an_array limit T.place_in T.checks place) value)
+        (found_or [] (λ d. map T.meaning (list_of d)) value) }
 {
     match found {
         Some(value) => array(alloc, place, limit, value),

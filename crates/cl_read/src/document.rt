@@ -1,11 +1,11 @@
 //! The whole document.
-ghost use Rattle.std.specs.Prelude.{◌≡◌, ◌^◌, ◌<◌, Some, None, [], map, MatchResult, IfOk};
+ghost use Rattle.std.specs.Prelude.{◌≤◌, [], map, IfOk};
 ghost use Rattle.toml.specs.Parse.{parse_document};
 ghost use Rattle.toml.specs.View.{table_view};
 ghost use Rattle.cl_model.specs.declared.place.Key.TheVariants as key;
 ghost use Rattle.cl_model.specs.declared.refusal.Code.TheVariants.{M1, M2, M3};
 ghost use Rattle.cl_model.specs.Place.{whole, top, at_key};
-ghost use Rattle.cl_model.specs.Refusal.{unless};
+ghost use Rattle.cl_model.specs.Refusals.{unless};
 ghost use Rattle.cl_model.specs.Reading.Checks.{an_array, found_or, value_at};
 ghost use Rattle.cl_model.specs.Reading.Meanings.{list_of};
 ghost use Rattle.cl_model.specs.Reading.{is_format, is_version, model_checks, model_meaning, document_of, model_of};
@@ -23,7 +23,8 @@ use std::alloc::Global;
 use std::str;
 use toml::{Table, Value};
 
-/// Reads a model file. A file that isn't read is refused with its first refusal, M1 to M10, unless memory runs out.
+/// Reads a model file: the model that its bytes write, or the first refusal of M1 to M10, or want of
+/// memory. A model that is given is in range.
 pub fn read_model(alloc: Global, text: &[u8]) -> Result<SystemModel, ReadFault>
     ensures reads { Reads result (model_of text.now) }
     ensures in_range { IfOk result IsInRange }
@@ -58,9 +59,10 @@ fn parsed(alloc: Global, text: &str) -> Result<Table, ReadFault>
     }
 }
 
-#[tactic(auto, using(crate::proofs::Faults::fault_of_front, crate::proofs::Faults::fault_of_back), unfolding(cl_model::specs::Reading::model_checks, cl_model::specs::Reading::model_meaning))]
+#[tactic(auto, using(crate::proofs::Faults::faults), unfolding(cl_model::specs::Reading::model_checks, cl_model::specs::Reading::model_meaning))]
 fn model(alloc: Global, table: &Table) -> Result<SystemModel, ReadFault>
-    ensures { Answers result (model_checks (table_view table.now)) (model_meaning (table_view table.now)) }
+    ensures { let ms = table_view table.now in
+        Answers result (model_checks ms) (model_meaning ms) }
 {
     format(table)?;
     version(table)?;
@@ -93,7 +95,8 @@ fn model(alloc: Global, table: &Table) -> Result<SystemModel, ReadFault>
 
 /// Refuses a table whose format isn't `chainlat`.
 fn format(table: &Table) -> Result<(), ReadFault>
-    ensures { Answers result (unless (is_format (value_at key.Format (table_view table.now))) M2 (at_key key.Format top)) tt }
+    ensures { let value = value_at key.Format (table_view table.now) in
+        Answers result (unless (is_format value) M2 (at_key key.Format top)) tt }
 {
     match value_at(table, Key::Format) {
         Some(Value::String(word)) if word.as_str() == "chainlat" => Ok(()),
@@ -103,7 +106,8 @@ fn format(table: &Table) -> Result<(), ReadFault>
 
 /// Refuses a table whose version isn't 1.
 fn version(table: &Table) -> Result<(), ReadFault>
-    ensures { Answers result (unless (is_version (value_at key.Version (table_view table.now))) M3 (at_key key.Version top)) tt }
+    ensures { let value = value_at key.Version (table_view table.now) in
+        Answers result (unless (is_version value) M3 (at_key key.Version top)) tt }
 {
     match value_at(table, Key::Version) {
         Some(Value::Integer(1)) => Ok(()),
@@ -119,9 +123,11 @@ fn section<T: Member>(
     part: Part,
     limit: usize,
 ) -> Result<List<T>, ReadFault>
-    requires { limit < 2 ^ 32 }
+    requires { limit ≤ u32.MAX }
     ensures { let value = value_at key (table_view table.now) in
-        Answers result (found_or [] (an_array limit T.place_in T.checks (whole part)) value) (found_or [] (λ d. map T.meaning (list_of d)) value) }
+        Answers result
+        (found_or [] (an_array limit T.place_in T.checks (whole part)) value)
+        (found_or [] (λ d. map T.meaning (list_of d)) value) }
 {
     array_or_none(alloc, part.whole(), limit, value_at(table, key))
 }

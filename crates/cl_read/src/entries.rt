@@ -1,12 +1,12 @@
 //! The tables of a document, one reader for each.
-ghost use Rattle.std.specs.Prelude.{◌≡◌, ◌^◌, ◌<◌};
+ghost use Rattle.std.specs.Prelude.{◌≤◌};
 ghost use Rattle.toml.specs.View.{view, table_view};
 ghost use Rattle.cl_model.specs.declared.limits.TheConstants.{MOST_RUNNABLES};
 ghost use Rattle.cl_model.specs.declared.place.Key.TheVariants as key;
 ghost use Rattle.cl_model.specs.Place.{at_item, at_sub, at_spot};
 ghost use Rattle.cl_model.specs.Reading.Checks.{a_name, a_table, a_table_of, fields_checks, field_checks, an_array, optional, names};
 ghost use Rattle.cl_model.specs.Reading.Meanings.{text_of, table_of, names_at, tables_at};
-ghost use Rattle.cl_model.specs.Reading.Tables.{core_fields, core_meaning, label_fields, label_meaning, stimulus_checks, stimulus_meaning, runnable_fields, runnable_meaning, task_fields, task_meaning, chain_fields, chain_meaning, requirement_fields, requirement_meaning};
+ghost use Rattle.cl_model.specs.Reading.Tables.{core_fields, core_meaning, label_fields, label_meaning, stimulus_checks, stimulus_meaning, runnable_fields, runnables, runnable_meaning, task_fields, task_meaning, chain_fields, chain_meaning, requirement_fields, requirement_meaning};
 ghost use Rattle.cl_read.specs.Answers.{Answers};
 
 use crate::arrays::{Member, array_or_none};
@@ -152,7 +152,8 @@ impl Member for RequirementDef {
 }
 
 fn core(place: Place, table: &Table) -> Result<CoreDef, ReadFault>
-    ensures { Answers result (fields_checks core_fields place (table_view table.now)) (core_meaning (table_view table.now)) }
+    ensures { let ms = table_view table.now in
+        Answers result (fields_checks core_fields place ms) (core_meaning ms) }
 {
     has_only(place, table, &[Key::Name])?;
     Ok(CoreDef {
@@ -161,7 +162,8 @@ fn core(place: Place, table: &Table) -> Result<CoreDef, ReadFault>
 }
 
 fn label(place: Place, table: &Table) -> Result<LabelDef, ReadFault>
-    ensures { Answers result (fields_checks label_fields place (table_view table.now)) (label_meaning (table_view table.now)) }
+    ensures { let ms = table_view table.now in
+        Answers result (fields_checks label_fields place ms) (label_meaning ms) }
 {
     has_only(place, table, &[Key::Name])?;
     Ok(LabelDef {
@@ -177,15 +179,17 @@ fn names(
     key: Key,
     limit: usize,
 ) -> Result<List<Name>, ReadFault>
-    requires { limit < 2 ^ 32 }
-    ensures { Answers result (field_checks place (table_view table.now) (optional key (names limit))) (names_at key (table_view table.now)) }
+    requires { limit ≤ u32.MAX }
+    ensures { let ms = table_view table.now in
+        Answers result (field_checks place ms (optional key (names limit))) (names_at key ms) }
 {
     array_or_none(alloc, place.at_key(key), limit, value_at(table, key))
 }
 
-#[tactic(auto, using(crate::proofs::Faults::fault_of_front, crate::proofs::Faults::fault_of_back), unfolding(cl_model::specs::Reading::Tables::runnable_meaning))]
+#[tactic(auto, using(crate::proofs::Faults::faults), unfolding(cl_model::specs::Reading::Tables::runnable_meaning))]
 fn runnable(alloc: Global, place: Place, table: &Table) -> Result<RunnableDef, ReadFault>
-    ensures { Answers result (fields_checks runnable_fields place (table_view table.now)) (runnable_meaning (table_view table.now)) }
+    ensures { let ms = table_view table.now in
+        Answers result (fields_checks runnable_fields place ms) (runnable_meaning ms) }
 {
     let keys = [
         Key::Name,
@@ -206,16 +210,19 @@ fn runnable(alloc: Global, place: Place, table: &Table) -> Result<RunnableDef, R
 
 /// The runnables of a task, none where they are absent.
 fn runnables(alloc: Global, place: Place, table: &Table) -> Result<List<RunnableDef>, ReadFault>
-    ensures { Answers result (field_checks place (table_view table.now) (optional key.Runnable (an_array MOST_RUNNABLES at_sub (a_table_of runnable_fields))))
-        (tables_at runnable_meaning key.Runnable (table_view table.now)) }
+    ensures { let ms = table_view table.now in
+        Answers result
+        (field_checks place ms (optional key.Runnable runnables))
+        (tables_at runnable_meaning key.Runnable ms) }
 {
     let place = place.at_key(Key::Runnable);
     array_or_none(alloc, place, MOST_RUNNABLES, value_at(table, Key::Runnable))
 }
 
-#[tactic(auto, using(crate::proofs::Faults::fault_of_front, crate::proofs::Faults::fault_of_back), unfolding(cl_model::specs::Reading::Tables::task_meaning))]
+#[tactic(auto, using(crate::proofs::Faults::faults), unfolding(cl_model::specs::Reading::Tables::task_meaning))]
 fn task(alloc: Global, place: Place, table: &Table) -> Result<TaskDef, ReadFault>
-    ensures { Answers result (fields_checks task_fields place (table_view table.now)) (task_meaning (table_view table.now)) }
+    ensures { let ms = table_view table.now in
+        Answers result (fields_checks task_fields place ms) (task_meaning ms) }
 {
     let keys = [
         Key::Name,
@@ -238,9 +245,10 @@ fn task(alloc: Global, place: Place, table: &Table) -> Result<TaskDef, ReadFault
     })
 }
 
-#[tactic(auto, using(crate::proofs::Faults::fault_of_front, crate::proofs::Faults::fault_of_back), unfolding(cl_model::specs::Reading::Tables::chain_meaning))]
+#[tactic(auto, using(crate::proofs::Faults::faults), unfolding(cl_model::specs::Reading::Tables::chain_meaning))]
 fn chain(alloc: Global, place: Place, table: &Table) -> Result<ChainDef, ReadFault>
-    ensures { Answers result (fields_checks chain_fields place (table_view table.now)) (chain_meaning (table_view table.now)) }
+    ensures { let ms = table_view table.now in
+        Answers result (fields_checks chain_fields place ms) (chain_meaning ms) }
 {
     has_only(place, table, &[Key::Name, Key::Runnables, Key::Labels])?;
     Ok(ChainDef {
@@ -250,9 +258,10 @@ fn chain(alloc: Global, place: Place, table: &Table) -> Result<ChainDef, ReadFau
     })
 }
 
-#[tactic(auto, using(crate::proofs::Faults::fault_of_front, crate::proofs::Faults::fault_of_back), unfolding(cl_model::specs::Reading::Tables::requirement_meaning))]
+#[tactic(auto, using(crate::proofs::Faults::faults), unfolding(cl_model::specs::Reading::Tables::requirement_meaning))]
 fn requirement(place: Place, table: &Table) -> Result<RequirementDef, ReadFault>
-    ensures { Answers result (fields_checks requirement_fields place (table_view table.now)) (requirement_meaning (table_view table.now)) }
+    ensures { let ms = table_view table.now in
+        Answers result (fields_checks requirement_fields place ms) (requirement_meaning ms) }
 {
     has_only(place, table, &[Key::Name, Key::Chain, Key::Kind, Key::Most])?;
     Ok(RequirementDef {

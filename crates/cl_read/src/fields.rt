@@ -15,7 +15,8 @@ use cl_model::{AccessKind, Code, Key, LengthKind, Name, Place};
 use toml::Table;
 
 pub(crate) fn name(place: Place, table: &Table, key: Key) -> Result<Name, ReadFault>
-    ensures { Answers result (field_checks place (table_view table.now) (required key a_name)) (text_at key (table_view table.now)) }
+    ensures { let ms = table_view table.now in
+        Answers result (field_checks place ms (required key a_name)) (text_at key ms) }
 {
     let place = place.at_key(key);
     match value_at(table, key) {
@@ -31,7 +32,8 @@ pub(crate) fn number(
     low: u64,
     high: u64,
 ) -> Result<u64, ReadFault>
-    ensures { Answers result (field_checks place (table_view table.now) (required key (a_number low high))) (number_at key (table_view table.now)) }
+    ensures { let ms = table_view table.now in
+        Answers result (field_checks place ms (required key (a_number low high))) (number_at key ms) }
 {
     let place = place.at_key(key);
     match value_at(table, key) {
@@ -47,7 +49,8 @@ pub(crate) fn number_or_zero(
     key: Key,
     high: u64,
 ) -> Result<u64, ReadFault>
-    ensures { Answers result (field_checks place (table_view table.now) (optional key (a_number 0 high))) (number_or 0 key (table_view table.now)) }
+    ensures { let ms = table_view table.now in
+        Answers result (field_checks place ms (optional key (a_number 0 high))) (number_or 0 key ms) }
 {
     match value_at(table, key) {
         Some(value) => values::number(place.at_key(key), 0, high, value),
@@ -63,7 +66,8 @@ pub(crate) fn number_if(
     low: u64,
     high: u64,
 ) -> Result<Option<u64>, ReadFault>
-    ensures { Answers result (field_checks place (table_view table.now) (optional key (a_number low high))) (number_if key (table_view table.now)) }
+    ensures { let ms = table_view table.now in
+        Answers result (field_checks place ms (optional key (a_number low high))) (number_if key ms) }
 {
     match value_at(table, key) {
         Some(value) => Ok(Some(values::number(place.at_key(key), low, high, value)?)),
@@ -72,7 +76,10 @@ pub(crate) fn number_if(
 }
 
 pub(crate) fn access(place: Place, table: &Table, key: Key) -> Result<AccessKind, ReadFault>
-    ensures { Answers result (field_checks place (table_view table.now) (required key (a_word access_words))) (word_at access_words Explicit key (table_view table.now)) }
+    ensures { let ms = table_view table.now in
+        Answers result
+        (field_checks place ms (required key (a_word access_words)))
+        (word_at access_words Explicit key ms) }
 {
     let place = place.at_key(key);
     match value_at(table, key) {
@@ -82,7 +89,10 @@ pub(crate) fn access(place: Place, table: &Table, key: Key) -> Result<AccessKind
 }
 
 pub(crate) fn length(place: Place, table: &Table, key: Key) -> Result<LengthKind, ReadFault>
-    ensures { Answers result (field_checks place (table_view table.now) (required key (a_word length_words))) (word_at length_words Reaction key (table_view table.now)) }
+    ensures { let ms = table_view table.now in
+        Answers result
+        (field_checks place ms (required key (a_word length_words)))
+        (word_at length_words Reaction key ms) }
 {
     let place = place.at_key(key);
     match value_at(table, key) {

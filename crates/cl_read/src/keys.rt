@@ -6,7 +6,7 @@ ghost use Rattle.std.specs.Str.{bytes_eq};
 ghost use Rattle.toml.specs.View.{view, table_view};
 ghost use Rattle.cl_model.specs.declared.refusal.Code.TheVariants.{M4};
 ghost use Rattle.cl_model.specs.Place.{key_text};
-ghost use Rattle.cl_model.specs.Refusal.{unless};
+ghost use Rattle.cl_model.specs.Refusals.{unless};
 ghost use Rattle.cl_model.specs.Reading.Checks.{value_at, has_only};
 ghost use Rattle.cl_read.specs.Answers.{Answers};
 

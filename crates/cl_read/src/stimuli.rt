@@ -4,7 +4,7 @@ ghost use Rattle.toml.specs.Data.{string};
 ghost use Rattle.toml.specs.View.{table_view};
 ghost use Rattle.cl_model.specs.declared.place.Key.TheVariants as key;
 ghost use Rattle.cl_model.specs.Place.{at_key, at_item};
-ghost use Rattle.cl_model.specs.Refusal.{in_order};
+ghost use Rattle.cl_model.specs.Refusals.{in_order};
 ghost use Rattle.cl_model.specs.Reading.Checks.{a_word, a_table, required, field_checks, meaning_of};
 ghost use Rattle.cl_model.specs.Reading.Meanings.{table_of, word_if, word_at};
 ghost use Rattle.cl_model.specs.Reading.Tables.{stimulus_forms, periodic_form, sporadic_form, form_checks, stimulus_checks, stimulus_meaning};
@@ -37,9 +37,10 @@ impl Member for StimulusDef {
     }
 }
 
-#[tactic(auto, using(crate::proofs::Faults::fault_of_front, crate::proofs::Faults::fault_of_back), unfolding(cl_model::specs::Reading::Tables::stimulus_checks, cl_model::specs::Reading::Tables::stimulus_meaning))]
+#[tactic(auto, using(crate::proofs::Faults::faults), unfolding(cl_model::specs::Reading::Tables::stimulus_checks, cl_model::specs::Reading::Tables::stimulus_meaning))]
 fn stimulus(place: Place, table: &Table) -> Result<StimulusDef, ReadFault>
-    ensures { Answers result (stimulus_checks place (table_view table.now)) (stimulus_meaning (table_view table.now)) }
+    ensures { let ms = table_view table.now in
+        Answers result (stimulus_checks place ms) (stimulus_meaning ms) }
 {
     Ok(StimulusDef {
         name: fields::name(place, table, Key::Name)?,
@@ -76,9 +77,10 @@ fn of_kind(place: Place, table: &Table, word: &str) -> Result<StimulusKind, Read
     }
 }
 
-#[tactic(auto, using(crate::proofs::Faults::fault_of_front, crate::proofs::Faults::fault_of_back))]
+#[tactic(auto, using(crate::proofs::Faults::faults))]
 fn periodic(place: Place, table: &Table) -> Result<StimulusKind, ReadFault>
-    ensures { Answers result (form_checks place (table_view table.now) (Some periodic_form)) (periodic_form.meaning (table_view table.now)) }
+    ensures { let ms = table_view table.now in
+        Answers result (form_checks place ms (Some periodic_form)) (periodic_form.meaning ms) }
 {
     let keys = [Key::Name, Key::Kind, Key::Period, Key::Offset, Key::Jitter];
     has_only(place, table, &keys)?;
@@ -89,9 +91,10 @@ fn periodic(place: Place, table: &Table) -> Result<StimulusKind, ReadFault>
     })
 }
 
-#[tactic(auto, using(crate::proofs::Faults::fault_of_front, crate::proofs::Faults::fault_of_back))]
+#[tactic(auto, using(crate::proofs::Faults::faults))]
 fn sporadic(place: Place, table: &Table) -> Result<StimulusKind, ReadFault>
-    ensures { Answers result (form_checks place (table_view table.now) (Some sporadic_form)) (sporadic_form.meaning (table_view table.now)) }
+    ensures { let ms = table_view table.now in
+        Answers result (form_checks place ms (Some sporadic_form)) (sporadic_form.meaning ms) }
 {
     has_only(
         place,

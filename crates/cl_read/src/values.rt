@@ -13,7 +13,8 @@ use cl_model::{AccessKind, Code, LengthKind, Name, Place};
 use toml::Value;
 
 pub(crate) fn name(place: Place, value: &Value) -> Result<Name, ReadFault>
-    ensures { Answers result (a_name place (view value.now)) (text_of (view value.now)) }
+    ensures { let d = view value.now in
+        Answers result (a_name place d) (text_of d) }
 {
     match value {
         Value::String(word) => match Name::read(word.as_bytes()) {
@@ -26,7 +27,8 @@ pub(crate) fn name(place: Place, value: &Value) -> Result<Name, ReadFault>
 
 /// A whole number from `low` to `high`.
 pub(crate) fn number(place: Place, low: u64, high: u64, value: &Value) -> Result<u64, ReadFault>
-    ensures { Answers result (a_number low high place (view value.now)) (number_of (view value.now)) }
+    ensures { let d = view value.now in
+        Answers result (a_number low high place d) (number_of d) }
 {
     match value {
         Value::Integer(number) => match u64::try_from(*number) {
@@ -49,8 +51,10 @@ fn access_of(word: &str) -> Option<AccessKind>
 }
 
 pub(crate) fn access(place: Place, value: &Value) -> Result<AccessKind, ReadFault>
-    ensures { Answers result (a_word access_words place (view value.now))
-        (unwrap_or (meaning_of access_words (text_of (view value.now))) Explicit) }
+    ensures { let d = view value.now in
+        Answers result
+        (a_word access_words place d)
+        (unwrap_or (meaning_of access_words (text_of d)) Explicit) }
 {
     match value {
         Value::String(word) => match access_of(word.as_str()) {
@@ -73,8 +77,10 @@ fn length_of(word: &str) -> Option<LengthKind>
 }
 
 pub(crate) fn length(place: Place, value: &Value) -> Result<LengthKind, ReadFault>
-    ensures { Answers result (a_word length_words place (view value.now))
-        (unwrap_or (meaning_of length_words (text_of (view value.now))) Reaction) }
+    ensures { let d = view value.now in
+        Answers result
+        (a_word length_words place d)
+        (unwrap_or (meaning_of length_words (text_of d)) Reaction) }
 {
     match value {
         Value::String(word) => match length_of(word.as_str()) {

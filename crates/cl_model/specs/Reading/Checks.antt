@@ -10,7 +10,7 @@ use Rattle.cl_model.specs.declared.refusal.Code.TheVariants.{M4, M5, M6, M7, M8,
 use Rattle.cl_model.specs.declared.refusal.Refusal.{Refusal}
 use Rattle.cl_model.specs.Name.{is_name}
 use Rattle.cl_model.specs.Place.{key_text, at_key, at_spot}
-use Rattle.cl_model.specs.Refusal.{refuse, unless, in_order}
+use Rattle.cl_model.specs.Refusals.{refuse, unless, in_order, each_from}
 
 -- the checks of one value, at its place
 abbrev pub Check : Type 0
@@ -50,11 +50,6 @@ a_number low high place _ = refuse M6 place
 abbrev pub members_of : Items → List Data
 members_of no_items = []
 members_of (item d ds) = d ∷ members_of ds
-
--- the checks of each value, where the first has the number n
-abbrev pub each_from : ℕ → (ℕ → Data → List Refusal) → List Data → List Refusal
-each_from n check [] = []
-each_from n check (d ∷ ds) = check n d ++ each_from (n + 1) check ds
 
 -- M6 where it isn't an array, M10 where that has more members than the limit, and then each member at its place
 abbrev pub an_array : ℕ → (ℕ → Place → Place) → Check → Check

@@ -22,7 +22,7 @@ use Rattle.cl_model.specs.declared.chain.ChainDef.{ChainDef}
 use Rattle.cl_model.specs.declared.chain.RequirementDef.{RequirementDef}
 use Rattle.cl_model.specs.Reading.Checks.{Check, a_name, a_word, a_number, names, an_array, a_table_of, Field, required, optional, field_checks, keys_of, has_only}
 use Rattle.cl_model.specs.Place.{at_sub}
-use Rattle.cl_model.specs.Refusal.{unless, in_order}
+use Rattle.cl_model.specs.Refusals.{unless, in_order}
 use Rattle.cl_model.specs.Reading.Meanings.{text_at, number_at, number_or, number_if, word_if, word_at, names_at, tables_at}
 
 -- a time from 1 up, and one from 0 up
@@ -34,12 +34,14 @@ a_time_or_zero = a_number 0 MOST_TICKS
 
 -- ---- cores and labels
 
+-- the keys of a core, and what they mean
 abbrev pub core_fields : List Field
 core_fields = required key.Name a_name ∷ []
 
 abbrev pub core_meaning : Members → CoreDef
 core_meaning ms = record { name = text_at key.Name ms }
 
+-- the keys of a label, and what they mean
 abbrev pub label_fields : List Field
 label_fields = required key.Name a_name ∷ []
 
@@ -53,18 +55,21 @@ pub record StimulusForm : Type 0 where
   pub fields : List Field
   pub meaning : Members → StimulusKind
 
+-- a periodic stimulus
 abbrev pub periodic_form : StimulusForm
 periodic_form = record {
   fields = required key.Period a_time ∷ optional key.Offset a_time_or_zero ∷ optional key.Jitter a_time_or_zero ∷ [];
   meaning = λ ms. Periodic (number_at key.Period ms) (number_or 0 key.Offset ms) (number_or 0 key.Jitter ms);
 }
 
+-- a sporadic stimulus
 abbrev pub sporadic_form : StimulusForm
 sporadic_form = record {
   fields = required key.Least a_time ∷ required key.Greatest a_time ∷ [];
   meaning = λ ms. Sporadic (number_at key.Least ms) (number_at key.Greatest ms);
 }
 
+-- the kinds, by their words
 abbrev pub stimulus_forms : List (List ℕ × StimulusForm)
 stimulus_forms = (codes "periodic", periodic_form) ∷ (codes "sporadic", sporadic_form) ∷ []
 
@@ -83,6 +88,7 @@ unfoldable pub stimulus_checks : Place → Members → List Refusal
 stimulus_checks place ms =
     in_order (map (field_checks place ms) stimulus_fields ++ form_checks place ms (word_if stimulus_forms key.Kind ms) ∷ [])
 
+-- what the keys of a stimulus mean
 unfoldable pub stimulus_meaning : Members → StimulusDef
 stimulus_meaning ms = record {
   name = text_at key.Name ms;
@@ -91,6 +97,7 @@ stimulus_meaning ms = record {
 
 -- ---- tasks and their runnables
 
+-- the keys of a runnable, and what they mean
 abbrev pub runnable_fields : List Field
 runnable_fields =
     required key.Name a_name
@@ -109,9 +116,15 @@ runnable_meaning ms = record {
   writes = names_at key.Writes ms;
 }
 
+-- the runnables of a task
+abbrev pub runnables : Check
+runnables = an_array MOST_RUNNABLES at_sub (a_table_of runnable_fields)
+
+-- the kinds of access, by their words
 abbrev pub access_words : List (List ℕ × AccessKind)
 access_words = (codes "explicit", Explicit) ∷ (codes "implicit", Implicit) ∷ (codes "timed", Timed) ∷ []
 
+-- the keys of a task, and what they mean
 abbrev pub task_fields : List Field
 task_fields =
     required key.Name a_name
@@ -120,7 +133,7 @@ task_fields =
     ∷ required key.Priority (a_number 0 MOST_PRIORITY)
     ∷ required key.Access (a_word access_words)
     ∷ optional key.Deadline a_time
-    ∷ optional key.Runnable (an_array MOST_RUNNABLES at_sub (a_table_of runnable_fields))
+    ∷ optional key.Runnable runnables
     ∷ []
 
 unfoldable pub task_meaning : Members → TaskDef
@@ -136,6 +149,7 @@ task_meaning ms = record {
 
 -- ---- chains and requirements
 
+-- the keys of a chain, and what they mean
 abbrev pub chain_fields : List Field
 chain_fields =
     required key.Name a_name
@@ -150,9 +164,11 @@ chain_meaning ms = record {
   labels = names_at key.Labels ms;
 }
 
+-- the kinds of length, by their words
 abbrev pub length_words : List (List ℕ × LengthKind)
 length_words = (codes "reaction", Reaction) ∷ (codes "age", Age) ∷ (codes "reduced", Reduced) ∷ []
 
+-- the keys of a requirement, and what they mean
 abbrev pub requirement_fields : List Field
 requirement_fields =
     required key.Name a_name

@@ -1,4 +1,4 @@
-use Rattle.std.proofs.Common.{◌∙◌, arith}
+use Rattle.std.proofs.Common.{arith}
 use Rattle.toml.proofs.Views.{view-Array}
 use Rattle.cl_read.proofs.Documents.{members_of-items, array_too_long, array_fits}
 use Rattle.cl_read.proofs.arrays.array.Goals as goal

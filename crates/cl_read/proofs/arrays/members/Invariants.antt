@@ -1,6 +1,6 @@
 use Rattle.std.proofs.Common.{◌≡◌, map, take, drop}
 use Rattle.toml.specs.View.{view}
-use Rattle.cl_model.specs.Reading.Checks.{each_from}
+use Rattle.cl_model.specs.Refusals.{each_from}
 use Rattle.cl_read.proofs.arrays.members.Given as goal
 
 -- what is refused in all members is what is refused in those that are left, and the members so far are read

@@ -1,0 +1,11 @@
+-- Adding to names without repeats.
+use Rattle.std.specs.Prelude.{◌≡◌, ℕ, false, if◌then◌else◌, List, [], ◌∷◌, ◌++◌, take, slice_index_or, EachIndex}
+use Rattle.cl_model.specs.Named.{has_name}
+
+-- the names with one more, unless it is there already
+abbrev pub names_with : List ℕ → List (List ℕ) → List (List ℕ)
+names_with name names = if has_name name names then names else names ++ name ∷ []
+
+-- no name stands earlier in the list
+abbrev pub AreApart : List (List ℕ) → Type 0
+AreApart names = EachIndex names (λ n. has_name (slice_index_or names n []) (take n names) ≡ false)

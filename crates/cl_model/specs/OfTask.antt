@@ -1,0 +1,51 @@
+-- What a model says of its tasks, by their numbers. Times are in ticks.
+use Rattle.std.specs.Prelude.{ℕ, List, [], slice_index_or, Option, None, unwrap_or}
+use Rattle.cl_model.specs.declared.model.SystemModel.{SystemModel}
+use Rattle.cl_model.specs.declared.stimulus.StimulusKind.{StimulusKind}
+use Rattle.cl_model.specs.declared.stimulus.StimulusKind.TheVariants.{Sporadic}
+use Rattle.cl_model.specs.declared.task.AccessKind.TheVariants.{Explicit}
+use Rattle.cl_model.specs.declared.task.TaskDef.{TaskDef}
+use Rattle.cl_model.specs.Named.{place_of, core_names, task_names, kind_named}
+use Rattle.cl_model.specs.Timing.{greatest_jitter, deadline_under}
+
+-- stands for a task past the last one
+unfoldable pub no_task : TaskDef
+no_task = record { name = []; core = []; stimulus = []; priority = 0; access = Explicit; deadline = None; runnables = [] }
+
+-- stands for a stimulus that isn't known
+unfoldable pub no_stimulus : StimulusKind
+no_stimulus = Sporadic 0 0
+
+-- the task of that number
+abbrev pub task_at : SystemModel → ℕ → TaskDef
+task_at model i = slice_index_or model.tasks i no_task
+
+-- the number of the core that a task names
+abbrev pub core_number : SystemModel → TaskDef → ℕ
+core_number model task = unwrap_or (place_of task.core (core_names model)) 0
+
+-- the kind of the stimulus that a task names
+abbrev pub kind_of : SystemModel → TaskDef → StimulusKind
+kind_of model task = unwrap_or (kind_named model task.stimulus) no_stimulus
+
+-- ---- of task i
+
+-- the number of its core
+abbrev pub core_of : SystemModel → ℕ → ℕ
+core_of model i = core_number model (task_at model i)
+
+-- the kind of its stimulus
+abbrev pub stimulus_of : SystemModel → ℕ → StimulusKind
+stimulus_of model i = kind_of model (task_at model i)
+
+-- its deadline, given or not
+abbrev pub deadline_of : SystemModel → ℕ → ℕ
+deadline_of model i = deadline_under (stimulus_of model i) (task_at model i)
+
+-- its greatest jitter
+abbrev pub jitter_of : SystemModel → ℕ → ℕ
+jitter_of model i = greatest_jitter (stimulus_of model i)
+
+-- the number of the task of that name
+abbrev pub task_named : SystemModel → List ℕ → Option ℕ
+task_named model name = place_of name (task_names model)

@@ -1,0 +1,88 @@
+//! The names of the entries of a section.
+ghost use Rattle.std.specs.Prelude.{◌≡◌, List, ℕ, map, IfOk};
+ghost use Rattle.cl_model.specs.NameSets.{AreApart};
+
+use crate::chain::{ChainDef, RequirementDef};
+use crate::model::{CoreDef, LabelDef};
+use crate::name::Name;
+use crate::name_set::NameSet;
+use crate::stimulus::StimulusDef;
+use crate::task::{RunnableDef, TaskDef};
+use cl_time::NoMemory;
+use std::alloc::Global;
+
+/// What has a name.
+pub trait Named {
+    ghost name_of: { Self → List ℕ };
+
+    fn name(&self) -> &Name
+        ensures { result.now ≡ name_of self.now };
+}
+
+/// The names of entries that have different ones, numbered as the entries.
+pub fn name_numbers<T: Named>(alloc: Global, entries: &[T]) -> Result<NameSet, NoMemory>
+    requires { AreApart (map T.name_of entries.now) }
+    ensures { IfOk result (λ names. names ≡ map T.name_of entries.now) }
+{
+    let mut names = NameSet::new(alloc);
+    for entry in entries {
+        let _ = names.add(entry.name())?;
+    }
+    Ok(names)
+}
+
+impl Named for CoreDef {
+    ghost name_of = { λ core. core.name };
+
+    fn name(&self) -> &Name {
+        &self.name
+    }
+}
+
+impl Named for StimulusDef {
+    ghost name_of = { λ stimulus. stimulus.name };
+
+    fn name(&self) -> &Name {
+        &self.name
+    }
+}
+
+impl Named for LabelDef {
+    ghost name_of = { λ label. label.name };
+
+    fn name(&self) -> &Name {
+        &self.name
+    }
+}
+
+impl Named for TaskDef {
+    ghost name_of = { λ task. task.name };
+
+    fn name(&self) -> &Name {
+        &self.name
+    }
+}
+
+impl Named for RunnableDef {
+    ghost name_of = { λ runnable. runnable.name };
+
+    fn name(&self) -> &Name {
+        &self.name
+    }
+}
+
+impl Named for ChainDef {
+    ghost name_of = { λ chain. chain.name };
+
+    fn name(&self) -> &Name {
+        &self.name
+    }
+}
+
+impl Named for RequirementDef {
+    ghost name_of = { λ requirement. requirement.name };
+
+    fn name(&self) -> &Name {
+        &self.name
+    }
+}

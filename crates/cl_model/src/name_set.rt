@@ -1,0 +1,67 @@
+//! Names that are numbered and found by their bytes.
+ghost use Rattle.std.specs.Prelude.{◌≡◌, ◌<◌, [], ◌∷◌, ◌++◌, not, length, IfOk, OnOk, OnErr, IfSome, is_some};
+ghost use Rattle.cl_model.specs.Named.{has_name, place_of};
+ghost use Rattle.cl_model.specs.NameSets.{names_with};
+
+use crate::name::Name;
+use cl_time::NoMemory;
+use indexmap::IndexSet;
+use std::alloc::Global;
+use std::marker::Model;
+
+/// Names without repeats, numbered in the order in which they came. A name is found in constant time.
+#[derive(Drop)]
+pub struct NameSet {
+    names: IndexSet<Name>,
+}
+
+impl Model for NameSet {
+    ghost use Rattle.std.specs.Prelude.{List, ℕ};
+
+    ghost Value = { List (List ℕ) };
+
+    ghost view = { λ set. set.names.keys };
+}
+
+impl NameSet {
+    /// No names. It takes no memory.
+    pub fn new(alloc: Global) -> NameSet
+        ensures { result ≡ [] }
+    {
+        NameSet {
+            names: IndexSet::new(alloc),
+        }
+    }
+
+    /// The number of names.
+    pub fn len(&self) -> usize
+        ensures { result ≡ length self.now }
+    {
+        self.names.len()
+    }
+
+    /// Adds a name behind the others, and tells whether it is new. A name that is there already changes nothing.
+    pub fn add(&mut self, name: &Name) -> Result<bool, NoMemory>
+        ensures is_new { IfOk result (λ is_new. is_new ≡ not (has_name name.now self.old)) }
+        ensures ok { OnOk result (self.new ≡ names_with name.now self.old) }
+        ensures err { OnErr result (self.new ≡ self.old) }
+    {
+        Ok(self.names.insert(name.copy())?)
+    }
+
+    /// Whether a name is there.
+    pub fn contains(&self, name: &Name) -> bool
+        ensures { result ≡ has_name name.now self.now }
+    {
+        self.names.contains(name)
+    }
+
+    /// The number of a name, counted from 0. There is none exactly where the name isn't there.
+    pub fn number_of(&self, name: &Name) -> Option<usize>
+        ensures number { result ≡ place_of name.now self.now }
+        ensures found { is_some result ≡ has_name name.now self.now }
+        ensures within { IfSome result (λ number. number < length self.now) }
+    {
+        self.names.get_index_of(name)
+    }
+}
