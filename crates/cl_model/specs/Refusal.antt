@@ -1,9 +1,8 @@
 -- How a refusal prints.
-use Rattle.std.specs.Prelude.{ℕ, Bool, if◌then◌else◌, List, [], ◌∷◌, ◌++◌, Option, Some, None, Result, Ok, Err, codes}
+use Rattle.std.specs.Prelude.{ℕ, List, ◌++◌, codes}
 use Rattle.cl_model.specs.declared.refusal.Code.{Code}
 use Rattle.cl_model.specs.declared.refusal.Code.TheVariants as code
 use Rattle.cl_model.specs.declared.refusal.Refusal.{Refusal}
-use Rattle.cl_model.specs.declared.place.Place.{Place}
 use Rattle.cl_model.specs.Place.{place_text}
 
 -- a code as it prints

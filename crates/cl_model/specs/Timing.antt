@@ -1,5 +1,5 @@
 -- What a stimulus says of the jobs of a task. Times are in ticks. Source: this project's profile.
-use Rattle.std.specs.Prelude.{ℕ, Option, unwrap_or}
+use Rattle.std.specs.Prelude.{ℕ, unwrap_or}
 use Rattle.cl_model.specs.declared.stimulus.StimulusKind.{StimulusKind}
 use Rattle.cl_model.specs.declared.stimulus.StimulusKind.TheVariants.{Periodic, Sporadic}
 use Rattle.cl_model.specs.declared.task.TaskDef.{TaskDef}

@@ -3,6 +3,7 @@ use Rattle.std.specs.Prelude.{ℕ, ◌+◌, ◌*◌, Bool, ◌&&◌, ◌==◌, n
 use Rattle.std.specs.List.{list_any}
 use Rattle.cl_model.specs.declared.limits.TheConstants.{MOST_TASKS_OF_CORE, MOST_RUNNABLES_OF_MODEL, MOST_DISTANCES}
 use Rattle.cl_model.specs.declared.place.Part.TheVariants as part
+use Rattle.cl_model.specs.declared.place.Key.{Key}
 use Rattle.cl_model.specs.declared.place.Key.TheVariants as key
 use Rattle.cl_model.specs.declared.place.Place.{Place}
 use Rattle.cl_model.specs.declared.refusal.Code.{Code}
@@ -20,54 +21,91 @@ use Rattle.cl_model.specs.ValidNames.{repeats}
 
 -- ---- a task and what it names
 
--- whether a task has the priority of one of these
-abbrev pub repeats_priority : TaskDef → List TaskDef → Bool
-repeats_priority task others = list_any (λ other. other.priority == task.priority) others
+-- a key of task i
+abbrev pub task_key : ℕ → Key → Place
+task_key i key = at_key key (entry_of part.Task i)
 
--- whether the deadline exceeds the least distance
-abbrev pub has_late_deadline : TaskDef → StimulusKind → Bool
-has_late_deadline task kind = nat_lt (least_distance kind) (deadline_under kind task)
+-- M29: its core is known
+abbrev pub core_check : List (List ℕ) → ℕ → TaskDef → List Refusal
+core_check cores i task = unless (has_name task.core cores) M29 (task_key i key.Core)
 
--- whether a job may be released at its deadline or later
-abbrev pub has_late_release : TaskDef → StimulusKind → Bool
-has_late_release task kind = nat_le (deadline_under kind task) (greatest_jitter kind)
+-- M30: its stimulus is known
+abbrev pub stimulus_check : Option StimulusKind → ℕ → List Refusal
+stimulus_check kind i = unless (is_some kind) M30 (task_key i key.Stimulus)
+
+-- M31: no earlier task of its core has its priority
+abbrev pub priority_check : List TaskDef → ℕ → TaskDef → List Refusal
+priority_check earlier i task = when (list_any (λ other. other.priority == task.priority) earlier) M31 (task_key i key.Priority)
+
+-- M32: the deadline doesn't exceed the least distance
+abbrev pub late_check : Option StimulusKind → ℕ → TaskDef → List Refusal
+late_check kind i task = when (is_some_and kind (λ kind. nat_lt (least_distance kind) (deadline_under kind task))) M32 (task_key i key.Deadline)
+
+-- M33: a job is released before its deadline
+abbrev pub release_check : Option StimulusKind → ℕ → TaskDef → List Refusal
+release_check kind i task = when (is_some_and kind (λ kind. nat_le (deadline_under kind task) (greatest_jitter kind))) M33 (task_key i key.Stimulus)
+
+-- M34: its core isn't full before it
+abbrev pub room_check : ℕ → ℕ → List Refusal
+room_check earlier i = when (earlier == MOST_TASKS_OF_CORE) M34 (task_key i key.Core)
+
+-- M35: it has a runnable
+abbrev pub empty_check : ℕ → TaskDef → List Refusal
+empty_check i task = when (length task.runnables == 0) M35 (entry_of part.Task i)
 
 -- M29 to M35, for task i
 unfoldable pub naming_checks : SystemModel → ℕ → TaskDef → List Refusal
 naming_checks model i task =
-    let place = entry_of part.Task i in
     let kind = kind_named model task.stimulus in
     let earlier = tasks_on task.core (take i model.tasks) in
-    in_order (unless (has_name task.core (core_names model)) M29 (at_key key.Core place)
-    ∷ unless (is_some kind) M30 (at_key key.Stimulus place)
-    ∷ when (repeats_priority task earlier) M31 (at_key key.Priority place)
-    ∷ when (is_some_and kind (has_late_deadline task)) M32 (at_key key.Deadline place)
-    ∷ when (is_some_and kind (has_late_release task)) M33 (at_key key.Stimulus place)
-    ∷ when (length earlier == MOST_TASKS_OF_CORE) M34 (at_key key.Core place)
-    ∷ when (length task.runnables == 0) M35 place
+    in_order (core_check (core_names model) i task
+    ∷ stimulus_check kind i
+    ∷ priority_check earlier i task
+    ∷ late_check kind i task
+    ∷ release_check kind i task
+    ∷ room_check (length earlier) i
+    ∷ empty_check i task
     ∷ [])
 
 -- ---- the runnables of a task
 
--- label k is known
+-- label k of the list is known
 abbrev pub label_check : Code → Place → List (List ℕ) → ℕ → List ℕ → List Refusal
 label_check code place known k label = unless (has_name label known) code (at_spot k place)
 
--- M40: label k isn't written yet
+-- label k of the list isn't written yet
 abbrev pub writer_check : Place → List (List ℕ) → ℕ → List ℕ → List Refusal
 writer_check place written k label = when (has_name label written) M40 (at_spot k place)
+
+-- M36: the least time doesn't exceed the greatest
+abbrev pub times_check : Place → RunnableDef → List Refusal
+times_check place runnable = when (nat_lt runnable.greatest runnable.least) M36 (at_key key.Greatest place)
+
+-- M37: each label that is read is known
+abbrev pub reads_check : List (List ℕ) → Place → RunnableDef → List Refusal
+reads_check known place runnable = each (label_check M37 (at_key key.Reads place) known) runnable.reads
+
+-- M38: each label that is written is known
+abbrev pub writes_check : List (List ℕ) → Place → RunnableDef → List Refusal
+writes_check known place runnable = each (label_check M38 (at_key key.Writes place) known) runnable.writes
+
+-- M39: no label stands twice in a list
+abbrev pub twice_check : Place → List (List ℕ) → List Refusal
+twice_check place labels = repeats M39 (λ k. at_spot k place) [] labels
+
+-- M40: no label is written by an earlier runnable
+abbrev pub contest_check : List (List ℕ) → Place → RunnableDef → List Refusal
+contest_check written place runnable = each (writer_check (at_key key.Writes place) written) runnable.writes
 
 -- M36 to M40, for the runnable at a place: these labels are known, and these are written by earlier runnables
 unfoldable pub runnable_checks : List (List ℕ) → List (List ℕ) → Place → RunnableDef → List Refusal
 runnable_checks known written place runnable =
-    let reads = at_key key.Reads place in
-    let writes = at_key key.Writes place in
-    in_order (when (nat_lt runnable.greatest runnable.least) M36 (at_key key.Greatest place)
-    ∷ each (label_check M37 reads known) runnable.reads
-    ∷ each (label_check M38 writes known) runnable.writes
-    ∷ repeats M39 (λ k. at_spot k reads) [] runnable.reads
-    ∷ repeats M39 (λ k. at_spot k writes) [] runnable.writes
-    ∷ each (writer_check writes written) runnable.writes
+    in_order (times_check place runnable
+    ∷ reads_check known place runnable
+    ∷ writes_check known place runnable
+    ∷ twice_check (at_key key.Reads place) runnable.reads
+    ∷ twice_check (at_key key.Writes place) runnable.writes
+    ∷ contest_check written place runnable
     ∷ [])
 
 -- the checks of runnable p of a task
@@ -110,7 +148,7 @@ is_outpaced_by model task other =
 -- M42, for task i, over the tasks of its core
 abbrev pub deadline_check : SystemModel → ℕ → TaskDef → List Refusal
 deadline_check model i task =
-    when (list_any (is_outpaced_by model task) (tasks_on task.core model.tasks)) M42 (at_key key.Deadline (entry_of part.Task i))
+    when (list_any (is_outpaced_by model task) (tasks_on task.core model.tasks)) M42 (task_key i key.Deadline)
 
 -- M42, for each task
 abbrev pub deadline_checks : SystemModel → List Refusal

@@ -37,14 +37,16 @@ misses_label model chain k label =
 abbrev pub hop_check : SystemModel → ChainDef → Place → ℕ → List ℕ → List Refusal
 hop_check model chain place k label = when (misses_label model chain k label) M45 (at_spot k place)
 
--- M43 to M45, for chain i; M43 asks for one label fewer than runnables
+-- M43: a chain has one label fewer than runnables
+abbrev pub lengths_check : ℕ → ChainDef → List Refusal
+lengths_check i chain = unless (length chain.labels + 1 == length chain.runnables) M43 (at_key key.Labels (entry_of part.Chain i))
+
+-- M43 to M45, for chain i
 unfoldable pub chain_check : SystemModel → ℕ → ChainDef → List Refusal
 chain_check model i chain =
-    let runnables = at_key key.Runnables (entry_of part.Chain i) in
-    let labels = at_key key.Labels (entry_of part.Chain i) in
-    in_order (unless (length chain.labels + 1 == length chain.runnables) M43 labels
-    ∷ each (step_check model runnables) chain.runnables
-    ∷ each (hop_check model chain labels) chain.labels
+    in_order (lengths_check i chain
+    ∷ each (step_check model (at_key key.Runnables (entry_of part.Chain i))) chain.runnables
+    ∷ each (hop_check model chain (at_key key.Labels (entry_of part.Chain i))) chain.labels
     ∷ [])
 
 -- M46: requirement i names a chain

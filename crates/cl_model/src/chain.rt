@@ -16,7 +16,7 @@ pub enum LengthKind {
 }
 
 /// A path of runnables, where each hands a label to the next.
-#[derive(Debug, Drop)]
+#[derive(Debug, PartialEq, Eq, Drop)]
 pub struct ChainDef {
     pub name: Name,
     pub runnables: List<Name>,
@@ -25,7 +25,7 @@ pub struct ChainDef {
 }
 
 /// The most that a length of a chain may be.
-#[derive(Debug, Drop)]
+#[derive(Debug, PartialEq, Eq, Drop)]
 pub struct RequirementDef {
     pub name: Name,
     pub chain: Name,

@@ -1,6 +1,7 @@
 //! Lists that grow as long as there is memory.
 ghost use Rattle.std.specs.Prelude.{◌≡◌, ◌↔◌, [], ◌∷◌, ◌++◌, length, take, slice_get, IsTrue, IfOk, OnOk, OnErr};
 ghost use Rattle.std.specs.Option.{option_copied};
+ghost use Rattle.std.specs.Cmp.Lexicographic.{pointwise, lists_per, lists_equiv};
 ghost use Rattle.std.specs.Slice.Iter.{iter_rest};
 
 use crate::copying::TryCopy;
@@ -93,6 +94,20 @@ impl<'a, T> IntoIterator for &'a List<T> {
     fn into_iter(self) -> slice::Iter<'a, T> {
         self.iter()
     }
+}
+
+impl<T: PartialEq> PartialEq for List<T> {
+    ghost eq = { pointwise T.eq };
+
+    ghost laws = { lists_per T.laws };
+
+    fn eq(&self, other: &List<T>) -> bool {
+        self.as_slice() == other.as_slice()
+    }
+}
+
+impl<T: Eq> Eq for List<T> {
+    ghost laws = { lists_equiv T.Eq.laws };
 }
 
 impl<T: TryCopy + Drop> TryCopy for List<T> {

@@ -11,19 +11,19 @@ use cl_time::NoMemory;
 use std::alloc::Global;
 
 /// A core. It runs at most one task in each tick.
-#[derive(Debug, Drop)]
+#[derive(Debug, PartialEq, Eq, Drop)]
 pub struct CoreDef {
     pub name: Name,
 }
 
 /// A label, which runnables read and write.
-#[derive(Debug, Drop)]
+#[derive(Debug, PartialEq, Eq, Drop)]
 pub struct LabelDef {
     pub name: Name,
 }
 
 /// A model. It need not be valid: its names may be unknown and its numbers may not fit together.
-#[derive(Debug, Drop)]
+#[derive(Debug, PartialEq, Eq, Drop)]
 pub struct SystemModel {
     pub cores: List<CoreDef>,
     pub stimuli: List<StimulusDef>,

@@ -23,7 +23,7 @@ pub enum StimulusKind {
 }
 
 /// A stimulus, which tasks name.
-#[derive(Debug, Drop)]
+#[derive(Debug, PartialEq, Eq, Drop)]
 pub struct StimulusDef {
     pub name: Name,
     pub kind: StimulusKind,

@@ -19,7 +19,7 @@ pub enum AccessKind {
 }
 
 /// A step of a job: how long it executes, and which labels it reads and writes.
-#[derive(Debug, Drop)]
+#[derive(Debug, PartialEq, Eq, Drop)]
 pub struct RunnableDef {
     pub name: Name,
     /// The least execution time.
@@ -31,7 +31,7 @@ pub struct RunnableDef {
 }
 
 /// A task: a pattern of jobs on one core.
-#[derive(Debug, Drop)]
+#[derive(Debug, PartialEq, Eq, Drop)]
 pub struct TaskDef {
     pub name: Name,
     pub core: Name,
