@@ -4,6 +4,7 @@ use cl_io::{MemShelf, MemSink, Shelf, Sink, Words};
 use cl_time::{NoMemory, Steps};
 use cl_top::run;
 use std::alloc::Global;
+use std::marker::Brand;
 use std::sync::ledger::{Blank, Ledger};
 
 /// Room for every text of the tests.
@@ -30,9 +31,27 @@ pub(crate) fn roomy_sink(alloc: Global) -> Result<MemSink, NoMemory> {
     MemSink::new(alloc, ROOM, ROOM)
 }
 
-/// Runs a command with a counter of steps that nothing reads. A test calls it with `Blank::new(1)`, and its
-/// `Invariants.antt` picks the ledger of that blank.
-pub(crate) fn run_uncounted<S: Shelf, K: Sink, L: Ledger>(
+/// Runs a command with a counter of steps that nothing reads.
+pub(crate) fn run_here<S: Shelf, K: Sink>(
+    alloc: Global,
+    words: &Words,
+    shelf: &mut S,
+    sink: &mut K,
+) -> u8 {
+    run_uncounted::<S, K, Brand>(alloc, words, shelf, sink, Blank::new(1))
+}
+
+/// What `analyse` of a file answers: its status, and the sink that it wrote to.
+pub(crate) fn answer_of(alloc: Global, content: &[u8]) -> Result<(u8, MemSink), NoMemory> {
+    let words = words_of(alloc, "analyse model")?;
+    let mut shelf = shelf_of(alloc, "model", content)?;
+    let mut sink = roomy_sink(alloc)?;
+    let status = run_here(alloc, &words, &mut shelf, &mut sink);
+    Ok((status, sink))
+}
+
+/// Runs a command with a counter on this blank; `Invariants.antt` of `run_here` picks the ledger of the blank.
+fn run_uncounted<S: Shelf, K: Sink, L: Ledger>(
     alloc: Global,
     words: &Words,
     shelf: &mut S,

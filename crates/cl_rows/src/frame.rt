@@ -1,15 +1,8 @@
-use crate::calls::{roomy_sink, run_uncounted, shelf_of, words_of};
-use cl_io::{MemSink, Shelf, Sink, SureShelf, SureSink, Words};
+use crate::base::EMPTY;
+use crate::calls::{roomy_sink, run_here, shelf_of, words_of};
+use cl_io::{MemSink, SureShelf, SureSink};
 use cl_top::FILE_LIMIT;
-use std::alloc::Global;
-use std::marker::Brand;
-use std::sync::ledger::Blank;
 use std::test::Fail;
-
-/// Runs a command with a counter of its own.
-fn run_here<S: Shelf, K: Sink>(alloc: Global, words: &Words, shelf: &mut S, sink: &mut K) -> u8 {
-    run_uncounted::<S, K, Brand>(alloc, words, shelf, sink, Blank::new(1))
-}
 
 #[test]
 fn words_that_are_no_command_are_refused(rt: HostRuntime) -> Result<(), Fail> {
@@ -29,13 +22,13 @@ fn a_file_is_read_to_its_limit(rt: HostRuntime) -> Result<(), Fail> {
     let alloc = rt.alloc();
     let words = words_of(alloc, "analyse model")?;
     let cases = [
-        (0, 11, b"form not built\n".as_slice()),
-        (16_777_216, 11, b"form not built\n".as_slice()),
+        (0, 5, b"model refused M2 top.format\n".as_slice()),
+        (16_777_216, 5, b"model refused M1 top\n".as_slice()),
         (16_777_217, 4, b"long file 1\n".as_slice()),
     ];
     assert_eq!(rt; FILE_LIMIT, 16_777_216);
     for (len, status, text) in cases {
-        let content = vec![in alloc; b'#'; len]?;
+        let content = vec![in alloc; 0xff; len]?;
         let mut shelf = shelf_of(alloc, "model", content.as_slice())?;
         let mut sink = roomy_sink(alloc)?;
         assert_eq!(rt;
@@ -58,14 +51,14 @@ fn a_file_that_cannot_be_read_is_a_read_fault(rt: HostRuntime) -> Result<(), Fai
     assert_eq!(rt; run_here(alloc, &words, &mut absent, &mut sink), 3);
     assert_eq!(rt; sink.bytes(), b"read fault 1\n".as_slice());
 
-    let mut failing = shelf_of(alloc, "model", b"")?;
+    let mut failing = shelf_of(alloc, "model", EMPTY.as_bytes())?;
     failing.fail_call(0)?;
     let mut sink = roomy_sink(alloc)?;
     assert_eq!(rt; run_here(alloc, &words, &mut failing, &mut sink), 3);
     assert_eq!(rt; sink.bytes(), b"read fault 1\n".as_slice());
 
     // The command has one file, so there is no second fetch to fail.
-    let mut failing_later = shelf_of(alloc, "model", b"")?;
+    let mut failing_later = shelf_of(alloc, "model", EMPTY.as_bytes())?;
     failing_later.fail_call(1)?;
     let mut sink = roomy_sink(alloc)?;
     assert_eq!(rt; run_here(alloc, &words, &mut failing_later, &mut sink), 11);
@@ -84,7 +77,7 @@ fn a_sink_that_fails_keeps_a_proper_prefix(rt: HostRuntime) -> Result<(), Fail> 
         (14, 1, 99, b"form not built".as_slice()),
     ];
     for (room, step, failing, text) in cases {
-        let mut shelf = shelf_of(alloc, "model", b"")?;
+        let mut shelf = shelf_of(alloc, "model", EMPTY.as_bytes())?;
         assert!(rt; step > 0);
         let mut sink = MemSink::new(alloc, room, step)?;
         sink.fail_call(failing)?;
@@ -104,7 +97,7 @@ fn sure_shelves_and_sinks_never_fail(rt: HostRuntime) -> Result<(), Fail> {
     let words = words_of(alloc, "analyse nothing")?;
     let mut shelf = SureShelf::new(alloc);
     let mut sink = SureSink::new();
-    assert_eq!(rt; run_here(alloc, &words, &mut shelf, &mut sink), 11);
-    assert_eq!(rt; sink.taken(), 15);
+    assert_eq!(rt; run_here(alloc, &words, &mut shelf, &mut sink), 5);
+    assert_eq!(rt; sink.taken(), 28);
     Ok(())
 }

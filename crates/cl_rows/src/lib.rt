@@ -2,6 +2,12 @@
 #![tactic(auto)]
 
 #[cfg(test)]
+mod base;
+#[cfg(test)]
 mod calls;
 #[cfg(test)]
 mod frame;
+#[cfg(test)]
+mod reading;
+#[cfg(test)]
+mod texts;

@@ -1,4 +1,4 @@
-use Rattle.cl_rows.proofs.frame.run_here.Given as goal
+use Rattle.cl_rows.proofs.calls.run_here.Given as goal
 
 -- the ledger of the blank that the counter is made of
 abbrev pub ghosts-run_uncounted : goal.ghosts-run_uncounted

@@ -1,0 +1,137 @@
+use crate::base::EMPTY;
+use crate::calls::answer_of;
+use cl_time::NoMemory;
+use std::alloc::Global;
+use std::process::Abort;
+
+/// What a row says of a file that isn't refused.
+pub(crate) const ACCEPTED: &str = "accepted";
+
+/// A text of a base, what stands in its place, and what the file then comes to: `accepted`, or the code and place of
+/// its refusal.
+pub(crate) type Row = (&'static str, &'static str, &'static str);
+
+/// The entry so many times, with its number from 0 up in place of each `#`.
+pub(crate) fn numbered(alloc: Global, entry: &str, count: usize) -> Result<String, NoMemory> {
+    let mut text = String::new(alloc);
+    for number in 0..count {
+        let digits = number.to_string(alloc)?;
+        let one = entry.replace(alloc, "#", &digits)?;
+        text.push_str(&one)?;
+    }
+    Ok(text)
+}
+
+/// The base with the new text in the first place of the old one, which must be there.
+pub(crate) fn changed(
+    rt: &impl Abort,
+    alloc: Global,
+    base: &str,
+    old: &str,
+    new: &str,
+) -> Result<String, NoMemory> {
+    assert!(rt; base.contains(old), "no {old}");
+    let text = base.replacen(alloc, old, new, 1)?;
+    Ok(text)
+}
+
+/// The base with so many numbered entries right after a text that must be there.
+pub(crate) fn grown(
+    rt: &impl Abort,
+    alloc: Global,
+    base: &str,
+    after: &str,
+    entry: &str,
+    count: usize,
+) -> Result<String, NoMemory> {
+    let mut new = String::from_str(alloc, after)?;
+    let entries = numbered(alloc, entry, count)?;
+    new.push_str(&entries)?;
+    changed(rt, alloc, base, after, &new)
+}
+
+/// Asserts what a file comes to. The case is named where it fails.
+pub(crate) fn assert_outcome(
+    rt: &impl Abort,
+    alloc: Global,
+    content: &[u8],
+    outcome: &str,
+    case: &str,
+) -> Result<(), NoMemory> {
+    let (status, sink) = answer_of(alloc, content)?;
+    let line = str::from_utf8(sink.bytes()).unwrap_or("no text");
+    if outcome == ACCEPTED {
+        assert_eq!(rt; line, "form not built\n", "{case}");
+        assert_eq!(rt; status, 11, "{case}");
+    } else {
+        let refusal = format!(in alloc; "model refused {outcome}\n")?;
+        assert_eq!(rt; line, refusal.as_str(), "{case}");
+        assert_eq!(rt; status, 5, "{case}");
+    }
+    Ok(())
+}
+
+/// Asserts what the base comes to with each of the changes.
+pub(crate) fn assert_rows(
+    rt: &impl Abort,
+    alloc: Global,
+    base: &str,
+    rows: &[Row],
+) -> Result<(), NoMemory> {
+    for (old, new, outcome) in rows {
+        let text = changed(rt, alloc, base, old, new)?;
+        assert_outcome(rt, alloc, text.as_bytes(), outcome, new)?;
+    }
+    Ok(())
+}
+
+/// The stimulus of a model of many tasks.
+const SLOW: &str = r#"
+[[stimulus]]
+name = "slow"
+kind = "periodic"
+period = 1000
+"#;
+
+/// A core; its number stands in place of `@`.
+const CORE: &str = r#"
+[[core]]
+name = "c@"
+"#;
+
+/// A task of one runnable on such a core; its number stands in place of `#`.
+const TASK: &str = r#"
+[[task]]
+name = "t@.#"
+core = "c@"
+stimulus = "slow"
+priority = #
+access = "implicit"
+
+[[task.runnable]]
+name = "r@.#"
+least = 1
+greatest = 1
+"#;
+
+/// A model of eight cores with 128 tasks each, but so many on the last. It is valid with 1,024 tasks in all.
+pub(crate) fn many_tasks(alloc: Global, last: usize) -> Result<String, NoMemory> {
+    let mut text = String::from_str(alloc, EMPTY)?;
+    text.push_str(SLOW)?;
+    for core in 0..8 {
+        let count = if core == 7 { last } else { 128 };
+        let tasks = tasks_of(alloc, core, count)?;
+        text.push_str(&tasks)?;
+    }
+    Ok(text)
+}
+
+/// A core with so many tasks.
+fn tasks_of(alloc: Global, core: u8, count: usize) -> Result<String, NoMemory> {
+    let digits = core.to_string(alloc)?;
+    let mut text = CORE.replace(alloc, "@", &digits)?;
+    let task = TASK.replace(alloc, "@", &digits)?;
+    let tasks = numbered(alloc, &task, count)?;
+    text.push_str(&tasks)?;
+    Ok(text)
+}
