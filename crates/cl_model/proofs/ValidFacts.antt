@@ -56,18 +56,24 @@ tasks_apart model valid =
     let after_labels = none_behind (section_repeats M22 part.Label (label_names model)) _ after_stimuli in
     repeats_none M23 (λ i. at_key key.Name (entry_of part.Task i)) (task_names model) (none_before (section_repeats M23 part.Task (task_names model)) _ after_labels)
 
-naming_passes : (model : SystemModel) → IsValid model → (i : ℕ) (d : TaskDef) → i < length model.tasks → naming_checks model i (get_or model.tasks i d) ≡ []
+naming_passes : (model : SystemModel) → task_checks model ≡ [] → (i : ℕ) (d : TaskDef) → i < length model.tasks → naming_checks model i (get_or model.tasks i d) ≡ []
 unfolding task_check
-naming_passes model valid i d lt = none_before _ _ (each_none (task_check model) model.tasks i d (tasks_pass model valid) lt)
+naming_passes model none i d lt = none_before _ _ (each_none (task_check model) model.tasks i d none lt)
 
 -- the core and the stimulus of a task are known
-pub core_known : (model : SystemModel) → IsValid model → (i : ℕ) (d : TaskDef) → i < length model.tasks → has_name (get_or model.tasks i d).core (core_names model) ≡ true
+pub core_is_known : (model : SystemModel) → task_checks model ≡ [] → (i : ℕ) (d : TaskDef) → i < length model.tasks → has_name (get_or model.tasks i d).core (core_names model) ≡ true
 unfolding naming_checks
-core_known model valid i d lt = unless_none _ _ _ (none_before _ _ (naming_passes model valid i d lt))
+core_is_known model none i d lt = unless_none _ _ _ (none_before _ _ (naming_passes model none i d lt))
+
+pub stimulus_is_known : (model : SystemModel) → task_checks model ≡ [] → (i : ℕ) (d : TaskDef) → i < length model.tasks → is_some (kind_named model (get_or model.tasks i d).stimulus) ≡ true
+unfolding naming_checks
+stimulus_is_known model none i d lt = unless_none _ _ _ (none_before _ _ (none_behind _ _ (naming_passes model none i d lt)))
+
+pub core_known : (model : SystemModel) → IsValid model → (i : ℕ) (d : TaskDef) → i < length model.tasks → has_name (get_or model.tasks i d).core (core_names model) ≡ true
+core_known model valid = core_is_known model (tasks_pass model valid)
 
 pub stimulus_known : (model : SystemModel) → IsValid model → (i : ℕ) (d : TaskDef) → i < length model.tasks → is_some (kind_named model (get_or model.tasks i d).stimulus) ≡ true
-unfolding naming_checks
-stimulus_known model valid i d lt = unless_none _ _ _ (none_before _ _ (none_behind _ _ (naming_passes model valid i d lt)))
+stimulus_known model valid = stimulus_is_known model (tasks_pass model valid)
 
 -- ---- the same at a task that stands in the list
 

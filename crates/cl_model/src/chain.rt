@@ -1,6 +1,4 @@
 //! Chains of runnables linked by labels, and the requirements on them. Times are in ticks.
-ghost use Rattle.std.specs.Prelude.{◌≡◌, IfOk};
-
 use crate::copying::TryCopy;
 use crate::list::List;
 use crate::name::Name;

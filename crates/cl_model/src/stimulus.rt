@@ -1,6 +1,4 @@
 //! Stimuli: the patterns by which jobs of tasks arrive. Times are in ticks.
-ghost use Rattle.std.specs.Prelude.{◌≡◌, IfOk};
-
 use crate::copying::TryCopy;
 use crate::name::Name;
 use cl_time::NoMemory;

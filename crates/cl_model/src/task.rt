@@ -1,6 +1,4 @@
 //! Tasks and the runnables that a job of a task executes. Times are in ticks.
-ghost use Rattle.std.specs.Prelude.{◌≡◌, IfOk};
-
 use crate::copying::TryCopy;
 use crate::list::List;
 use crate::name::Name;

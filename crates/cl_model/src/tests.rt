@@ -40,58 +40,80 @@ fn keeps_items_in_order(rt: HostRuntime) -> Result<(), Fail> {
     Ok(())
 }
 
-#[test]
-fn copies_whole_models(rt: HostRuntime) -> Result<(), Fail> {
-    let alloc = rt.alloc();
-    let mut model = SystemModel {
-        cores: List::new(alloc),
-        stimuli: List::new(alloc),
-        labels: List::new(alloc),
-        tasks: List::new(alloc),
-        chains: List::new(alloc),
-        requirements: List::new(alloc),
-    };
-    let kind = StimulusKind::Sporadic {
-        least: 5,
-        greatest: 8,
-    };
-    let mut runnables = List::new(alloc);
-    runnables.push(RunnableDef {
+/// A list of this one item.
+fn one<T: Drop>(alloc: Global, item: T) -> Result<List<T>, Fail> {
+    let mut list = List::new(alloc);
+    list.push(item)?;
+    Ok(list)
+}
+
+fn runnable(alloc: Global) -> Result<RunnableDef, Fail> {
+    Ok(RunnableDef {
         name: name("a")?,
         least: 2,
         greatest: 3,
         reads: names(alloc, &["x"])?,
         writes: names(alloc, &["y", "z"])?,
-    })?;
-    model.cores.push(CoreDef { name: name("c0")? })?;
-    model.stimuli.push(StimulusDef {
-        name: name("s")?,
-        kind,
-    })?;
-    model.labels.push(LabelDef { name: name("x")? })?;
-    model.tasks.push(TaskDef {
+    })
+}
+
+fn task(alloc: Global) -> Result<TaskDef, Fail> {
+    Ok(TaskDef {
         name: name("A")?,
         core: name("c0")?,
         stimulus: name("s")?,
         priority: 2,
         access: AccessKind::Timed,
         deadline: Some(4),
-        runnables,
-    })?;
-    model.chains.push(ChainDef {
+        runnables: one(alloc, runnable(alloc)?)?,
+    })
+}
+
+fn chain(alloc: Global) -> Result<ChainDef, Fail> {
+    Ok(ChainDef {
         name: name("ab")?,
         runnables: names(alloc, &["a", "b"])?,
         labels: names(alloc, &["x"])?,
-    })?;
-    model.requirements.push(RequirementDef {
+    })
+}
+
+fn requirement() -> Result<RequirementDef, Fail> {
+    Ok(RequirementDef {
         name: name("r")?,
         chain: name("ab")?,
         kind: LengthKind::Age,
         most: 46,
-    })?;
-    let copy = model.copy(alloc)?;
+    })
+}
+
+fn stimulus() -> Result<StimulusDef, Fail> {
+    let kind = StimulusKind::Sporadic {
+        least: 5,
+        greatest: 8,
+    };
+    Ok(StimulusDef {
+        name: name("s")?,
+        kind,
+    })
+}
+
+fn model(alloc: Global) -> Result<SystemModel, Fail> {
+    Ok(SystemModel {
+        cores: one(alloc, CoreDef { name: name("c0")? })?,
+        stimuli: one(alloc, stimulus()?)?,
+        labels: one(alloc, LabelDef { name: name("x")? })?,
+        tasks: one(alloc, task(alloc)?)?,
+        chains: one(alloc, chain(alloc)?)?,
+        requirements: one(alloc, requirement()?)?,
+    })
+}
+
+#[test]
+fn copies_whole_models(rt: HostRuntime) -> Result<(), Fail> {
+    let model = model(rt.alloc())?;
+    let copy = model.copy(rt.alloc())?;
     assert!(rt; copy == model);
-    let text = format!(in alloc; "{copy:?}")?;
+    let text = format!(in rt.alloc(); "{copy:?}")?;
     assert!(rt;
         text.as_str()
             .contains("writes: List { items: [\"y\", \"z\"] }")

@@ -1,7 +1,7 @@
 //! Arrays of a document, and what they may hold.
 ghost use Rattle.std.specs.Prelude.{◌≡◌, ℕ, ◌≤◌, List as Items, [], map, option_map, length};
 ghost use Rattle.toml.specs.Data.{Data};
-ghost use Rattle.toml.specs.View.{view, table_view};
+ghost use Rattle.toml.specs.View.{view};
 ghost use Rattle.cl_model.specs.declared.place.Place.{Place as Spot};
 ghost use Rattle.cl_model.specs.declared.refusal.Refusal.{Refusal};
 ghost use Rattle.cl_model.specs.Reading.Checks.{an_array, found_or};
@@ -10,9 +10,9 @@ ghost use Rattle.cl_model.specs.Reading.Meanings.{list_of};
 ghost use Rattle.cl_read.specs.Answers.{Answers};
 
 use crate::fault::{ReadFault, refused};
-use cl_model::{Code, Key, List, Place};
+use cl_model::{Code, List, Place};
 use std::alloc::Global;
-use toml::{Table, Value};
+use toml::Value;
 
 /// What an array of a document may hold.
 pub(crate) trait Member: Drop {

@@ -1,6 +1,5 @@
 //! The fields of a table: the values at its keys.
-ghost use Rattle.std.specs.Prelude.{◌≡◌, Option, Some, None};
-ghost use Rattle.toml.specs.View.{view, table_view};
+ghost use Rattle.toml.specs.View.{table_view};
 ghost use Rattle.cl_model.specs.declared.task.AccessKind.TheVariants.{Explicit};
 ghost use Rattle.cl_model.specs.declared.chain.LengthKind.TheVariants.{Reaction};
 ghost use Rattle.cl_model.specs.Reading.Checks.{a_name, a_number, a_word, required, optional, field_checks};

@@ -1,5 +1,5 @@
 //! Stimuli: what one is asked depends on its kind.
-ghost use Rattle.std.specs.Prelude.{◌≡◌, Some, [], ◌∷◌, unwrap_or};
+ghost use Rattle.std.specs.Prelude.{Some, [], ◌∷◌, unwrap_or};
 ghost use Rattle.toml.specs.Data.{string};
 ghost use Rattle.toml.specs.View.{table_view};
 ghost use Rattle.cl_model.specs.declared.place.Key.TheVariants as key;

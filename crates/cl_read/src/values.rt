@@ -1,5 +1,5 @@
 //! Single values of a document: names, numbers and words.
-ghost use Rattle.std.specs.Prelude.{◌≡◌, ◌≤◌, ◌^◌, ◌<◌, unwrap_or};
+ghost use Rattle.std.specs.Prelude.{◌≡◌, unwrap_or};
 ghost use Rattle.toml.specs.View.{view};
 ghost use Rattle.cl_model.specs.declared.task.AccessKind.TheVariants.{Explicit};
 ghost use Rattle.cl_model.specs.declared.chain.LengthKind.TheVariants.{Reaction};

@@ -76,6 +76,7 @@ pub record Field : Type 0 where
   pub must : Bool
   pub check : Check
 
+-- a key that must be there, and one that may be absent
 abbrev pub required : Key → Check → Field
 required key check = record { key = key; must = true; check = check }
 
