@@ -1,0 +1,146 @@
+-- Read and write moments: each is unique, they rise with the job number, and a job that has written has read.
+use Rattle.std.proofs.Common.{◌≡◌, ℕ, ◌<◌, ◌≤◌, length, refl, sym, ◌∙◌, arith}
+use Rattle.cl_runs.specs.TaskTiming.{System, Access, explicit, implicit, timed, timing_at, IsSound}
+use Rattle.cl_runs.specs.Table.{job_at}
+use Rattle.cl_runs.specs.Run.{Run, jobs_of, executed}
+use Rattle.cl_runs.specs.Legal.{IsLegal}
+use Rattle.cl_runs.specs.Moments.{work_before, work_through, Starts, Finishes, ReadsBy, WritesBy, Reads, Writes}
+use Rattle.cl_runs.proofs.Climbing.{climb_lt}
+use Rattle.cl_runs.proofs.Executed.{executed_climbs}
+use Rattle.cl_runs.proofs.Work.{work_rises, places_rise}
+use Rattle.cl_runs.proofs.LegalFacts.{place_of_task, core_ticks, job_places, time_positive, arrives_below, arrivals_in_order}
+use Rattle.cl_runs.proofs.StartsFinishes.{starts_once, finishes_once, starts_before}
+
+module _ (system : System) (run : Run) (i : ℕ) where
+  read_once : (a : Access) (k p s t : ℕ) → ReadsBy a system run i k p s → ReadsBy a system run i k p t → s ≡ t
+  read_once explicit k p s t one other = starts_once system run i k p s t one other
+  read_once implicit k p s t one other = starts_once system run i k 0 s t one other
+  read_once timed k p s t one other = one ∙ sym other
+
+  write_once : (a : Access) (k p s t : ℕ) → WritesBy a system run i k p s → WritesBy a system run i k p t → s ≡ t
+  write_once explicit k p s t one other = finishes_once system run i k p s t one other
+  write_once implicit k p s t one other = finishes_once system run i k _ s t one other
+  write_once timed k p s t one other = one.at_deadline ∙ sym other.at_deadline
+
+  -- a job reads once, and writes at most once
+  pub reads_once : (k p s t : ℕ) → Reads system run i k p s → Reads system run i k p t → s ≡ t
+  reads_once k p s t one other = read_once (timing_at system i).access k p s t one.moment other.moment
+
+  pub writes_once : (k p s t : ℕ) → Writes system run i k p s → Writes system run i k p t → s ≡ t
+  writes_once k p s t one other = write_once (timing_at system i).access k p s t one.moment other.moment
+
+module _ (system : System) (sound : IsSound system) (run : Run) (legal : IsLegal system run) (i : ℕ) (is : i < length system.tasks) where
+  -- all work of a job is positive and stands behind the earlier jobs
+  before_through : (k p q : ℕ) → k < length (jobs_of run i) → q < length (timing_at system i).ranges → p ≤ q
+      → work_before (jobs_of run i) k p < work_through (jobs_of run i) k q
+  before_through k p q job place h = omega (arith, places_rise (jobs_of run i) k p q h, time_positive system sound run legal i is k q job place)
+
+  jobs_apart : (k p l q : ℕ) → k < l → k < length (jobs_of run i) → p < length (timing_at system i).ranges
+      → work_through (jobs_of run i) k p ≤ work_before (jobs_of run i) l q
+  jobs_apart k p l q h job place =
+      work_rises (jobs_of run i) k p l q job (omega (arith, place, job_places system sound run legal i is k job)) h
+
+  -- starts and finishes rise with the job number
+  starts_rise : (k p l q s t : ℕ) → k < l → Starts system run i k p s → Starts system run i l q t → s < t
+  starts_rise k p l q s t h one other = climb_lt (executed system run i) (executed_climbs system run i) s t
+      (omega (
+        arith,
+        one.reached,
+        other.reached,
+        jobs_apart k p l q h one.in_table one.is_runnable,
+        before_through k p p one.in_table one.is_runnable (omega arith),
+      ))
+
+  finishes_rise : (k p l q s t : ℕ) → k < l → Finishes system run i k p s → Finishes system run i l q t → s < t
+  finishes_rise k p l q s t h one other = climb_lt (executed system run i) (executed_climbs system run i) s t
+      (omega (
+        arith,
+        one.reached,
+        other.reached,
+        jobs_apart k p l q h one.in_table one.is_runnable,
+        before_through l q q other.in_table other.is_runnable (omega arith),
+      ))
+
+  -- where a runnable has finished, each one before it has started
+  start_of_finish : (k p q t : ℕ) → p ≤ q → Finishes system run i k q t → (r : ℕ) × (r < t) × Starts system run i k p r
+  start_of_finish k p q t h finishes = starts_before system run i k p t finishes.in_table (omega (arith, h, finishes.is_runnable))
+      (core_ticks system sound run legal i is)
+      (omega (arith, finishes.reached, before_through k p q finishes.in_table finishes.is_runnable h))
+
+  -- and each one of an earlier job
+  start_of_earlier : (k p l q t : ℕ) → k < l → p < length (timing_at system i).ranges → Finishes system run i l q t
+      → (r : ℕ) × (r < t) × Starts system run i k p r
+  start_of_earlier k p l q t h place finishes =
+      let job : k < length (jobs_of run i) = omega (arith, h, finishes.in_table) in
+      starts_before system run i k p t job place (core_ticks system sound run legal i is)
+      (omega (arith, finishes.reached, jobs_apart k p l q h job place, before_through k p p job place (omega arith)))
+
+  read_rises : (a : Access) (k p l q s t : ℕ) → k < l → l < length (jobs_of run i) → ReadsBy a system run i k p s → ReadsBy a system run i l q t → s < t
+  read_rises explicit k p l q s t h below one other = starts_rise k p l q s t h one other
+  read_rises implicit k p l q s t h below one other = starts_rise k 0 l 0 s t h one other
+  read_rises timed k p l q s t h below one other = omega (arith, one, other, arrivals_in_order system sound run legal i is k l h below)
+
+  write_rises : (a : Access) (k p l q s t : ℕ) → k < l → l < length (jobs_of run i) → WritesBy a system run i k p s → WritesBy a system run i l q t → s < t
+  write_rises explicit k p l q s t h below one other = finishes_rise k p l q s t h one other
+  write_rises implicit k p l q s t h below one other = finishes_rise k _ l _ s t h one other
+  write_rises timed k p l q s t h below one other =
+      omega (arith, one.at_deadline, other.at_deadline, arrivals_in_order system sound run legal i is k l h below)
+
+  read_below : (a : Access) (k p t : ℕ) → k < length (jobs_of run i) → ReadsBy a system run i k p t → t < run.table.ticks
+  read_below explicit k p t job starts = starts.below_end
+  read_below implicit k p t job starts = starts.below_end
+  read_below timed k p t job arrives = omega (arith, arrives, arrives_below system sound run legal i is k job)
+
+  write_within : (a : Access) (k p t : ℕ) → WritesBy a system run i k p t → t ≤ run.table.ticks
+  write_within explicit k p t finishes = finishes.by_end
+  write_within implicit k p t finishes = finishes.by_end
+  write_within timed k p t writes = writes.by_end
+
+  -- a job that has written at a place has read at this and each earlier place
+  read_of_write : (a : Access) (k p q t : ℕ) → p ≤ q → q < length (timing_at system i).ranges → WritesBy a system run i k q t
+      → (r : ℕ) × (r < t) × ReadsBy a system run i k p r
+  read_of_write explicit k p q t h place finishes = start_of_finish k p q t h finishes
+  read_of_write implicit k p q t h place finishes = start_of_finish k 0 _ t (omega arith) finishes
+  read_of_write timed k p q t h place writes =
+      ((job_at (jobs_of run i) k).arrival, omega (arith, writes.at_deadline, (sound.tasks i is).above_jitter), refl)
+
+  -- and the jobs before it have read
+  read_of_earlier : (a : Access) (k p l q t : ℕ) → k < l → l < length (jobs_of run i) → p < length (timing_at system i).ranges
+      → WritesBy a system run i l q t → (r : ℕ) × (r < t) × ReadsBy a system run i k p r
+  read_of_earlier explicit k p l q t h below place finishes = start_of_earlier k p l q t h place finishes
+  read_of_earlier implicit k p l q t h below place finishes = start_of_earlier k 0 l _ t h (omega arith) finishes
+  read_of_earlier timed k p l q t h below place writes = (
+    (job_at (jobs_of run i) k).arrival,
+    omega (arith, writes.at_deadline, arrivals_in_order system sound run legal i is k l h below),
+    refl,
+  )
+
+module _ (system : System) (sound : IsSound system) (run : Run) (legal : IsLegal system run) (i : ℕ) where
+  pub reads_rise : (k p l q s t : ℕ) → k < l → Reads system run i k p s → Reads system run i l q t → s < t
+  reads_rise k p l q s t h one other = read_rises system sound run legal i (place_of_task system i p one.is_runnable)
+      (timing_at system i).access k p l q s t h other.in_table one.moment other.moment
+
+  pub writes_rise : (k p l q s t : ℕ) → k < l → Writes system run i k p s → Writes system run i l q t → s < t
+  writes_rise k p l q s t h one other = write_rises system sound run legal i (place_of_task system i p one.is_runnable)
+      (timing_at system i).access k p l q s t h other.in_table one.moment other.moment
+
+  pub reads_below : (k p t : ℕ) → Reads system run i k p t → t < run.table.ticks
+  reads_below k p t reads = read_below system sound run legal i (place_of_task system i p reads.is_runnable)
+      (timing_at system i).access k p t reads.in_table reads.moment
+
+  pub writes_within : (k p t : ℕ) → Writes system run i k p t → t ≤ run.table.ticks
+  writes_within k p t writes = write_within system sound run legal i (place_of_task system i p writes.is_runnable)
+      (timing_at system i).access k p t writes.moment
+
+  pub has_read : (k p q t : ℕ) → p ≤ q → Writes system run i k q t → (r : ℕ) × (r < t) × Reads system run i k p r
+  has_read k p q t h writes =
+      let (r, before, moment) = read_of_write system sound run legal i (place_of_task system i q writes.is_runnable)
+      (timing_at system i).access k p q t h writes.is_runnable writes.moment in
+      (r, before, record { in_table = writes.in_table; is_runnable = omega (arith, h, writes.is_runnable); moment = moment })
+
+  pub earlier_read : (k p l q t : ℕ) → k < l → p < length (timing_at system i).ranges → Writes system run i l q t
+      → (r : ℕ) × (r < t) × Reads system run i k p r
+  earlier_read k p l q t h place writes =
+      let (r, before, moment) = read_of_earlier system sound run legal i (place_of_task system i q writes.is_runnable)
+      (timing_at system i).access k p l q t h writes.in_table place writes.moment in
+      (r, before, record { in_table = omega (arith, h, writes.in_table); is_runnable = place; moment = moment })

@@ -1,0 +1,8 @@
+use Rattle.cl_runs.proofs.Extension.{empty_legal, some_legal}
+use Rattle.cl_runs.proofs.laws.extension.there_are_legal_runs.Goals as goal
+
+pub returns-clause-empty : goal.returns-clause-empty
+returns-clause-empty c = empty_legal
+
+pub returns-clause-every_length : goal.returns-clause-every_length
+returns-clause-every_length c = some_legal

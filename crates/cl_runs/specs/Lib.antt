@@ -1,0 +1,14 @@
+pub mod Pattern
+pub mod TaskTiming
+pub mod Table
+pub mod Arrivals
+pub mod Run
+pub mod Legal
+pub mod Moments
+pub mod Groups
+pub mod Chains
+pub mod RunChains
+pub mod Measured
+pub mod Stretches
+pub mod GoesOn
+pub mod Examples

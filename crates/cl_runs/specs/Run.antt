@@ -1,0 +1,54 @@
+-- Runs: a job table, and for each core which task runs in each tick.
+use Rattle.std.specs.Prelude.{◌≡◌, ℕ, Bool, false, Option, Some, None, ◌==◌, ◌<◌, List, [], length, slice_index_or, take, count_by, replicate}
+use Rattle.cl_runs.specs.TaskTiming.{System, timing_at}
+use Rattle.cl_runs.specs.declared.job.Job.{Job}
+use Rattle.cl_runs.specs.declared.job.JobTable.{JobTable}
+use Rattle.cl_runs.specs.Table.{job_at, table_jobs}
+
+-- a job table and, for each core, one entry a tick: the task that runs, or none where the core idles
+pub record Run : Type 0 where
+  pub table : JobTable
+  pub entries : List (List (Option ℕ))
+
+-- the jobs of a task
+abbrev pub jobs_of : Run → ℕ → List Job
+jobs_of run i = table_jobs run.table i
+
+-- the entries of a core
+abbrev pub core_entries : Run → ℕ → List (Option ℕ)
+core_entries run core = slice_index_or run.entries core []
+
+-- the entry of a core at a tick
+abbrev pub entry_at : Run → ℕ → ℕ → Option ℕ
+entry_at run core t = slice_index_or (core_entries run core) t None
+
+-- whether an entry is task i
+abbrev pub is_task : ℕ → Option ℕ → Bool
+is_task i None = false
+is_task i (Some j) = j == i
+
+-- the number of ticks below t in which task i runs on its core: its executed ticks
+unfoldable pub executed : System → Run → ℕ → ℕ → ℕ
+executed system run i t = count_by (is_task i) (take t (core_entries run (timing_at system i).core))
+
+-- an entry of a core is a task of that core, or idle
+abbrev pub IsEntryOf : System → ℕ → Option ℕ → Type 0
+IsEntryOf system core None = Unit {0}
+IsEntryOf system core (Some i) = (i < length system.tasks) × ((timing_at system i).core ≡ core)
+
+-- a run in form for a system: one list of jobs per task, one time per runnable in each job, one list of entries per
+-- core with one entry per tick, and each entry a task of that core or idle. Source: this project's profile
+pub record IsInForm (system : System) (run : Run) : Type 0 where
+  pub tasks : length run.table.jobs ≡ length system.tasks
+  pub times : (i k : ℕ) → i < length system.tasks → k < length (jobs_of run i)
+      → length (job_at (jobs_of run i) k).times ≡ length (timing_at system i).ranges
+  pub cores : length run.entries ≡ system.cores
+  pub ticks : (core : ℕ) → core < system.cores → length (core_entries run core) ≡ run.table.ticks
+  pub entries : (core t : ℕ) → core < system.cores → t < run.table.ticks → IsEntryOf system core (entry_at run core t)
+
+-- the run of no ticks
+unfoldable pub empty_run : System → Run
+empty_run system = record {
+  table = record { ticks = 0; jobs = replicate (length system.tasks) [] };
+  entries = replicate system.cores [];
+}

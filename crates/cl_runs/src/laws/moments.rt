@@ -1,0 +1,41 @@
+//! Moments are unique, a job that has written has read, and moments rise with the job number.
+ghost use Rattle.std.specs.Prelude.{◌≡◌, ℕ, ◌<◌, ◌≤◌, length};
+ghost use Rattle.cl_runs.specs.TaskTiming.{System, timing_at, IsSound};
+ghost use Rattle.cl_runs.specs.Run.{Run};
+ghost use Rattle.cl_runs.specs.Legal.{IsLegal};
+ghost use Rattle.cl_runs.specs.Moments.{Starts, Finishes, Reads, Writes};
+
+/// A runnable of a job starts, finishes, reads and writes at most once.
+pub fn moments_are_unique()
+    ensures starts { (system : System) (run : Run) (i k p s t : ℕ) → Starts system run i k p s → Starts system run i k p t → s ≡ t }
+    ensures finishes { (system : System) (run : Run) (i k p s t : ℕ) → Finishes system run i k p s → Finishes system run i k p t → s ≡ t }
+    ensures reads { (system : System) (run : Run) (i k p s t : ℕ) → Reads system run i k p s → Reads system run i k p t → s ≡ t }
+    ensures writes { (system : System) (run : Run) (i k p s t : ℕ) → Writes system run i k p s → Writes system run i k p t → s ≡ t }
+{}
+
+/// Reads lie below the end of a legal run, and writes at or before it.
+pub fn moments_lie_within()
+    ensures reads { (system : System) → IsSound system → (run : Run) → IsLegal system run → (i k p t : ℕ)
+        → Reads system run i k p t → t < run.table.ticks }
+    ensures writes { (system : System) → IsSound system → (run : Run) → IsLegal system run → (i k p t : ℕ)
+        → Writes system run i k p t → t ≤ run.table.ticks }
+{}
+
+/// In a legal run a job that has written has read before that, and so have the jobs before it.
+pub fn writers_have_read()
+    // the job itself, at this and each earlier runnable
+    ensures itself { (system : System) → IsSound system → (run : Run) → IsLegal system run → (i k p q t : ℕ)
+        → p ≤ q → Writes system run i k q t → (r : ℕ) × (r < t) × Reads system run i k p r }
+    // each job before it, at each runnable
+    ensures earlier { (system : System) → IsSound system → (run : Run) → IsLegal system run → (i k p l q t : ℕ)
+        → k < l → p < length (timing_at system i).ranges → Writes system run i l q t
+        → (r : ℕ) × (r < t) × Reads system run i k p r }
+{}
+
+/// In a legal run reads rise strictly with the job number, and so do the writes of jobs that write.
+pub fn moments_rise()
+    ensures reads { (system : System) → IsSound system → (run : Run) → IsLegal system run → (i k p l q s t : ℕ)
+        → k < l → Reads system run i k p s → Reads system run i l q t → s < t }
+    ensures writes { (system : System) → IsSound system → (run : Run) → IsLegal system run → (i k p l q s t : ℕ)
+        → k < l → Writes system run i k p s → Writes system run i l q t → s < t }
+{}
