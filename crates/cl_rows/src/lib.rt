@@ -11,3 +11,5 @@ mod frame;
 mod reading;
 #[cfg(test)]
 mod texts;
+#[cfg(test)]
+mod validity;

@@ -4,6 +4,7 @@ use Rattle.cl_model.specs.declared.model.SystemModel.{SystemModel}
 use Rattle.cl_model.specs.declared.refusal.Refusal.{Refusal}
 use Rattle.cl_model.specs.Reading.{model_of}
 use Rattle.cl_model.specs.Refusal.{refusal_text}
+use Rattle.cl_model.specs.Validity.{refusal_of}
 use Rattle.cl_top.specs.declared.outcome.Outcome.{Outcome}
 use Rattle.cl_top.specs.declared.status.TheConstants.{WORDS_REFUSED, READ_FAULT, LONG_FILE, MODEL_REFUSED, FORM_NOT_BUILT}
 use Rattle.cl_top.specs.declared.command.Command.{Command}
@@ -37,9 +38,14 @@ with_file place Fault next = Some (read_fault place)
 with_file place TooLong next = Some (long_file place)
 with_file place (Bytes bytes) next = next bytes
 
+-- what becomes of the analysis of a model whose first refusal is this
+abbrev pub validated : Option Refusal → Outcome
+validated None = form_not_built
+validated (Some refusal) = model_refused refusal
+
 -- what becomes of an analysis whose file was read so
 abbrev pub analysed : Result SystemModel Refusal → Outcome
-analysed (Ok model) = form_not_built
+analysed (Ok model) = validated (refusal_of model)
 analysed (Err refusal) = model_refused refusal
 
 -- what becomes of a command whose files gave this; there is no outcome without a file that it needs

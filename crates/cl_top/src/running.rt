@@ -1,19 +1,23 @@
 ghost use Rattle.std.specs.Prelude.{◌≡◌, ◌⊎◌, None, Some, IfOk};
 ghost use Rattle.cl_io.specs.Counts.{Rose};
+ghost use Rattle.cl_model.specs.Ranges.{IsInRange};
 ghost use Rattle.cl_model.specs.Reading.{model_of};
+ghost use Rattle.cl_model.specs.Validity.{refusal_of};
 ghost use Rattle.cl_top.specs.declared.status.TheConstants.{WORDS_REFUSED, READ_FAULT, LONG_FILE, WRITE_FAULT, NO_MEMORY};
 ghost use Rattle.cl_top.specs.Command.{command_of};
 ghost use Rattle.cl_top.specs.Files.{SomeRose, NoneRose, SomeTooLong};
 ghost use Rattle.cl_top.specs.Fetch.{given};
-ghost use Rattle.cl_top.specs.Outcome.{analysed, outcome_of};
+ghost use Rattle.cl_top.specs.Outcome.{analysed, validated, outcome_of};
 ghost use Rattle.cl_top.specs.Run.{ComesTo, IsWhole, IsCut, Ends, KeepsToTold};
 
 use crate::command::{Command, read_command};
 use crate::fetching::{FileFetch, fetch_file};
 use crate::{Outcome, status};
 use cl_io::{Shelf, Sink, Words, WriteFault, write_all};
+use cl_model::SystemModel;
 use cl_read::{ReadFault, read_model};
 use cl_time::{NoMemory, Steps};
+use cl_valid::{ValidFault, validate};
 use std::alloc::Global;
 use std::sync::ledger::Ledger;
 
@@ -94,9 +98,21 @@ fn analysed_file(alloc: Global, bytes: &[u8]) -> Result<Outcome, NoMemory>
     ensures { IfOk result (λ found. found ≡ analysed (model_of bytes.now)) }
 {
     match read_model(alloc, bytes) {
-        Ok(_) => Outcome::form_not_built(alloc),
+        Ok(model) => analysed_model(alloc, model),
         Err(ReadFault::Refused(refusal)) => Outcome::model_refused(alloc, refusal),
         Err(ReadFault::NoMemory) => Err(NoMemory),
+    }
+}
+
+/// The outcome of the analysis of a model that was read.
+fn analysed_model(alloc: Global, model: SystemModel) -> Result<Outcome, NoMemory>
+    requires { IsInRange model }
+    ensures { IfOk result (λ found. found ≡ validated (refusal_of model)) }
+{
+    match validate(alloc, model) {
+        Ok(_) => Outcome::form_not_built(alloc),
+        Err((_, ValidFault::Refused(refusal))) => Outcome::model_refused(alloc, refusal),
+        Err((_, ValidFault::NoMemory)) => Err(NoMemory),
     }
 }
 
