@@ -2,7 +2,9 @@
 use Rattle.std.proofs.Common.{◌≡◌, ℕ, suc, ◌<◌, ◌≤◌, inl, inr, Option, Some, None, List, length, get_or, take, sym, ap, ◌∙◌, arith}
 use Rattle.std.proofs.lemmas.Bool.{cases_lt}
 use Rattle.std.proofs.lemmas.List.{take-take, get_or-take}
-use Rattle.cl_runs.specs.TaskTiming.{System, Access, explicit, implicit, timed, timing_at, IsSound}
+use Rattle.cl_model.specs.declared.task.AccessKind.{AccessKind}
+use Rattle.cl_model.specs.declared.task.AccessKind.TheVariants.{Explicit, Implicit, Timed}
+use Rattle.cl_runs.specs.TaskTiming.{System, timing_at, IsSound}
 use Rattle.cl_runs.specs.declared.job.Job.{Job}
 use Rattle.cl_runs.specs.Table.{job_at}
 use Rattle.cl_runs.specs.Run.{Run, jobs_of, core_entries, entry_at, executed}
@@ -58,15 +60,15 @@ module _ (system : System) (shorter longer : Run) (goes_on : GoesOn shorter long
     ];
   }
 
-  read_kept : (a : Access) (k p t : ℕ) → k < length (jobs_of shorter i) → ReadsBy a system shorter i k p t → ReadsBy a system longer i k p t
-  read_kept explicit k p t job starts = starts_kept k p t starts
-  read_kept implicit k p t job starts = starts_kept k 0 t starts
-  read_kept timed k p t job arrives = arrives ∙ arrival_kept k job
+  read_kept : (a : AccessKind) (k p t : ℕ) → k < length (jobs_of shorter i) → ReadsBy a system shorter i k p t → ReadsBy a system longer i k p t
+  read_kept Explicit k p t job starts = starts_kept k p t starts
+  read_kept Implicit k p t job starts = starts_kept k 0 t starts
+  read_kept Timed k p t job arrives = arrives ∙ arrival_kept k job
 
-  write_kept : (a : Access) (k p t : ℕ) → k < length (jobs_of shorter i) → WritesBy a system shorter i k p t → WritesBy a system longer i k p t
-  write_kept explicit k p t job finishes = finishes_kept k p t finishes
-  write_kept implicit k p t job finishes = finishes_kept k _ t finishes
-  write_kept timed k p t job writes = record {
+  write_kept : (a : AccessKind) (k p t : ℕ) → k < length (jobs_of shorter i) → WritesBy a system shorter i k p t → WritesBy a system longer i k p t
+  write_kept Explicit k p t job finishes = finishes_kept k p t finishes
+  write_kept Implicit k p t job finishes = finishes_kept k _ t finishes
+  write_kept Timed k p t job writes = record {
     finish = writes.finish;
     finishes = finishes_kept k _ writes.finish writes.finishes;
     in_time = writes.in_time;
@@ -151,30 +153,30 @@ module _ (system : System) (sound : IsSound system) (shorter longer : Run) (lega
     | inr further ↦ absurd (omega (arith, early, goes_on.later_jobs i k further h))
   ]
 
-  job_of_read : (a : Access) (k p t : ℕ) → k < length (jobs_of longer i) → ReadsBy a system longer i k p t → t < shorter.table.ticks
+  job_of_read : (a : AccessKind) (k p t : ℕ) → k < length (jobs_of longer i) → ReadsBy a system longer i k p t → t < shorter.table.ticks
       → k < length (jobs_of shorter i)
-  job_of_read explicit k p t job starts h = job_of_start k p t starts h
-  job_of_read implicit k p t job starts h = job_of_start k 0 t starts h
-  job_of_read timed k p t job arrives h = job_of_arrival k job (omega (arith, arrives, h))
+  job_of_read Explicit k p t job starts h = job_of_start k p t starts h
+  job_of_read Implicit k p t job starts h = job_of_start k 0 t starts h
+  job_of_read Timed k p t job arrives h = job_of_arrival k job (omega (arith, arrives, h))
 
-  read_back : (a : Access) (k p t : ℕ) → k < length (jobs_of longer i) → ReadsBy a system longer i k p t → t < shorter.table.ticks
+  read_back : (a : AccessKind) (k p t : ℕ) → k < length (jobs_of longer i) → ReadsBy a system longer i k p t → t < shorter.table.ticks
       → ReadsBy a system shorter i k p t
-  read_back explicit k p t job starts h = starts_back k p t starts h
-  read_back implicit k p t job starts h = starts_back k 0 t starts h
-  read_back timed k p t job arrives h =
+  read_back Explicit k p t job starts h = starts_back k p t starts h
+  read_back Implicit k p t job starts h = starts_back k 0 t starts h
+  read_back Timed k p t job arrives h =
       arrives ∙ sym (arrival_kept system shorter longer goes_on i k (job_of_arrival k job (omega (arith, arrives, h))))
 
-  job_of_write : (a : Access) (k p t : ℕ) → k < length (jobs_of longer i) → WritesBy a system longer i k p t → t ≤ shorter.table.ticks
+  job_of_write : (a : AccessKind) (k p t : ℕ) → k < length (jobs_of longer i) → WritesBy a system longer i k p t → t ≤ shorter.table.ticks
       → k < length (jobs_of shorter i)
-  job_of_write explicit k p t job finishes h = job_of_finish k p t finishes h
-  job_of_write implicit k p t job finishes h = job_of_finish k _ t finishes h
-  job_of_write timed k p t job writes h = job_of_arrival k job (omega (arith, writes.at_deadline, h, (sound.tasks i is).above_jitter))
+  job_of_write Explicit k p t job finishes h = job_of_finish k p t finishes h
+  job_of_write Implicit k p t job finishes h = job_of_finish k _ t finishes h
+  job_of_write Timed k p t job writes h = job_of_arrival k job (omega (arith, writes.at_deadline, h, (sound.tasks i is).above_jitter))
 
-  write_back : (a : Access) (k p t : ℕ) → k < length (jobs_of longer i) → WritesBy a system longer i k p t → t ≤ shorter.table.ticks
+  write_back : (a : AccessKind) (k p t : ℕ) → k < length (jobs_of longer i) → WritesBy a system longer i k p t → t ≤ shorter.table.ticks
       → WritesBy a system shorter i k p t
-  write_back explicit k p t job finishes h = finishes_back k p t finishes h
-  write_back implicit k p t job finishes h = finishes_back k _ t finishes h
-  write_back timed k p t job writes h = record {
+  write_back Explicit k p t job finishes h = finishes_back k p t finishes h
+  write_back Implicit k p t job finishes h = finishes_back k _ t finishes h
+  write_back Timed k p t job writes h = record {
     finish = writes.finish;
     finishes = finishes_back k _ writes.finish writes.finishes (omega (arith, writes.in_time, h));
     in_time = writes.in_time;

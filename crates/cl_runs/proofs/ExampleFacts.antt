@@ -1,6 +1,8 @@
 -- The examples' facts.
 use Rattle.std.proofs.Common.{◌≡◌, ℕ, ◌+◌, ◌<◌, subst, arith}
-use Rattle.cl_runs.specs.TaskTiming.{System, Access, timed, timing_at}
+use Rattle.cl_model.specs.declared.task.AccessKind.{AccessKind}
+use Rattle.cl_model.specs.declared.task.AccessKind.TheVariants.{Timed}
+use Rattle.cl_runs.specs.TaskTiming.{System, timing_at}
 use Rattle.cl_runs.specs.Table.{job_at, AreLawfulJobs}
 use Rattle.cl_runs.specs.Run.{Run, jobs_of}
 use Rattle.cl_runs.specs.Moments.{JobFinishes, WritesAtDeadline, WritesBy, Writes}
@@ -19,8 +21,8 @@ two_jobs_for_16 = (
 pub two_jobs_not_for_17 : AreLawfulJobs sporadic_task 17 two_jobs → ⊥
 two_jobs_not_for_17 lawful = omega (arith, lawful.1.1)
 
-pub late_writes_nothing : (system : System) (run : Run) (i k p f t : ℕ) → (timing_at system i).access ≡ timed → JobFinishes system run i k f
+pub late_writes_nothing : (system : System) (run : Run) (i k p f t : ℕ) → (timing_at system i).access ≡ Timed → JobFinishes system run i k f
     → (job_at (jobs_of run i) k).arrival + (timing_at system i).deadline < f → Writes system run i k p t → ⊥
 late_writes_nothing system run i k p f t is finishes late writes =
-    let moment : WritesAtDeadline system run i k t = subst (λ (a : Access). WritesBy a system run i k p t) is writes.moment in
+    let moment : WritesAtDeadline system run i k t = subst (λ (a : AccessKind). WritesBy a system run i k p t) is writes.moment in
     omega (arith, late, moment.in_time, moment.at_deadline, finishes_once system run i k _ _ _ moment.finishes finishes)

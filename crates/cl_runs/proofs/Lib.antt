@@ -18,3 +18,6 @@ pub mod ChainsOrdered
 pub mod PatternLaws
 pub mod StretchFacts
 pub mod ExampleFacts
+pub mod SoundSystem
+pub mod ExampleRun
+pub mod ExampleChains

@@ -1,6 +1,8 @@
 -- Read and write moments: each is unique, they rise with the job number, and a job that has written has read.
 use Rattle.std.proofs.Common.{◌≡◌, ℕ, ◌<◌, ◌≤◌, length, refl, sym, ◌∙◌, arith}
-use Rattle.cl_runs.specs.TaskTiming.{System, Access, explicit, implicit, timed, timing_at, IsSound}
+use Rattle.cl_model.specs.declared.task.AccessKind.{AccessKind}
+use Rattle.cl_model.specs.declared.task.AccessKind.TheVariants.{Explicit, Implicit, Timed}
+use Rattle.cl_runs.specs.TaskTiming.{System, timing_at, IsSound}
 use Rattle.cl_runs.specs.Table.{job_at}
 use Rattle.cl_runs.specs.Run.{Run, jobs_of, executed}
 use Rattle.cl_runs.specs.Legal.{IsLegal}
@@ -12,15 +14,15 @@ use Rattle.cl_runs.proofs.LegalFacts.{place_of_task, core_ticks, job_places, tim
 use Rattle.cl_runs.proofs.StartsFinishes.{starts_once, finishes_once, starts_before}
 
 module _ (system : System) (run : Run) (i : ℕ) where
-  read_once : (a : Access) (k p s t : ℕ) → ReadsBy a system run i k p s → ReadsBy a system run i k p t → s ≡ t
-  read_once explicit k p s t one other = starts_once system run i k p s t one other
-  read_once implicit k p s t one other = starts_once system run i k 0 s t one other
-  read_once timed k p s t one other = one ∙ sym other
+  read_once : (a : AccessKind) (k p s t : ℕ) → ReadsBy a system run i k p s → ReadsBy a system run i k p t → s ≡ t
+  read_once Explicit k p s t one other = starts_once system run i k p s t one other
+  read_once Implicit k p s t one other = starts_once system run i k 0 s t one other
+  read_once Timed k p s t one other = one ∙ sym other
 
-  write_once : (a : Access) (k p s t : ℕ) → WritesBy a system run i k p s → WritesBy a system run i k p t → s ≡ t
-  write_once explicit k p s t one other = finishes_once system run i k p s t one other
-  write_once implicit k p s t one other = finishes_once system run i k _ s t one other
-  write_once timed k p s t one other = one.at_deadline ∙ sym other.at_deadline
+  write_once : (a : AccessKind) (k p s t : ℕ) → WritesBy a system run i k p s → WritesBy a system run i k p t → s ≡ t
+  write_once Explicit k p s t one other = finishes_once system run i k p s t one other
+  write_once Implicit k p s t one other = finishes_once system run i k _ s t one other
+  write_once Timed k p s t one other = one.at_deadline ∙ sym other.at_deadline
 
   -- a job reads once, and writes at most once
   pub reads_once : (k p s t : ℕ) → Reads system run i k p s → Reads system run i k p t → s ≡ t
@@ -75,41 +77,41 @@ module _ (system : System) (sound : IsSound system) (run : Run) (legal : IsLegal
       starts_before system run i k p t job place (core_ticks system sound run legal i is)
       (omega (arith, finishes.reached, jobs_apart k p l q h job place, before_through k p p job place (omega arith)))
 
-  read_rises : (a : Access) (k p l q s t : ℕ) → k < l → l < length (jobs_of run i) → ReadsBy a system run i k p s → ReadsBy a system run i l q t → s < t
-  read_rises explicit k p l q s t h below one other = starts_rise k p l q s t h one other
-  read_rises implicit k p l q s t h below one other = starts_rise k 0 l 0 s t h one other
-  read_rises timed k p l q s t h below one other = omega (arith, one, other, arrivals_in_order system sound run legal i is k l h below)
+  read_rises : (a : AccessKind) (k p l q s t : ℕ) → k < l → l < length (jobs_of run i) → ReadsBy a system run i k p s → ReadsBy a system run i l q t → s < t
+  read_rises Explicit k p l q s t h below one other = starts_rise k p l q s t h one other
+  read_rises Implicit k p l q s t h below one other = starts_rise k 0 l 0 s t h one other
+  read_rises Timed k p l q s t h below one other = omega (arith, one, other, arrivals_in_order system sound run legal i is k l h below)
 
-  write_rises : (a : Access) (k p l q s t : ℕ) → k < l → l < length (jobs_of run i) → WritesBy a system run i k p s → WritesBy a system run i l q t → s < t
-  write_rises explicit k p l q s t h below one other = finishes_rise k p l q s t h one other
-  write_rises implicit k p l q s t h below one other = finishes_rise k _ l _ s t h one other
-  write_rises timed k p l q s t h below one other =
+  write_rises : (a : AccessKind) (k p l q s t : ℕ) → k < l → l < length (jobs_of run i) → WritesBy a system run i k p s → WritesBy a system run i l q t → s < t
+  write_rises Explicit k p l q s t h below one other = finishes_rise k p l q s t h one other
+  write_rises Implicit k p l q s t h below one other = finishes_rise k _ l _ s t h one other
+  write_rises Timed k p l q s t h below one other =
       omega (arith, one.at_deadline, other.at_deadline, arrivals_in_order system sound run legal i is k l h below)
 
-  read_below : (a : Access) (k p t : ℕ) → k < length (jobs_of run i) → ReadsBy a system run i k p t → t < run.table.ticks
-  read_below explicit k p t job starts = starts.below_end
-  read_below implicit k p t job starts = starts.below_end
-  read_below timed k p t job arrives = omega (arith, arrives, arrives_below system sound run legal i is k job)
+  read_below : (a : AccessKind) (k p t : ℕ) → k < length (jobs_of run i) → ReadsBy a system run i k p t → t < run.table.ticks
+  read_below Explicit k p t job starts = starts.below_end
+  read_below Implicit k p t job starts = starts.below_end
+  read_below Timed k p t job arrives = omega (arith, arrives, arrives_below system sound run legal i is k job)
 
-  write_within : (a : Access) (k p t : ℕ) → WritesBy a system run i k p t → t ≤ run.table.ticks
-  write_within explicit k p t finishes = finishes.by_end
-  write_within implicit k p t finishes = finishes.by_end
-  write_within timed k p t writes = writes.by_end
+  write_within : (a : AccessKind) (k p t : ℕ) → WritesBy a system run i k p t → t ≤ run.table.ticks
+  write_within Explicit k p t finishes = finishes.by_end
+  write_within Implicit k p t finishes = finishes.by_end
+  write_within Timed k p t writes = writes.by_end
 
   -- a job that has written at a place has read at this and each earlier place
-  read_of_write : (a : Access) (k p q t : ℕ) → p ≤ q → q < length (timing_at system i).ranges → WritesBy a system run i k q t
+  read_of_write : (a : AccessKind) (k p q t : ℕ) → p ≤ q → q < length (timing_at system i).ranges → WritesBy a system run i k q t
       → (r : ℕ) × (r < t) × ReadsBy a system run i k p r
-  read_of_write explicit k p q t h place finishes = start_of_finish k p q t h finishes
-  read_of_write implicit k p q t h place finishes = start_of_finish k 0 _ t (omega arith) finishes
-  read_of_write timed k p q t h place writes =
+  read_of_write Explicit k p q t h place finishes = start_of_finish k p q t h finishes
+  read_of_write Implicit k p q t h place finishes = start_of_finish k 0 _ t (omega arith) finishes
+  read_of_write Timed k p q t h place writes =
       ((job_at (jobs_of run i) k).arrival, omega (arith, writes.at_deadline, (sound.tasks i is).above_jitter), refl)
 
   -- and the jobs before it have read
-  read_of_earlier : (a : Access) (k p l q t : ℕ) → k < l → l < length (jobs_of run i) → p < length (timing_at system i).ranges
+  read_of_earlier : (a : AccessKind) (k p l q t : ℕ) → k < l → l < length (jobs_of run i) → p < length (timing_at system i).ranges
       → WritesBy a system run i l q t → (r : ℕ) × (r < t) × ReadsBy a system run i k p r
-  read_of_earlier explicit k p l q t h below place finishes = start_of_earlier k p l q t h place finishes
-  read_of_earlier implicit k p l q t h below place finishes = start_of_earlier k 0 l _ t h (omega arith) finishes
-  read_of_earlier timed k p l q t h below place writes = (
+  read_of_earlier Explicit k p l q t h below place finishes = start_of_earlier k p l q t h place finishes
+  read_of_earlier Implicit k p l q t h below place finishes = start_of_earlier k 0 l _ t h (omega arith) finishes
+  read_of_earlier Timed k p l q t h below place writes = (
     (job_at (jobs_of run i) k).arrival,
     omega (arith, writes.at_deadline, arrivals_in_order system sound run legal i is k l h below),
     refl,

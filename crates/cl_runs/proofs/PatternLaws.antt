@@ -1,6 +1,7 @@
 -- What a lawful list of jobs says for each kind of arrival pattern.
 use Rattle.std.proofs.Common.{◌≡◌, ℕ, zero, suc, ◌+◌, ◌-◌, ◌*◌, ◌<◌, ◌≤◌, List, [], ◌∷◌, length, refl, sym, ap, subst, arith}
-use Rattle.cl_runs.specs.Pattern.{periodic, sporadic, first_least, first_greatest, least_gap, greatest_gap}
+use Rattle.cl_model.specs.declared.stimulus.StimulusKind.TheVariants.{Periodic, Sporadic}
+use Rattle.cl_runs.specs.Pattern.{first_least, first_greatest, least_gap, greatest_gap}
 use Rattle.cl_runs.specs.TaskTiming.{Timing}
 use Rattle.cl_runs.specs.declared.job.Job.{Job}
 use Rattle.cl_runs.specs.Table.{job_at, IsLawfulJob, AreLawfulFrom, AreLawfulJobs}
@@ -58,7 +59,7 @@ module _ (task : Timing) (ticks : ℕ) where
         )
 
 -- equal intervals of the first arrival
-module _ (task : Timing) (ticks period offset jitter : ℕ) (is : task.pattern ≡ periodic period offset jitter) (jobs : List Job) where
+module _ (task : Timing) (ticks period offset jitter : ℕ) (is : task.pattern ≡ Periodic period offset jitter) (jobs : List Job) where
   from_offset : AreLawfulJobs task ticks jobs → AreLawfulFrom task ticks 0 offset offset jobs
   from_offset lawful = moved task ticks jobs 0 _ _ offset offset (ap first_least is) (ap first_greatest is) lawful
 
@@ -118,7 +119,7 @@ module _ (task : Timing) (ticks low high : ℕ) (least : (k : ℕ) → least_gap
         (λ h. end 0 (omega arith)) (λ n h. end (suc n) (omega arith))),
   )
 
-module _ (task : Timing) (ticks low high : ℕ) (is : task.pattern ≡ sporadic low high) (jobs : List Job) where
+module _ (task : Timing) (ticks low high : ℕ) (is : task.pattern ≡ Sporadic low high) (jobs : List Job) where
   sporadic_least : (k : ℕ) → least_gap task.pattern k ≡ low
   sporadic_least k = ap (λ p. least_gap p k) is
 

@@ -12,3 +12,4 @@ pub mod Measured
 pub mod Stretches
 pub mod GoesOn
 pub mod Examples
+pub mod SystemOf

@@ -1,6 +1,8 @@
 -- When the runnables of a job start and finish, and when they read and write.
 use Rattle.std.specs.Prelude.{◌≡◌, ℕ, Some, ◌+◌, ◌-◌, ◌<◌, ◌≤◌, List, length, take, sum, sum_by, slice_index}
-use Rattle.cl_runs.specs.TaskTiming.{System, Access, explicit, implicit, timed, timing_at}
+use Rattle.cl_model.specs.declared.task.AccessKind.{AccessKind}
+use Rattle.cl_model.specs.declared.task.AccessKind.TheVariants.{Explicit, Implicit, Timed}
+use Rattle.cl_runs.specs.TaskTiming.{System, timing_at}
 use Rattle.cl_runs.specs.declared.job.Job.{Job}
 use Rattle.cl_runs.specs.Table.{job_at}
 use Rattle.cl_runs.specs.Run.{Run, jobs_of, entry_at, executed}
@@ -46,16 +48,16 @@ pub record WritesAtDeadline (system : System) (run : Run) (i k t : ℕ) : Type 0
   pub by_end : t ≤ run.table.ticks
 
 -- explicit: a runnable reads at its start; implicit: at the start of its job; timed: at the arrival of its job
-abbrev pub ReadsBy : Access → System → Run → ℕ → ℕ → ℕ → ℕ → Type 0
-ReadsBy explicit system run i k p t = Starts system run i k p t
-ReadsBy implicit system run i k p t = JobStarts system run i k t
-ReadsBy timed system run i k p t = t ≡ (job_at (jobs_of run i) k).arrival
+abbrev pub ReadsBy : AccessKind → System → Run → ℕ → ℕ → ℕ → ℕ → Type 0
+ReadsBy Explicit system run i k p t = Starts system run i k p t
+ReadsBy Implicit system run i k p t = JobStarts system run i k t
+ReadsBy Timed system run i k p t = t ≡ (job_at (jobs_of run i) k).arrival
 
 -- explicit: a runnable writes at its finish; implicit: at the finish of its job; timed: at the deadline of its job
-abbrev pub WritesBy : Access → System → Run → ℕ → ℕ → ℕ → ℕ → Type 0
-WritesBy explicit system run i k p t = Finishes system run i k p t
-WritesBy implicit system run i k p t = JobFinishes system run i k t
-WritesBy timed system run i k p t = WritesAtDeadline system run i k t
+abbrev pub WritesBy : AccessKind → System → Run → ℕ → ℕ → ℕ → ℕ → Type 0
+WritesBy Explicit system run i k p t = Finishes system run i k p t
+WritesBy Implicit system run i k p t = JobFinishes system run i k t
+WritesBy Timed system run i k p t = WritesAtDeadline system run i k t
 
 -- runnable p of task i's job k reads at t. Source: AMALTHEA's three access kinds and logical execution time
 pub record Reads (system : System) (run : Run) (i k p t : ℕ) : Type 0 where

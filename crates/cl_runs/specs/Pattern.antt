@@ -1,32 +1,23 @@
--- When the jobs of a task arrive: the pattern of its stimulus.
-use Rattle.std.specs.Prelude.{ℕ, ◌-◌}
-
--- periodic: job `k` arrives at `offset + k * period`, and is released at most `jitter` later;
--- sporadic: the first arrival is below `greatest`, each gap lies in [`least`, `greatest`], and release equals arrival
+-- When the jobs of a task arrive, by the kind of its stimulus and the number of the job.
 -- source: AMALTHEA's periodic and sporadic stimuli; their meaning in whole ticks is this project's profile
-pub data Pattern : Type 0 where
-  periodic : (period offset jitter : ℕ) → Pattern
-  sporadic : (least greatest : ℕ) → Pattern
+use Rattle.std.specs.Prelude.{ℕ, ◌-◌}
+use Rattle.cl_model.specs.declared.stimulus.StimulusKind.{StimulusKind}
+use Rattle.cl_model.specs.declared.stimulus.StimulusKind.TheVariants.{Periodic, Sporadic}
+use Rattle.cl_model.specs.Timing.{least_distance}
 
 -- the first arrival lies in [first_least, first_greatest]
-abbrev pub first_least : Pattern → ℕ
-first_least (periodic period offset jitter) = offset
-first_least (sporadic least greatest) = 0
+abbrev pub first_least : StimulusKind → ℕ
+first_least (Periodic period offset jitter) = offset
+first_least (Sporadic least greatest) = 0
 
-abbrev pub first_greatest : Pattern → ℕ
-first_greatest (periodic period offset jitter) = offset
-first_greatest (sporadic least greatest) = greatest - 1
+abbrev pub first_greatest : StimulusKind → ℕ
+first_greatest (Periodic period offset jitter) = offset
+first_greatest (Sporadic least greatest) = greatest - 1
 
 -- the job after job `k` arrives `least_gap` to `greatest_gap` ticks after job `k`
-abbrev pub least_gap : Pattern → ℕ → ℕ
-least_gap (periodic period offset jitter) k = period
-least_gap (sporadic least greatest) k = least
+abbrev pub least_gap : StimulusKind → ℕ → ℕ
+least_gap kind k = least_distance kind
 
-abbrev pub greatest_gap : Pattern → ℕ → ℕ
-greatest_gap (periodic period offset jitter) k = period
-greatest_gap (sporadic least greatest) k = greatest
-
--- a job is released at most so many ticks after its arrival
-abbrev pub release_jitter : Pattern → ℕ
-release_jitter (periodic period offset jitter) = jitter
-release_jitter (sporadic least greatest) = 0
+abbrev pub greatest_gap : StimulusKind → ℕ → ℕ
+greatest_gap (Periodic period offset jitter) k = period
+greatest_gap (Sporadic least greatest) k = greatest

@@ -1,6 +1,7 @@
 -- The two uses of job chains: over the moments of a run, and over the ideal moments of periodic timed tasks.
 use Rattle.std.specs.Prelude.{◌≡◌, ℕ, ◌+◌, ◌*◌}
-use Rattle.cl_runs.specs.Pattern.{Pattern, periodic, sporadic}
+use Rattle.cl_model.specs.declared.stimulus.StimulusKind.{StimulusKind}
+use Rattle.cl_model.specs.declared.stimulus.StimulusKind.TheVariants.{Periodic, Sporadic}
 use Rattle.cl_runs.specs.TaskTiming.{System, timing_at}
 use Rattle.cl_runs.specs.Run.{Run}
 use Rattle.cl_runs.specs.Moments.{Reads, Writes}
@@ -14,9 +15,9 @@ run_moments system run = record {
 }
 
 -- the arrival of job k of a periodic pattern is at t
-abbrev pub ArrivesAt : Pattern → ℕ → ℕ → Type 0
-ArrivesAt (periodic period offset jitter) k t = t ≡ offset + k * period
-ArrivesAt (sporadic least greatest) k t = ⊥
+abbrev pub ArrivesAt : StimulusKind → ℕ → ℕ → Type 0
+ArrivesAt (Periodic period offset jitter) k t = t ≡ offset + k * period
+ArrivesAt (Sporadic least greatest) k t = ⊥
 
 -- the ideal moments of periodic timed tasks, without an end of the run: job k reads at `offset + k * period`, and
 -- writes its task's deadline later

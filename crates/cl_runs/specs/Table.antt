@@ -3,7 +3,8 @@ use Rattle.std.specs.Prelude.{◌≡◌, ℕ, suc, ◌+◌, ◌<◌, ◌≤◌, 
 use Rattle.std.specs.List.{AllZip}
 use Rattle.cl_runs.specs.declared.job.Job.{Job}
 use Rattle.cl_runs.specs.declared.job.JobTable.{JobTable}
-use Rattle.cl_runs.specs.Pattern.{first_least, first_greatest, least_gap, greatest_gap, release_jitter}
+use Rattle.cl_model.specs.Timing.{greatest_jitter}
+use Rattle.cl_runs.specs.Pattern.{first_least, first_greatest, least_gap, greatest_gap}
 use Rattle.cl_runs.specs.TaskTiming.{TimeRange, Timing, System, timing_at}
 
 -- what stands past the last job
@@ -29,7 +30,7 @@ pub record IsLawfulJob (task : Timing) (ticks low high : ℕ) (job : Job) : Type
   pub not_late : job.arrival ≤ high
   pub arrives : job.arrival < ticks
   pub released : job.arrival ≤ job.release
-  pub in_jitter : job.release ≤ job.arrival + release_jitter task.pattern
+  pub in_jitter : job.release ≤ job.arrival + greatest_jitter task.pattern
   pub times : AllZip IsInRange task.ranges job.times
 
 -- the jobs from number k on, where the next arrival lies in [low, high]: each arrives in its interval, and

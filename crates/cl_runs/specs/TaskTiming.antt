@@ -1,13 +1,11 @@
 -- What the theory of runs needs to know of a model: a number of cores, and the timing of each task.
 use Rattle.std.specs.Prelude.{◌≡◌, ℕ, ◌<◌, ◌≤◌, List, [], length, slice_index_or, All}
-use Rattle.cl_runs.specs.Pattern.{Pattern, periodic, first_least, first_greatest, least_gap, greatest_gap, release_jitter}
-
--- how a runnable accesses labels: at its own start and finish, at those of its job, or at fixed moments
--- source: AMALTHEA's three access kinds; timed is logical execution time
-pub data Access : Type 0 where
-  explicit : Access
-  implicit : Access
-  timed : Access
+use Rattle.cl_model.specs.declared.stimulus.StimulusKind.{StimulusKind}
+use Rattle.cl_model.specs.declared.stimulus.StimulusKind.TheVariants.{Periodic}
+use Rattle.cl_model.specs.declared.task.AccessKind.{AccessKind}
+use Rattle.cl_model.specs.declared.task.AccessKind.TheVariants.{Timed}
+use Rattle.cl_model.specs.Timing.{greatest_jitter}
+use Rattle.cl_runs.specs.Pattern.{first_least, first_greatest, least_gap, greatest_gap}
 
 -- a job's execution time of a runnable lies in [least, greatest]
 pub record TimeRange : Type 0 where
@@ -20,8 +18,8 @@ pub record Timing : Type 0 where
   pub core : ℕ
   pub priority : ℕ
   pub deadline : ℕ
-  pub pattern : Pattern
-  pub access : Access
+  pub pattern : StimulusKind
+  pub access : AccessKind
   pub ranges : List TimeRange
 
 pub record System : Type 0 where
@@ -30,7 +28,7 @@ pub record System : Type 0 where
 
 -- what stands past the last task
 unfoldable pub no_timing : Timing
-no_timing = record { core = 0; priority = 0; deadline = 0; pattern = periodic 0 0 0; access = timed; ranges = [] }
+no_timing = record { core = 0; priority = 0; deadline = 0; pattern = Periodic 0 0 0; access = Timed; ranges = [] }
 
 -- the task of a number
 abbrev pub timing_at : System → ℕ → Timing
@@ -45,7 +43,7 @@ pub record IsSoundTask (cores : ℕ) (task : Timing) : Type 0 where
   pub first : first_least task.pattern ≤ first_greatest task.pattern
   pub gaps_rise : (k : ℕ) → 1 ≤ least_gap task.pattern k
   pub gaps_ordered : (k : ℕ) → least_gap task.pattern k ≤ greatest_gap task.pattern k
-  pub above_jitter : release_jitter task.pattern < task.deadline
+  pub above_jitter : greatest_jitter task.pattern < task.deadline
   pub within_gap : (k : ℕ) → task.deadline ≤ least_gap task.pattern k
 
 -- what a valid model is known to have: sound tasks, and no two tasks of one core with one priority

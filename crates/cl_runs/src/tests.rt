@@ -1,4 +1,5 @@
 use super::*;
+use cl_model::List;
 use std::test::Fail;
 
 #[test]

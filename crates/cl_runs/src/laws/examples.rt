@@ -1,10 +1,14 @@
 //! What the definitions say of small examples.
-ghost use Rattle.std.specs.Prelude.{◌≡◌, ℕ, ◌+◌, ◌<◌};
-ghost use Rattle.cl_runs.specs.TaskTiming.{System, timing_at, timed};
-ghost use Rattle.cl_runs.specs.Table.{job_at, AreLawfulJobs};
+ghost use Rattle.std.specs.Prelude.{◌≡◌, ℕ, ◌+◌, ◌<◌, ◌⊎◌, take};
+ghost use Rattle.cl_model.specs.declared.task.AccessKind.TheVariants.{Timed};
+ghost use Rattle.cl_runs.specs.TaskTiming.{System, timing_at, IsSound};
+ghost use Rattle.cl_runs.specs.Table.{job_at, AreLawfulJobs, IsLawful};
 ghost use Rattle.cl_runs.specs.Run.{Run, jobs_of};
+ghost use Rattle.cl_runs.specs.Legal.{IsLegal};
 ghost use Rattle.cl_runs.specs.Moments.{JobFinishes, Writes};
-ghost use Rattle.cl_runs.specs.Examples.{sporadic_task, two_jobs};
+ghost use Rattle.cl_runs.specs.Chains.{JobChain, group_at, first_job, IsEarliestReader, IsForwardChain, IsAgeChain, IsReducedChain};
+ghost use Rattle.cl_runs.specs.Measured.{IsMeasured};
+ghost use Rattle.cl_runs.specs.Examples.{sporadic_task, two_jobs, two_tasks, jobs_of_b, table_with, two_tasks_run, two_tasks_moments, from_a_to_b, chain_of, two_tasks_measured};
 
 /// With gaps from 5 to 8, arrivals at 0 and 8 are lawful for 16 ticks, and not for 17, since a third was due.
 pub fn arrivals_at_0_and_8()
@@ -14,6 +18,46 @@ pub fn arrivals_at_0_and_8()
 
 /// A timed job that finishes after its deadline writes nothing.
 pub fn late_timed_jobs_write_nothing()
-    ensures { (system : System) (run : Run) (i k p f t : ℕ) → (timing_at system i).access ≡ timed → JobFinishes system run i k f
+    ensures { (system : System) (run : Run) (i k p f t : ℕ) → (timing_at system i).access ≡ Timed → JobFinishes system run i k f
         → (job_at (jobs_of run i) k).arrival + (timing_at system i).deadline < f → Writes system run i k p t → ⊥ }
+{}
+
+/// Of two tasks with arrivals at 0, 10, 20 and 30 and at 12 and 32 the table is lawful for 37 ticks. Without the last
+/// job it isn't, since its arrival was due.
+pub fn table_of_two_tasks()
+    ensures lawful { IsLawful two_tasks (table_with jobs_of_b) }
+    ensures not_without_the_last { IsLawful two_tasks (table_with (take 1 jobs_of_b)) → ⊥ }
+{}
+
+/// The run of that table in which each job runs as it is released is legal.
+pub fn run_of_two_tasks()
+    ensures sound { IsSound two_tasks }
+    ensures legal { IsLegal two_tasks two_tasks_run }
+{}
+
+/// Its complete forward chains are those of the jobs 1 and 1, with a reaction of 37, and 2 and 1, with one of 27.
+pub fn forward_chains_of_two_tasks()
+    ensures reaction_37 { IsForwardChain two_tasks_moments from_a_to_b (chain_of 1 1 0 37) }
+    ensures reaction_27 { IsForwardChain two_tasks_moments from_a_to_b (chain_of 2 1 10 37) }
+    ensures no_other { (chain : JobChain) → IsForwardChain two_tasks_moments from_a_to_b chain
+        → (chain ≡ chain_of 1 1 0 37) ⊎ (chain ≡ chain_of 2 1 10 37) }
+{}
+
+/// The start-up chain isn't complete: B's job 0 is the earliest reader of A's job 0, and no complete forward chain
+/// begins with job 0.
+pub fn start_up_chains_are_not_complete()
+    ensures linked { IsEarliestReader two_tasks_moments (group_at from_a_to_b 0) (group_at from_a_to_b 1) 0 0 }
+    ensures not_complete { (chain : JobChain) → first_job chain ≡ 0 → IsForwardChain two_tasks_moments from_a_to_b chain → ⊥ }
+{}
+
+/// Its complete backward chain is that of the jobs 0 and 0, with an age of 37 and a reduced age of 17.
+pub fn backward_chain_of_two_tasks()
+    ensures age_37 { IsAgeChain two_tasks_moments from_a_to_b (chain_of 0 0 0 37) }
+    ensures reduced_17 { IsReducedChain two_tasks_moments from_a_to_b (chain_of 0 0 0 17) }
+    ensures no_other { (chain : JobChain) → IsAgeChain two_tasks_moments from_a_to_b chain → chain ≡ chain_of 0 0 0 37 }
+{}
+
+/// What is measured in that run.
+pub fn measured_of_two_tasks()
+    ensures { IsMeasured two_tasks_moments from_a_to_b two_tasks_measured }
 {}
