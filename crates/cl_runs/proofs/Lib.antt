@@ -21,3 +21,4 @@ pub mod ExampleFacts
 pub mod SoundSystem
 pub mod ExampleRun
 pub mod ExampleChains
+pub mod ModelOfExample

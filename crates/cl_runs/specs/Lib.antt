@@ -13,3 +13,4 @@ pub mod Stretches
 pub mod GoesOn
 pub mod Examples
 pub mod SystemOf
+pub mod ExampleModel

@@ -1,10 +1,9 @@
 //! What it means for a list of jobs to be lawful, in the words of each arrival pattern.
-ghost use Rattle.std.specs.Prelude.{◌≡◌, ℕ, ◌<◌, ◌≤◌, List, length};
+ghost use Rattle.std.specs.Prelude.{◌≡◌, ℕ, List};
 ghost use Rattle.cl_model.specs.declared.stimulus.StimulusKind.TheVariants.{Periodic, Sporadic};
-ghost use Rattle.cl_runs.specs.TaskTiming.{Timing, System, timing_at, IsSound};
+ghost use Rattle.cl_runs.specs.TaskTiming.{Timing};
 ghost use Rattle.cl_runs.specs.declared.job.Job.{Job};
-ghost use Rattle.cl_runs.specs.declared.job.JobTable.{JobTable};
-ghost use Rattle.cl_runs.specs.Table.{job_at, table_jobs, AreLawfulJobs, IsLawful};
+ghost use Rattle.cl_runs.specs.Table.{AreLawfulJobs};
 ghost use Rattle.cl_runs.specs.Arrivals.{FollowsPeriod, FollowsGaps};
 
 /// The jobs of a periodic task are lawful exactly where job `k` is one that arrives at `offset + k * period`, and the

@@ -8,6 +8,8 @@ ghost use Rattle.cl_runs.specs.Legal.{IsLegal};
 ghost use Rattle.cl_runs.specs.Moments.{JobFinishes, Writes};
 ghost use Rattle.cl_runs.specs.Chains.{JobChain, group_at, first_job, IsEarliestReader, IsForwardChain, IsAgeChain, IsReducedChain};
 ghost use Rattle.cl_runs.specs.Measured.{IsMeasured};
+ghost use Rattle.cl_runs.specs.SystemOf.{system_of, groups_of};
+ghost use Rattle.cl_runs.specs.ExampleModel.{two_tasks_model, chain_ab};
 ghost use Rattle.cl_runs.specs.Examples.{sporadic_task, two_jobs, two_tasks, jobs_of_b, table_with, two_tasks_run, two_tasks_moments, from_a_to_b, chain_of, two_tasks_measured};
 
 /// With gaps from 5 to 8, arrivals at 0 and 8 are lawful for 16 ticks, and not for 17, since a third was due.
@@ -20,6 +22,12 @@ pub fn arrivals_at_0_and_8()
 pub fn late_timed_jobs_write_nothing()
     ensures { (system : System) (run : Run) (i k p f t : ℕ) → (timing_at system i).access ≡ Timed → JobFinishes system run i k f
         → (job_at (jobs_of run i) k).arrival + (timing_at system i).deadline < f → Writes system run i k p t → ⊥ }
+{}
+
+/// The system of a model of two tasks, and the groups of its chain.
+pub fn model_of_two_tasks()
+    ensures system { system_of two_tasks_model ≡ two_tasks }
+    ensures groups { groups_of two_tasks_model chain_ab ≡ from_a_to_b }
 {}
 
 /// Of two tasks with arrivals at 0, 10, 20 and 30 and at 12 and 32 the table is lawful for 37 ticks. Without the last

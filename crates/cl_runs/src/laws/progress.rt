@@ -1,9 +1,9 @@
 //! Progress: executed ticks never exceed released work, and a finish is where they reach the work up to it.
-ghost use Rattle.std.specs.Prelude.{◌≡◌, ℕ, ◌<◌, ◌≤◌, length};
+ghost use Rattle.std.specs.Prelude.{ℕ, ◌<◌, ◌≤◌, length};
 ghost use Rattle.cl_runs.specs.TaskTiming.{System, timing_at, IsSound};
 ghost use Rattle.cl_runs.specs.Run.{Run, jobs_of, executed};
 ghost use Rattle.cl_runs.specs.Legal.{released, IsLegal};
-ghost use Rattle.cl_runs.specs.Moments.{work_through, Starts, Finishes};
+ghost use Rattle.cl_runs.specs.Moments.{work_through, Finishes};
 
 /// In a legal run no more is executed than is released.
 pub fn executed_within_released()

@@ -1,0 +1,13 @@
+-- The system and the groups of the example's model.
+use Rattle.std.proofs.Common.{◌≡◌, refl}
+use Rattle.cl_runs.specs.SystemOf.{system_of, groups_of}
+use Rattle.cl_runs.specs.Examples.{two_tasks, from_a_to_b}
+use Rattle.cl_runs.specs.ExampleModel.{chain_ab, two_tasks_model}
+
+pub model_system : system_of two_tasks_model ≡ two_tasks
+unfolding system_of two_tasks two_tasks_model
+model_system = refl
+
+pub model_groups : groups_of two_tasks_model chain_ab ≡ from_a_to_b
+unfolding groups_of two_tasks_model
+model_groups = refl
