@@ -37,18 +37,18 @@ fn a_refused_model_comes_back(rt: HostRuntime) -> Result<(), Fail> {
     let alloc = rt.alloc();
     let model = model_of_cores(alloc, &["c0", "c1", "c0"])?;
     assert!(rt; in_range(&model));
-    match validate(alloc, model) {
-        Ok(_) => assert!(rt; false, "a core is named twice"),
-        Err((model, ValidFault::Refused(refusal))) => {
-            assert_eq!(rt; refusal.code, Code::M20);
-            assert_eq!(rt;
-                refusal.place,
-                Part::Core.whole().at_item(2).at_key(Key::Name)
-            );
-            assert_eq!(rt; model.cores.len(), 3);
-        }
-        Err((_, ValidFault::NoMemory)) => assert!(rt; false, "there is memory"),
-    }
+    let Err((model, fault)) = validate(alloc, model) else {
+        return Err(Fail::from("a core is named twice"));
+    };
+    assert_eq!(rt; model.cores.len(), 3);
+    let ValidFault::Refused(refusal) = fault else {
+        return Err(Fail::from("there is memory"));
+    };
+    assert_eq!(rt; refusal.code, Code::M20);
+    assert_eq!(rt;
+        refusal.place,
+        Part::Core.whole().at_item(2).at_key(Key::Name)
+    );
     Ok(())
 }
 
