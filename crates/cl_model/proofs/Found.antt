@@ -8,7 +8,8 @@ use Rattle.std.proofs.Math.ListN.{length-map}
 use Rattle.cl_model.specs.Named.{same_name, has_name, place_of}
 use Rattle.cl_model.specs.NameSets.{names_with, AreApart}
 
-found_within : {X : Type 0} (p : X → Bool) (xs : List X) → list_any p xs ≡ true → position_or_len p xs < length xs
+-- what passes a test is found
+pub found_within : {X : Type 0} (p : X → Bool) (xs : List X) → list_any p xs ≡ true → position_or_len p xs < length xs
 found_within p [] h = cc
 found_within p (x ∷ xs) h =
     elim (p x) as (λ b. (b || list_any p xs) ≡ true → cond (not b) (1 + prefix_len (λ y. not (p y)) xs) 0 < suc (length xs)) [

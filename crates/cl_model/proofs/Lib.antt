@@ -3,3 +3,8 @@ pub mod ReadingExamples
 pub mod Refused
 pub mod Found
 pub mod ValidFacts
+pub mod StepFacts
+pub mod RunnableNames
+pub mod GroupFacts
+pub mod ValidTasks
+pub mod CoreTasks

@@ -1,6 +1,7 @@
 -- What holds of a valid model.
-use Rattle.std.proofs.Common.{◌≡◌, ℕ, ◌<◌, true, List, [], length, get_or, take, map, sym, ap, ◌∙◌, arith}
-use Rattle.std.specs.Prelude.{Option, None, is_some}
+use Rattle.std.proofs.Common.{◌≡◌, ℕ, ◌+◌, ◌<◌, true, List, [], length, get_or, take, map, sym, ap, ◌∙◌, arith}
+use Rattle.std.specs.Prelude.{Option, None, is_some, All}
+use Rattle.cl_model.specs.declared.chain.ChainDef.{ChainDef}
 use Rattle.cl_model.specs.declared.model.SystemModel.{SystemModel}
 use Rattle.cl_model.specs.declared.place.Place.{Place}
 use Rattle.cl_model.specs.declared.refusal.Code.{Code}
@@ -8,17 +9,19 @@ use Rattle.cl_model.specs.declared.refusal.Code.TheVariants.{M20, M21, M22, M23}
 use Rattle.cl_model.specs.declared.place.Part.TheVariants as part
 use Rattle.cl_model.specs.declared.stimulus.StimulusKind.{StimulusKind}
 use Rattle.cl_model.specs.declared.task.TaskDef.{TaskDef}
+use Rattle.std.proofs.lemmas.Bool.{eqb-true}
 use Rattle.std.proofs.lemmas.List.{get_or-map}
 use Rattle.std.proofs.Math.ListN.{length-map}
 use Rattle.cl_model.proofs.Found.{place_within}
 use Rattle.cl_model.specs.declared.place.Key.TheVariants as key
 use Rattle.cl_model.specs.Place.{entry_of, at_key}
-use Rattle.cl_model.specs.Named.{has_name, core_names, stimulus_names, label_names, task_names, kind_named}
+use Rattle.cl_model.specs.Named.{has_name, core_names, stimulus_names, label_names, task_names, kind_named, runnable_names, all_runnables}
 use Rattle.cl_model.specs.NameSets.{AreApart}
 use Rattle.cl_model.specs.OfTask.{no_task, core_number, kind_of, core_of, stimulus_of}
-use Rattle.cl_model.specs.ValidNames.{repeat_check, repeats, section_repeats, name_checks}
-use Rattle.cl_model.specs.ValidTasks.{naming_checks, task_check, task_checks}
-use Rattle.cl_model.specs.Validity.{IsValid, refusals_of}
+use Rattle.cl_model.specs.Refusals.{each}
+use Rattle.cl_model.specs.ValidNames.{repeat_check, repeats, section_repeats, runnable_repeats, name_checks, stimulus_checks}
+use Rattle.cl_model.specs.ValidTasks.{naming_checks, task_check, task_checks, deadline_checks}
+use Rattle.cl_model.specs.Validity.{IsValid, lengths_check, step_check, chain_check, refusals_of}
 use Rattle.cl_model.proofs.Refused.{none_before, none_behind, when_none, unless_none, each_none}
 
 -- names that don't repeat are apart
@@ -30,7 +33,7 @@ names_pass : (model : SystemModel) → IsValid model → name_checks model ≡ [
 unfolding refusals_of
 names_pass model valid = none_before _ _ valid.accepted
 
-tasks_pass : (model : SystemModel) → IsValid model → task_checks model ≡ []
+pub tasks_pass : (model : SystemModel) → IsValid model → task_checks model ≡ []
 unfolding refusals_of
 tasks_pass model valid = none_before _ _ (none_behind _ _ (none_behind _ _ valid.accepted))
 
@@ -56,9 +59,47 @@ tasks_apart model valid =
     let after_labels = none_behind (section_repeats M22 part.Label (label_names model)) _ after_stimuli in
     repeats_none M23 (λ i. at_key key.Name (entry_of part.Task i)) (task_names model) (none_before (section_repeats M23 part.Task (task_names model)) _ after_labels)
 
-naming_passes : (model : SystemModel) → task_checks model ≡ [] → (i : ℕ) (d : TaskDef) → i < length model.tasks → naming_checks model i (get_or model.tasks i d) ≡ []
+pub naming_passes : (model : SystemModel) → task_checks model ≡ [] → (i : ℕ) (d : TaskDef) → i < length model.tasks → naming_checks model i (get_or model.tasks i d) ≡ []
 unfolding task_check
 naming_passes model none i d lt = none_before _ _ (each_none (task_check model) model.tasks i d none lt)
+
+-- M24, and the checks of chains
+pub runnables_pass : (model : SystemModel) → IsValid model → each (runnable_repeats model.tasks) model.tasks ≡ []
+unfolding name_checks
+runnables_pass model valid =
+    let after_cores = none_behind (section_repeats M20 part.Core (core_names model)) _ (names_pass model valid) in
+    let after_stimuli = none_behind (section_repeats M21 part.Stimulus (stimulus_names model)) _ after_cores in
+    let after_labels = none_behind (section_repeats M22 part.Label (label_names model)) _ after_stimuli in
+    none_before (each (runnable_repeats model.tasks) model.tasks) _ (none_behind (section_repeats M23 part.Task (task_names model)) _ after_labels)
+
+pub chains_pass : (model : SystemModel) → IsValid model → each (chain_check model) model.chains ≡ []
+unfolding refusals_of
+chains_pass model valid =
+    let after_tasks = none_behind (task_checks model) _ (none_behind (stimulus_checks model) _ (none_behind (name_checks model) _ valid.accepted)) in
+    none_before (each (chain_check model) model.chains) _ (none_behind (deadline_checks model) _ after_tasks)
+
+-- M42
+pub deadlines_pass : (model : SystemModel) → IsValid model → deadline_checks model ≡ []
+unfolding refusals_of
+deadlines_pass model valid =
+    none_before (deadline_checks model) _ (none_behind (task_checks model) _ (none_behind (stimulus_checks model) _ (none_behind (name_checks model) _ valid.accepted)))
+
+-- a chain has one label fewer than steps
+pub chain_lengths : (model : SystemModel) → IsValid model → (i : ℕ) (d : ChainDef) → i < length model.chains
+    → length (get_or model.chains i d).labels + 1 ≡ length (get_or model.chains i d).runnables
+unfolding chain_check
+chain_lengths model valid i d lt =
+    eqb-true _ _ (unless_none _ _ _ (none_before _ _ (each_none (chain_check model) model.chains i d (chains_pass model valid) lt)))
+
+-- the steps of a chain are known
+pub steps_known : (model : SystemModel) → IsValid model → (i : ℕ) (d : ChainDef) → i < length model.chains
+    → All (λ name. has_name name (runnable_names (all_runnables model.tasks)) ≡ true) (get_or model.chains i d).runnables
+unfolding chain_check
+steps_known model valid i d lt k e k_lt =
+    let chain = get_or model.chains i d in
+    let place = at_key key.Runnables (entry_of part.Chain i) in
+    let checks = none_behind (lengths_check i chain) _ (each_none (chain_check model) model.chains i d (chains_pass model valid) lt) in
+    unless_none _ _ _ (each_none (step_check model place) chain.runnables k e (none_before (each (step_check model place) chain.runnables) _ checks) k_lt)
 
 -- the core and the stimulus of a task are known
 pub core_is_known : (model : SystemModel) → task_checks model ≡ [] → (i : ℕ) (d : TaskDef) → i < length model.tasks → has_name (get_or model.tasks i d).core (core_names model) ≡ true

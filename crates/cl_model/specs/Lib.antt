@@ -11,4 +11,6 @@ pub mod ValidNames
 pub mod ValidTasks
 pub mod Validity
 pub mod OfTask
+pub mod Groups
+pub mod Steps
 pub mod ValidModel

@@ -1,9 +1,11 @@
--- What a model says of its tasks, by their numbers. Times are in ticks.
-use Rattle.std.specs.Prelude.{ℕ, List, [], slice_index_or, Option, None, unwrap_or}
+-- What a model says of its tasks and cores, by their numbers. Times are in ticks.
+use Rattle.std.specs.Prelude.{ℕ, ◌==◌, List, [], length, slice_index_or, filter, sum_by, Option, None, unwrap_or}
+use Rattle.std.specs.List.{range_with_len}
 use Rattle.cl_model.specs.declared.model.SystemModel.{SystemModel}
 use Rattle.cl_model.specs.declared.stimulus.StimulusKind.{StimulusKind}
 use Rattle.cl_model.specs.declared.stimulus.StimulusKind.TheVariants.{Sporadic}
 use Rattle.cl_model.specs.declared.task.AccessKind.TheVariants.{Explicit}
+use Rattle.cl_model.specs.declared.task.RunnableDef.{RunnableDef}
 use Rattle.cl_model.specs.declared.task.TaskDef.{TaskDef}
 use Rattle.cl_model.specs.Named.{place_of, core_names, task_names, kind_named}
 use Rattle.cl_model.specs.Timing.{greatest_jitter, deadline_under}
@@ -28,6 +30,10 @@ core_number model task = unwrap_or (place_of task.core (core_names model)) 0
 abbrev pub kind_of : SystemModel → TaskDef → StimulusKind
 kind_of model task = unwrap_or (kind_named model task.stimulus) no_stimulus
 
+-- the greatest execution time of a job of a task
+abbrev pub greatest_time : TaskDef → ℕ
+greatest_time task = sum_by (λ (runnable : RunnableDef). runnable.greatest) task.runnables
+
 -- ---- of task i
 
 -- the number of its core
@@ -49,3 +55,17 @@ jitter_of model i = greatest_jitter (stimulus_of model i)
 -- the number of the task of that name
 abbrev pub task_named : SystemModel → List ℕ → Option ℕ
 task_named model name = place_of name (task_names model)
+
+-- the greatest execution time of a job of it
+abbrev pub time_of : SystemModel → ℕ → ℕ
+time_of model i = greatest_time (task_at model i)
+
+-- ---- of a core
+
+-- the numbers of its tasks among the first n, in file order
+abbrev pub tasks_of_core_below : SystemModel → ℕ → ℕ → List ℕ
+tasks_of_core_below model n core = filter (λ i. core_of model i == core) (range_with_len 0 n)
+
+-- the numbers of its tasks, in file order
+abbrev pub tasks_of_core : SystemModel → ℕ → List ℕ
+tasks_of_core model core = tasks_of_core_below model (length model.tasks) core

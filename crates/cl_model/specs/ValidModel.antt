@@ -1,13 +1,24 @@
 -- What a valid model keeps beside the plain one.
-use Rattle.std.specs.Prelude.{◌≡◌, map}
+use Rattle.std.specs.Prelude.{◌≡◌, length, map}
+use Rattle.std.specs.List.{range_with_len}
+use Rattle.cl_model.specs.declared.kept.Kept.{Kept}
+use Rattle.cl_model.specs.declared.model.SystemModel.{SystemModel}
 use Rattle.cl_model.specs.declared.valid_model.ValidModel.TheInside.{Inside}
+use Rattle.cl_model.specs.Groups.{groups_of}
 use Rattle.cl_model.specs.Named.{task_names}
-use Rattle.cl_model.specs.OfTask.{core_number, kind_of}
+use Rattle.cl_model.specs.OfTask.{core_number, kind_of, greatest_time, tasks_of_core}
 use Rattle.cl_model.specs.Validity.{IsValid}
 
--- the model is valid, and what is kept is that of each task
-pub record KeepsNumbers (a : Inside) : Type 0 where
+-- what is kept is that of each task, core and chain of the model
+pub record IsKeptOf (model : SystemModel) (kept : Kept) : Type 0 where
+  pub cores : kept.cores.items ≡ map (core_number model) model.tasks
+  pub stimuli : kept.stimuli.items ≡ map (kind_of model) model.tasks
+  pub tasks : kept.tasks ≡ task_names model
+  pub times : kept.times.items ≡ map greatest_time model.tasks
+  pub on_cores : kept.on_cores.items ≡ map (tasks_of_core model) (range_with_len 0 (length model.cores))
+  pub groups : kept.groups.items ≡ map (groups_of model) model.chains
+
+-- the model is valid, and what is kept beside it is its own
+pub record IsKept (a : Inside) : Type 0 where
   pub valid : IsValid a.model
-  pub cores : a.cores.items ≡ map (core_number a.model) a.model.tasks
-  pub stimuli : a.stimuli.items ≡ map (kind_of a.model) a.model.tasks
-  pub tasks : a.tasks ≡ task_names a.model
+  pub kept : IsKeptOf a.model a.kept

@@ -1,6 +1,6 @@
 //! The names of the entries of a section.
-ghost use Rattle.std.specs.Prelude.{◌≡◌, List, ℕ, map, IfOk};
-ghost use Rattle.cl_model.specs.NameSets.{AreApart};
+ghost use Rattle.std.specs.Prelude.{◌≡◌, List, ℕ, ◌++◌, map, IfOk, OnOk};
+ghost use Rattle.cl_model.specs.NameSets.{AreApart, AreNew};
 
 use crate::chain::{ChainDef, RequirementDef};
 use crate::model::{CoreDef, LabelDef};
@@ -19,15 +19,24 @@ pub trait Named {
         ensures { result.now ≡ name_of self.now };
 }
 
+/// Adds the names of entries behind others, where each of them is new.
+pub fn add_names<T: Named>(names: &mut NameSet, entries: &[T]) -> Result<(), NoMemory>
+    requires { AreNew names.old (map T.name_of entries.now) }
+    ensures { OnOk result (names.new ≡ names.old ++ map T.name_of entries.now) }
+{
+    for entry in entries {
+        let _ = names.add(entry.name())?;
+    }
+    Ok(())
+}
+
 /// The names of entries that have different ones, numbered as the entries.
 pub fn name_numbers<T: Named>(alloc: Global, entries: &[T]) -> Result<NameSet, NoMemory>
     requires { AreApart (map T.name_of entries.now) }
     ensures { IfOk result (λ names. names ≡ map T.name_of entries.now) }
 {
     let mut names = NameSet::new(alloc);
-    for entry in entries {
-        let _ = names.add(entry.name())?;
-    }
+    add_names(&mut names, entries)?;
     Ok(names)
 }
 

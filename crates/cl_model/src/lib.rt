@@ -4,6 +4,10 @@
 mod chain;
 mod copying;
 mod entries;
+mod group;
+mod groups;
+mod kept;
+pub mod laws;
 mod limits;
 mod list;
 mod model;
@@ -19,6 +23,8 @@ mod valid_model;
 pub use chain::{ChainDef, LengthKind, RequirementDef};
 pub use copying::TryCopy;
 pub use entries::{Named, name_numbers};
+pub use group::{Group, Step};
+pub use kept::kind_named;
 pub use limits::{
     MOST_ACCESSES, MOST_CHAINS, MOST_CORES, MOST_DISTANCES, MOST_HOPS, MOST_LABELS, MOST_PRIORITY,
     MOST_REQUIRED, MOST_REQUIREMENTS, MOST_RUNNABLES, MOST_RUNNABLES_OF_MODEL, MOST_STEPS,
@@ -32,7 +38,7 @@ pub use place::{Key, Part, Place};
 pub use refusal::{Code, Refusal};
 pub use stimulus::{StimulusDef, StimulusKind};
 pub use task::{AccessKind, RunnableDef, TaskDef};
-pub use valid_model::{ValidModel, kind_named};
+pub use valid_model::ValidModel;
 
 #[cfg(test)]
 mod tests;

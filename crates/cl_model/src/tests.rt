@@ -1,4 +1,5 @@
 use super::*;
+use crate::groups::groups;
 use std::alloc::Global;
 use std::test::Fail;
 
@@ -141,5 +142,26 @@ fn prints_places(rt: HostRuntime) -> Result<(), Fail> {
     };
     let text = format!(in rt.alloc(); "{top}")?;
     assert_eq!(rt; text.as_str(), "M1 top");
+    Ok(())
+}
+
+#[test]
+fn joins_steps_of_one_task_in_order(rt: HostRuntime) -> Result<(), Fail> {
+    let p = Step { task: 0, place: 0 };
+    let q = Step { task: 0, place: 1 };
+    let joined = groups(rt.alloc(), &[p, q])?;
+    let both = Group {
+        task: 0,
+        first: 0,
+        last: 1,
+    };
+    assert_eq!(rt; joined.as_slice(), [both].as_slice());
+    let apart = groups(rt.alloc(), &[q, p])?;
+    assert_eq!(rt;
+        apart.as_slice(),
+        [Group::of_step(q), Group::of_step(p)].as_slice()
+    );
+    let again = groups(rt.alloc(), &[p, p])?;
+    assert_eq!(rt; again.len(), 2);
     Ok(())
 }

@@ -1,13 +1,13 @@
 //! Valid models, which answer in constant time.
-ghost use Rattle.std.specs.Prelude.{◌≡◌, ◌<◌, length, map, IfOk, IfErr, IfSome};
-ghost use Rattle.cl_model.specs.Named.{stimulus_names, task_names, kind_named};
-ghost use Rattle.cl_model.specs.OfTask.{core_number, kind_of, core_of, stimulus_of, deadline_of, jitter_of, task_named};
+ghost use Rattle.std.specs.Prelude.{◌≡◌, ◌<◌, length, slice_index_or, IfOk, IfErr, IfSome, All};
+ghost use Rattle.cl_model.specs.Groups.{no_group, groups_at, IsGroupOf};
+ghost use Rattle.cl_model.specs.OfTask.{core_of, stimulus_of, deadline_of, jitter_of, time_of, tasks_of_core, task_named};
 ghost use Rattle.cl_model.specs.Validity.{IsValid};
 
-use crate::entries::name_numbers;
+use crate::group::Group;
+use crate::kept::{Kept, keep_beside};
 use crate::model::SystemModel;
 use crate::name::Name;
-use crate::name_set::NameSet;
 use crate::stimulus::StimulusKind;
 use cl_time::NoMemory;
 use std::alloc::Global;
@@ -17,12 +17,7 @@ use std::marker::Model;
 #[derive(Drop)]
 pub struct ValidModel {
     model: SystemModel,
-    /// The number of the core of each task.
-    cores: Vec<u32>,
-    /// The kind of the stimulus of each task.
-    stimuli: Vec<StimulusKind>,
-    /// The names of the tasks.
-    tasks: NameSet,
+    kept: Kept,
 }
 
 impl Model for ValidModel {
@@ -30,71 +25,11 @@ impl Model for ValidModel {
 
     ghost Value = { SystemModel };
 
-    ghost use Rattle.cl_model.specs.ValidModel.{KeepsNumbers};
+    ghost use Rattle.cl_model.specs.ValidModel.{IsKept};
 
     ghost view = { λ a. a.model };
 
-    ghost invariant = { KeepsNumbers };
-}
-
-/// The kind of the stimulus of that name, where the names of the stimuli are numbered.
-pub fn kind_named(model: &SystemModel, stimuli: &NameSet, name: &Name) -> Option<StimulusKind>
-    requires { stimuli.now ≡ stimulus_names model.now }
-    ensures { result ≡ kind_named model.now name.now }
-{
-    let number = stimuli.number_of(name)?;
-    let stimulus = model.stimuli.at(number)?;
-    Some(stimulus.kind)
-}
-
-fn core_numbers(alloc: Global, model: &SystemModel) -> Result<Vec<u32>, NoMemory>
-    requires { IsValid model.now }
-    ensures { IfOk result (λ numbers. numbers.items ≡ map (core_number model.now) model.now.tasks) }
-{
-    let cores = name_numbers(alloc, model.cores.as_slice())?;
-    let mut numbers = Vec::new(alloc);
-    for task in model.tasks.as_slice() {
-        let Some(number) = cores.number_of(&task.core) else {
-            unreachable!();
-        };
-        numbers.push(number as u32)?;
-    }
-    Ok(numbers)
-}
-
-fn stimulus_kinds(alloc: Global, model: &SystemModel) -> Result<Vec<StimulusKind>, NoMemory>
-    requires { IsValid model.now }
-    ensures { IfOk result (λ kinds. kinds.items ≡ map (kind_of model.now) model.now.tasks) }
-{
-    let stimuli = name_numbers(alloc, model.stimuli.as_slice())?;
-    let mut kinds = Vec::new(alloc);
-    for task in model.tasks.as_slice() {
-        let Some(kind) = kind_named(model, &stimuli, &task.stimulus) else {
-            unreachable!();
-        };
-        kinds.push(kind)?;
-    }
-    Ok(kinds)
-}
-
-/// What is kept beside a model.
-struct Kept {
-    cores: Vec<u32>,
-    stimuli: Vec<StimulusKind>,
-    tasks: NameSet,
-}
-
-fn keep_beside(alloc: Global, model: &SystemModel) -> Result<Kept, NoMemory>
-    requires { IsValid model.now }
-    ensures cores { IfOk result (λ kept. kept.cores.items ≡ map (core_number model.now) model.now.tasks) }
-    ensures stimuli { IfOk result (λ kept. kept.stimuli.items ≡ map (kind_of model.now) model.now.tasks) }
-    ensures tasks { IfOk result (λ kept. kept.tasks ≡ task_names model.now) }
-{
-    Ok(Kept {
-        cores: core_numbers(alloc, model)?,
-        stimuli: stimulus_kinds(alloc, model)?,
-        tasks: name_numbers(alloc, model.tasks.as_slice())?,
-    })
+    ghost invariant = { IsKept };
 }
 
 impl ValidModel {
@@ -106,18 +41,7 @@ impl ValidModel {
         ensures err { IfErr result (λ error. error.0 ≡ model) }
     {
         match keep_beside(alloc, &model) {
-            Ok(
-                Kept {
-                    cores,
-                    stimuli,
-                    tasks,
-                },
-            ) => Ok(ValidModel {
-                model,
-                cores,
-                stimuli,
-                tasks,
-            }),
+            Ok(kept) => Ok(ValidModel { model, kept }),
             Err(no_memory) => Err((model, no_memory)),
         }
     }
@@ -157,7 +81,7 @@ impl ValidModel {
         ensures core { result ≡ core_of self.now task }
         ensures within { result < length self.now.cores }
     {
-        self.cores[task as usize]
+        self.kept.cores[task as usize]
     }
 
     /// The kind of the stimulus of a task.
@@ -165,7 +89,7 @@ impl ValidModel {
         requires { task < length self.now.tasks }
         ensures { result ≡ stimulus_of self.now task }
     {
-        self.stimuli[task as usize]
+        self.kept.stimuli[task as usize]
     }
 
     /// The deadline of a task in ticks from its arrival: the one that is given, or the least distance between arrivals.
@@ -184,12 +108,48 @@ impl ValidModel {
         self.stimulus_of(task).greatest_jitter()
     }
 
+    /// The greatest execution time of a job of a task in ticks: how long its runnables take at most.
+    pub fn time_of(&self, task: u32) -> u64
+        requires { task < length self.now.tasks }
+        ensures { result ≡ time_of self.now task }
+    {
+        self.kept.times[task as usize]
+    }
+
+    /// The numbers of the tasks of a core, in file order.
+    pub fn tasks_of_core(&self, core: u32) -> &[u32]
+        requires { core < length self.now.cores }
+        ensures tasks { result.now ≡ tasks_of_core self.now core }
+        ensures within { All (λ task. task < length self.now.tasks) result.now }
+    {
+        self.kept.on_cores[core as usize].as_slice()
+    }
+
+    /// How many groups the steps of a chain make: one or more.
+    pub fn group_count(&self, chain: u32) -> u32
+        requires { chain < length self.now.chains }
+        ensures count { result ≡ length (groups_at self.now chain) }
+        ensures some { 0 < result }
+    {
+        self.kept.groups[chain as usize].len() as u32
+    }
+
+    /// The group of a chain at a place, counted from 0.
+    pub fn group(&self, chain: u32, place: u32) -> Group
+        requires chain { chain < length self.now.chains }
+        requires place { place < length (groups_at self.now chain) }
+        ensures group { result ≡ slice_index_or (groups_at self.now chain) place no_group }
+        ensures of_task { IsGroupOf self.now result }
+    {
+        self.kept.groups[chain as usize].as_slice()[place as usize]
+    }
+
     /// The number of the task of that name. There is none exactly where no task has it.
     pub fn task_named(&self, name: &Name) -> Option<u32>
         ensures number { result ≡ task_named self.now name.now }
         ensures within { IfSome result (λ task. task < length self.now.tasks) }
     {
-        let number = self.tasks.number_of(name)?;
+        let number = self.kept.tasks.number_of(name)?;
         Some(number as u32)
     }
 

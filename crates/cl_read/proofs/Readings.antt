@@ -1,6 +1,6 @@
 -- What is answered of a document is the reading of the bytes that write it.
 use Rattle.std.proofs.Common.{◌≡◌, ℕ, List, [], ◌∷◌, Some, Result, Ok, Err, refl, sym, ap, subst, ◌∙◌}
-use Rattle.std.specs.Prelude.{IfOk}
+use Rattle.std.specs.Prelude.{Option, None, IfOk}
 use Rattle.toml.specs.Data.{Members}
 use Rattle.cl_model.specs.declared.model.SystemModel.{SystemModel}
 use Rattle.cl_model.specs.declared.refusal.Refusal.{Refusal}
@@ -39,3 +39,17 @@ reads_model bytes ms (Err NoMemory) found h = tt
 pub gives_in_range : (ms : Members) (result : Result SystemModel ReadFault) → Answers result (model_checks ms) (model_meaning ms) → IfOk result IsInRange
 gives_in_range ms (Ok model) h = subst IsInRange (sym h.1) (model_in_range ms h.0)
 gives_in_range ms (Err fault) h = tt
+
+-- a model that the bytes mean is in range
+answered : (checks : List Refusal) (meaning model : SystemModel) → answer checks meaning ≡ Ok model → (checks ≡ []) × (meaning ≡ model)
+answered [] meaning model is = (refl, cc)
+answered (r ∷ rs) meaning model is = absurd cc
+
+document_in_range : (document : Option Members) (model : SystemModel) → model_in document ≡ Ok model → IsInRange model
+document_in_range None model is = absurd cc
+document_in_range (Some ms) model is =
+    let (none, same) = answered (model_checks ms) (model_meaning ms) model is in subst IsInRange same (model_in_range ms none)
+
+pub meant_in_range : (bytes : List ℕ) (model : SystemModel) → model_of bytes ≡ Ok model → IsInRange model
+unfolding model_of
+meant_in_range bytes model means = document_in_range (document_of bytes) model means

@@ -5,8 +5,9 @@ use Rattle.std.proofs.lemmas.Bool.{and_parts, ltb-true, cond_both}
 use Rattle.cl_runs.specs.TaskTiming.{System, IsSound}
 use Rattle.cl_runs.specs.Run.{Run}
 use Rattle.cl_runs.specs.Legal.{IsLegal}
-use Rattle.cl_runs.specs.declared.group.Group.{Group}
-use Rattle.cl_runs.specs.Groups.{Step, is_inner, group_of_step, groups_from, groups}
+use Rattle.cl_model.specs.declared.group.Group.{Group}
+use Rattle.cl_model.specs.declared.group.Step.{Step}
+use Rattle.cl_model.specs.Groups.{is_inner, group_of_step, groups_from, groups}
 use Rattle.cl_runs.specs.Chains.{Moments, JobChain, group_at, first_group, last_group, first_job, last_job, IsForwardChain, AreBackwardLinks, IsAgeChain, IsReducedChain}
 use Rattle.cl_runs.specs.RunChains.{run_moments}
 use Rattle.cl_runs.proofs.MomentFacts.{has_read, reads_rise, writes_rise}

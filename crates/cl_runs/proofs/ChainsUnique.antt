@@ -4,7 +4,7 @@ use Rattle.std.specs.Prelude.{slice_index}
 use Rattle.std.proofs.lemmas.List.{ext_get_or}
 use Rattle.cl_runs.specs.TaskTiming.{System}
 use Rattle.cl_runs.specs.Run.{Run}
-use Rattle.cl_runs.specs.declared.group.Group.{Group}
+use Rattle.cl_model.specs.declared.group.Group.{Group}
 use Rattle.cl_runs.specs.Chains.{Moments, IsEarliestReader, IsLatestWriter, JobChain, group_at, first_group, last_group, first_job, last_job, IsForwardChain, AreBackwardLinks, IsAgeChain, IsReducedChain}
 use Rattle.cl_runs.specs.RunChains.{run_moments}
 use Rattle.cl_runs.proofs.MomentFacts.{reads_once, writes_once}

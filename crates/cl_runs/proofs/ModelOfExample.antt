@@ -1,6 +1,7 @@
 -- The system and the groups of the example's model.
 use Rattle.std.proofs.Common.{◌≡◌, refl}
-use Rattle.cl_runs.specs.SystemOf.{system_of, groups_of}
+use Rattle.cl_model.specs.Groups.{groups_of}
+use Rattle.cl_runs.specs.SystemOf.{system_of}
 use Rattle.cl_runs.specs.Examples.{two_tasks, from_a_to_b}
 use Rattle.cl_runs.specs.ExampleModel.{chain_ab, two_tasks_model}
 

@@ -1,7 +1,7 @@
 -- Job chains over any read and write moments of groups. Source: this project's profile.
 use Rattle.std.specs.Prelude.{◌≡◌, ℕ, suc, ◌+◌, ◌-◌, ◌<◌, ◌≤◌, List, length, slice_index, slice_index_or}
-use Rattle.cl_runs.specs.declared.group.Group.{Group}
-use Rattle.cl_runs.specs.Groups.{no_group}
+use Rattle.cl_model.specs.declared.group.Group.{Group}
+use Rattle.cl_model.specs.Groups.{no_group}
 
 -- at which ticks the jobs of groups read and write: `reads g k t` says that job k of group g reads at t
 pub record Moments : Type 1 where

@@ -1,5 +1,5 @@
 -- The model whose system is that of the two tasks.
-use Rattle.std.specs.Prelude.{None, List, [], ◌∷◌, codes}
+use Rattle.std.specs.Prelude.{None, [], ◌∷◌, codes}
 use Rattle.cl_model.specs.declared.chain.ChainDef.{ChainDef}
 use Rattle.cl_model.specs.declared.model.SystemModel.{SystemModel}
 use Rattle.cl_model.specs.declared.stimulus.StimulusKind.TheVariants.{Periodic}

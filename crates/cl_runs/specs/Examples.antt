@@ -2,12 +2,12 @@
 use Rattle.std.specs.Prelude.{ℕ, Option, Some, None, List, [], ◌∷◌, ◌++◌, replicate}
 use Rattle.cl_model.specs.declared.stimulus.StimulusKind.TheVariants.{Periodic, Sporadic}
 use Rattle.cl_model.specs.declared.task.AccessKind.TheVariants.{Implicit}
-use Rattle.cl_runs.specs.declared.group.Group.{Group}
+use Rattle.cl_model.specs.declared.group.Group.{Group}
 use Rattle.cl_runs.specs.declared.job.Job.{Job}
 use Rattle.cl_runs.specs.declared.job.JobTable.{JobTable}
 use Rattle.cl_runs.specs.TaskTiming.{Timing, System}
 use Rattle.cl_runs.specs.Run.{Run}
-use Rattle.cl_runs.specs.Groups.{groups}
+use Rattle.cl_model.specs.Groups.{groups}
 use Rattle.cl_runs.specs.Chains.{Moments, JobChain}
 use Rattle.cl_runs.specs.RunChains.{run_moments}
 use Rattle.cl_runs.specs.Measured.{Measured}

@@ -5,7 +5,6 @@ pub mod Arrivals
 pub mod Run
 pub mod Legal
 pub mod Moments
-pub mod Groups
 pub mod Chains
 pub mod RunChains
 pub mod Measured

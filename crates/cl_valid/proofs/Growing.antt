@@ -1,21 +1,18 @@
 -- Names that a loop adds.
 use Rattle.std.proofs.Common.{◌≡◌, ℕ, ◌+◌, ◌<◌, ◌^◌, false, List, [], ◌∷◌, ◌++◌, length, get_or, take, map, refl, sym, ap, ◌∙◌, append_assoc, arith}
 use Rattle.std.specs.Prelude.{All}
-use Rattle.std.proofs.lemmas.List.{take_more, append-nil, get_or_default, map-append}
-use Rattle.std.proofs.lemmas.Grind.{flat_map-append}
+use Rattle.std.proofs.lemmas.List.{take_more, get_or_default}
 use Rattle.std.proofs.Math.ListN.{length-map, get_or-map}
 use Rattle.cl_model.specs.declared.place.Place.{Place}
 use Rattle.cl_model.specs.declared.refusal.Code.{Code}
 use Rattle.cl_model.specs.declared.task.TaskDef.{TaskDef}
-use Rattle.cl_model.specs.declared.task.RunnableDef.{RunnableDef}
-use Rattle.cl_model.specs.Named.{has_name, all_runnables, runnable_names}
+use Rattle.cl_model.specs.Named.{has_name}
 use Rattle.cl_model.specs.Ranges.{IsTaskInRange}
 use Rattle.cl_model.specs.Refusals.{when, each}
 use Rattle.cl_model.specs.ValidNames.{repeat_check, repeats}
 use Rattle.cl_valid.specs.declared.fault.ValidFault.{ValidFault}
 use Rattle.cl_valid.specs.Answers.{IsFirst}
-use Rattle.cl_valid.specs.Kept.{AreNew}
-use Rattle.cl_model.specs.NameSets.{names_with}
+use Rattle.cl_model.specs.NameSets.{names_with, AreNew}
 use Rattle.cl_valid.proofs.Looping.{each_refused, each_passed}
 
 -- one more item behind those so far
@@ -44,12 +41,6 @@ pub repeat_refused : (code : Code) (place : ℕ → Place) (before names : List 
 repeat_refused code place before names n name old here fault so_far is h none lt at_n =
     each_refused (repeat_check code place before names) names n name fault none lt at_n (rw (repeat_is code place before names n name old here so_far is) at h)
 
--- the runnables of one more task
-pub runnables_more : (tasks : List TaskDef) (i : ℕ) (task : TaskDef) → i < length tasks → task ≡ get_or tasks i task → all_runnables (take (i + 1) tasks) ≡ all_runnables (take i tasks) ++ task.runnables
-runnables_more tasks i task lt is =
-    ap all_runnables (take_more tasks i task lt) ∙ flat_map-append (λ t. t.runnables) (take i tasks) (get_or tasks i task ∷ [])
-    ∙ ap (λ l. all_runnables (take i tasks) ++ l) (append-nil (get_or tasks i task).runnables) ∙ ap (λ t. all_runnables (take i tasks) ++ t.runnables) (sym is)
-
 -- a task has few runnables
 pub runnables_fit : (tasks : List TaskDef) → All IsTaskInRange tasks → (i : ℕ) (task : TaskDef) → i < length tasks → task ≡ get_or tasks i task → length task.runnables < 2 ^ 32
 runnables_fit tasks ranges i task lt is =
@@ -64,10 +55,3 @@ new_more before labels k label old new fresh so_far lt is after =
     let absent : has_name label old ≡ false = ap (λ l. has_name l old) e ∙ ap (has_name (get_or labels k [])) so_far ∙ fresh k lt in
     let added : new ≡ old ++ label ∷ [] = after ∙ rw absent refl in
     added_more before labels k label old new so_far lt is added
-
--- the names of the runnables of one more task
-pub runnable_names_more : (tasks : List TaskDef) (i : ℕ) (task : TaskDef) (body : List RunnableDef) (old new : List (List ℕ)) → i < length tasks → task ≡ get_or tasks i task → body ≡ task.runnables → old ≡ runnable_names (all_runnables (take i tasks)) → new ≡ old ++ runnable_names body
-    → new ≡ runnable_names (all_runnables (take (i + 1) tasks))
-runnable_names_more tasks i task body old new lt is same so_far added =
-    added ∙ ap (λ o. o ++ runnable_names body) so_far ∙ ap (λ b. runnable_names (all_runnables (take i tasks)) ++ runnable_names b) same
-    ∙ sym (ap runnable_names (runnables_more tasks i task lt is) ∙ map-append (λ r. r.name) (all_runnables (take i tasks)) task.runnables)

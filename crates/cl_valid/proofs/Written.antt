@@ -21,7 +21,8 @@ use Rattle.cl_model.specs.ValidNames.{repeat_check}
 use Rattle.cl_model.specs.ValidTasks.{writer_check, twice_check, runnable_checks, step_check, count_check}
 use Rattle.cl_model.proofs.Refused.{when_none, each_none}
 use Rattle.cl_valid.specs.declared.labels.Access.{Access}
-use Rattle.cl_valid.specs.Kept.{AreNew, access_of}
+use Rattle.cl_model.specs.NameSets.{AreNew}
+use Rattle.cl_valid.specs.Kept.{access_of}
 
 -- labels that stand nowhere before are new
 pub new_labels : (place other : Place) (written labels : List (List ℕ)) → each (writer_check place written) labels ≡ [] → twice_check other labels ≡ [] → AreNew written labels

@@ -1,5 +1,5 @@
 -- What checks keep for later ones.
-use Rattle.std.specs.Prelude.{◌≡◌, ℕ, false, List, [], ◌++◌, map, take, slice_index_or, EachIndex, Bool, nat_lt, ◌&&◌, ◌||◌, not, ◌∷◌, ◌+◌, ◌==◌, slice_get, Option}
+use Rattle.std.specs.Prelude.{◌≡◌, ℕ, List, [], map, Bool, nat_lt, ◌&&◌, ◌||◌, not, ◌∷◌, ◌+◌, ◌==◌, slice_get, Option}
 use Rattle.std.specs.List.{list_any}
 use Rattle.std.specs.Option.{option_and_then}
 use Rattle.cl_model.specs.declared.chain.ChainDef.{ChainDef}
@@ -29,10 +29,6 @@ pub record AreNames (model : SystemModel) (names : Names) : Type 0 where
   pub labels : names.labels ≡ label_names model
   pub runnables : names.runnables ≡ runnable_names (all_runnables model.tasks)
   pub chains : names.chains ≡ chain_names model
-
--- no label of the list is among these or stands earlier in the list
-abbrev pub AreNew : List (List ℕ) → List (List ℕ) → Type 0
-AreNew others labels = EachIndex labels (λ k. has_name (slice_index_or labels k []) (others ++ take k labels) ≡ false)
 
 -- what a runnable reads and writes
 abbrev pub access_of : RunnableDef → Access

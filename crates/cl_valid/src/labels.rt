@@ -5,7 +5,8 @@ ghost use Rattle.cl_model.specs.Ranges.{IsRunnableInRange, IsTaskInRange};
 ghost use Rattle.cl_model.specs.Refusals.{each};
 ghost use Rattle.cl_model.specs.ValidTasks.{label_check, writer_check, times_check, reads_check, writes_check, twice_check, contest_check, runnable_checks, body_checks};
 ghost use Rattle.cl_valid.specs.Answers.{Answers};
-ghost use Rattle.cl_valid.specs.Kept.{AreNew, access_of};
+ghost use Rattle.cl_model.specs.NameSets.{AreNew};
+ghost use Rattle.cl_valid.specs.Kept.{access_of};
 
 use crate::fault::{ValidFault, add_new, unless, when};
 use crate::places::{at_spot, at_sub};

@@ -3,8 +3,9 @@ ghost use Rattle.std.specs.Prelude.{◌≡◌, ◌<◌, List};
 ghost use Rattle.cl_runs.specs.TaskTiming.{System, IsSound};
 ghost use Rattle.cl_runs.specs.Run.{Run};
 ghost use Rattle.cl_runs.specs.Legal.{IsLegal};
-ghost use Rattle.cl_runs.specs.declared.group.Group.{Group};
-ghost use Rattle.cl_runs.specs.Groups.{Step, groups};
+ghost use Rattle.cl_model.specs.declared.group.Group.{Group};
+ghost use Rattle.cl_model.specs.declared.group.Step.{Step};
+ghost use Rattle.cl_model.specs.Groups.{groups};
 ghost use Rattle.cl_runs.specs.Chains.{JobChain, first_job, last_job, IsForwardChain, IsAgeChain, IsReducedChain};
 ghost use Rattle.cl_runs.specs.RunChains.{run_moments};
 

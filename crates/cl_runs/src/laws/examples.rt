@@ -8,7 +8,8 @@ ghost use Rattle.cl_runs.specs.Legal.{IsLegal};
 ghost use Rattle.cl_runs.specs.Moments.{JobFinishes, Writes};
 ghost use Rattle.cl_runs.specs.Chains.{JobChain, group_at, first_job, IsEarliestReader, IsForwardChain, IsAgeChain, IsReducedChain};
 ghost use Rattle.cl_runs.specs.Measured.{IsMeasured};
-ghost use Rattle.cl_runs.specs.SystemOf.{system_of, groups_of};
+ghost use Rattle.cl_model.specs.Groups.{groups_of};
+ghost use Rattle.cl_runs.specs.SystemOf.{system_of};
 ghost use Rattle.cl_runs.specs.ExampleModel.{two_tasks_model, chain_ab};
 ghost use Rattle.cl_runs.specs.Examples.{sporadic_task, two_jobs, two_tasks, jobs_of_b, table_with, two_tasks_run, two_tasks_moments, from_a_to_b, chain_of, two_tasks_measured};
 

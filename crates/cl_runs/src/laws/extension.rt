@@ -5,7 +5,7 @@ ghost use Rattle.cl_runs.specs.Run.{Run, empty_run};
 ghost use Rattle.cl_runs.specs.Legal.{IsLegal};
 ghost use Rattle.cl_runs.specs.Moments.{Starts, Finishes, Reads, Writes};
 ghost use Rattle.cl_runs.specs.GoesOn.{GoesOn};
-ghost use Rattle.cl_runs.specs.declared.group.Group.{Group};
+ghost use Rattle.cl_model.specs.declared.group.Group.{Group};
 ghost use Rattle.cl_runs.specs.Chains.{JobChain, IsForwardChain, IsAgeChain, IsReducedChain};
 ghost use Rattle.cl_runs.specs.RunChains.{run_moments};
 

@@ -1,6 +1,7 @@
 use Rattle.std.proofs.lemmas.Result.{err_from_is_err_and}
 use Rattle.cl_model.specs.ValidNames.{runnable_repeats}
-use Rattle.cl_valid.proofs.Growing.{runnables_fit, runnable_names_more}
+use Rattle.cl_model.proofs.RunnableNames.{runnable_names_more}
+use Rattle.cl_valid.proofs.Growing.{runnables_fit}
 use Rattle.cl_valid.proofs.Looping.{each_refused, each_passed}
 use Rattle.cl_valid.proofs.names.names_of_runnables.Goals as goal
 

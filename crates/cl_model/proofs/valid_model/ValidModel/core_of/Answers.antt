@@ -2,7 +2,7 @@ use Rattle.cl_model.proofs.ValidFacts.{core_kept, core_within}
 use Rattle.cl_model.proofs.valid_model.ValidModel.core_of.Goals as goal
 
 pub returns-clause-core : goal.returns-clause-core
-returns-clause-core c = rw (← c.self.view_is) (core_kept c.self.inside.model c.self.inside.cores.items c.args.task c.index.result.now c.self.invariant.cores (rw (← c.self.view_is) at c.requires) c.index.ensures)
+returns-clause-core c = rw (← c.self.view_is) (core_kept c.self.inside.model c.self.inside.kept.cores.items c.args.task c.index.result.now c.self.invariant.kept.cores (rw (← c.self.view_is) at c.requires) c.index.ensures)
 
 pub returns-clause-within : goal.returns-clause-within
 returns-clause-within c =

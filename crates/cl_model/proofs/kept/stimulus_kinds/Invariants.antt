@@ -1,6 +1,6 @@
 use Rattle.std.proofs.Common.{◌≡◌, map, take}
 use Rattle.cl_model.specs.OfTask.{kind_of}
-use Rattle.cl_model.proofs.valid_model.stimulus_kinds.Given as goal
+use Rattle.cl_model.proofs.kept.stimulus_kinds.Given as goal
 
 -- the kinds of the tasks so far
 abbrev pub invariant-loop-task : goal.invariant-loop-task

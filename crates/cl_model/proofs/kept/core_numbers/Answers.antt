@@ -1,7 +1,7 @@
 use Rattle.std.proofs.Common.{map, ap, ◌∙◌}
 use Rattle.cl_model.proofs.Found.{found_somewhere}
 use Rattle.cl_model.proofs.ValidFacts.{cores_apart, core_known_at}
-use Rattle.cl_model.proofs.valid_model.core_numbers.Goals as goal
+use Rattle.cl_model.proofs.kept.core_numbers.Goals as goal
 
 pub name_numbers-requires : goal.name_numbers-requires
 name_numbers-requires c = rw c.as_slice.ensures (cores_apart c.args.model.now c.requires)

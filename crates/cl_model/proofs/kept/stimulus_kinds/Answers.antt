@@ -1,5 +1,5 @@
 use Rattle.cl_model.proofs.ValidFacts.{stimuli_apart, stimulus_missing}
-use Rattle.cl_model.proofs.valid_model.stimulus_kinds.Goals as goal
+use Rattle.cl_model.proofs.kept.stimulus_kinds.Goals as goal
 
 pub name_numbers-requires : goal.name_numbers-requires
 name_numbers-requires c = rw c.as_slice.ensures (stimuli_apart c.args.model.now c.requires)

@@ -1,6 +1,6 @@
 use Rattle.std.proofs.Common.{◌≡◌, map, take}
 use Rattle.cl_model.specs.OfTask.{core_number}
-use Rattle.cl_model.proofs.valid_model.core_numbers.Given as goal
+use Rattle.cl_model.proofs.kept.core_numbers.Given as goal
 
 -- the numbers of the tasks so far
 abbrev pub invariant-loop-task : goal.invariant-loop-task

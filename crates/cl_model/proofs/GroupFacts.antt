@@ -1,0 +1,144 @@
+-- The groups of the chains of a valid model.
+use Rattle.std.proofs.Common.{◌≡◌, ℕ, suc, ◌+◌, ◌<◌, ◌≤◌, Bool, true, false, cond, ◌&&◌, ◌==◌, List, [], ◌∷◌, ◌++◌, length, get_or, take, map, refl, sym, ap, ◌∙◌, arith, nat_lt}
+use Rattle.std.specs.Prelude.{All, slice_index_or}
+use Rattle.std.proofs.lemmas.Bool.{ltb-true, ltb-false, eqb-true}
+use Rattle.std.proofs.lemmas.List.{take_more, map-append, length-map, get_or_past, get_or-map}
+use Rattle.std.proofs.lemmas.List.Elements.{All-nil, All-cons, All-map, All-same}
+use Rattle.cl_model.specs.declared.chain.ChainDef.{ChainDef}
+use Rattle.cl_model.specs.declared.group.Group.{Group}
+use Rattle.cl_model.specs.declared.group.Step.{Step}
+use Rattle.cl_model.specs.declared.groups.StepTable.{StepTable}
+use Rattle.cl_model.specs.declared.limits.TheConstants.{MOST_STEPS}
+use Rattle.cl_model.specs.declared.model.SystemModel.{SystemModel}
+use Rattle.cl_model.specs.Groups.{step_named, steps_of, is_inner, group_of_step, groups_from, groups, groups_of, no_chain, groups_at, IsGroupOf}
+use Rattle.cl_model.specs.Named.{has_name, runnable_names, all_runnables}
+use Rattle.cl_model.specs.OfTask.{task_at}
+use Rattle.cl_model.specs.Steps.{step_in, AreStepsOf}
+use Rattle.cl_model.specs.Validity.{IsValid}
+use Rattle.cl_model.proofs.StepFacts.{step_in_is, step_is_known}
+use Rattle.cl_model.proofs.ValidFacts.{chain_lengths, steps_known}
+
+-- ---- what is kept for a chain
+
+-- the steps of a chain that stands in the list are in the table
+pub steps_known_at : (model : SystemModel) → IsValid model → (table : StepTable) → AreStepsOf model.tasks table
+    → (chains : List ChainDef) (i : ℕ) (chain : ChainDef) (names : List (List ℕ)) → chains ≡ model.chains → i < length chains → chain ≡ get_or chains i chain → names ≡ chain.runnables
+    → All (λ name. has_name name table.names ≡ true) names
+steps_known_at model valid table kept chains i chain names same lt at is =
+    let here : names ≡ (get_or model.chains i chain).runnables = is ∙ ap (λ (c : ChainDef). c.runnables) at ∙ ap (λ cs. (get_or cs i chain).runnables) same in
+    rw (here, kept.names) (steps_known model valid i chain (rw same at lt))
+
+-- the look-up of each name in the table
+steps_are : (model : SystemModel) (table : StepTable) → AreStepsOf model.tasks table → (names : List (List ℕ))
+    → All (λ name. has_name name (runnable_names (all_runnables model.tasks)) ≡ true) names → map (step_in table) names ≡ map (step_named model) names
+steps_are model table kept [] known = refl
+steps_are model table kept (name ∷ names) known =
+    ap (λ s. s ∷ map (step_in table) names) (step_in_is model table name kept (known 0 name (omega arith)))
+    ∙ ap (λ l. step_named model name ∷ l) (steps_are model table kept names (λ k d lt. known (suc k) d (omega arith)))
+
+-- the groups of one more chain
+pub groups_more : (model : SystemModel) → IsValid model → (table : StepTable) → AreStepsOf model.tasks table
+    → (chains : List ChainDef) (i : ℕ) (chain : ChainDef) (names : List (List ℕ)) (steps read : List Step) (made : List Group) (old new : List (List Group))
+    → chains ≡ model.chains → i < length chains → chain ≡ get_or chains i chain → names ≡ chain.runnables → steps ≡ map (step_in table) names → read ≡ steps → made ≡ groups read
+    → old ≡ map (groups_of model) (take i chains) → new ≡ old ++ made ∷ [] → new ≡ map (groups_of model) (take (i + 1) chains)
+unfolding groups_of
+groups_more model valid table kept chains i chain names steps read made old new same lt at is looked reads makes so_far pushed =
+    let here : names ≡ (get_or model.chains i chain).runnables = is ∙ ap (λ (c : ChainDef). c.runnables) at ∙ ap (λ cs. (get_or cs i chain).runnables) same in
+    let known : All (λ name. has_name name (runnable_names (all_runnables model.tasks)) ≡ true) names = rw here (steps_known model valid i chain (rw same at lt)) in
+    let value : made ≡ groups_of model (get_or chains i chain)
+    = makes ∙ ap groups (reads ∙ looked ∙ steps_are model table kept names known) ∙ ap (λ ns. groups (map (step_named model) ns)) (is ∙ ap (λ (c : ChainDef). c.runnables) at) in
+    pushed ∙ ap (λ o. o ++ made ∷ []) so_far ∙ ap (λ m. map (groups_of model) (take i chains) ++ m ∷ []) value
+    ∙ sym (ap (map (groups_of model)) (take_more chains i chain lt) ∙ map-append (groups_of model) (take i chains) (get_or chains i chain ∷ []))
+
+-- ---- how many groups there are
+
+groups_from_few : (steps : List Step) (group : Group) → (0 < length (groups_from group steps)) × (length (groups_from group steps) ≤ length steps + 1)
+groups_from_few [] group = (omega arith, omega arith)
+groups_from_few (step ∷ steps) group =
+    elim (is_inner group step) as (λ b.
+    (0 < length (cond b (groups_from (record { task = group.task; first = group.first; last = step.place }) steps) (group ∷ groups_from (group_of_step step) steps)))
+    × (length (cond b (groups_from (record { task = group.task; first = group.first; last = step.place }) steps) (group ∷ groups_from (group_of_step step) steps)) ≤ length (step ∷ steps) + 1)) [
+      | true ↦ let rest = groups_from_few steps (record { task = group.task; first = group.first; last = step.place }) in (rest.0, omega arith)
+      | false ↦ let rest = groups_from_few steps (group_of_step step) in (omega arith, omega arith)
+    ]
+
+-- no more groups than steps, and one at least where there is a step
+pub groups_few : (steps : List Step) → length (groups steps) ≤ length steps
+groups_few [] = omega arith
+groups_few (step ∷ steps) = let rest = groups_from_few steps (group_of_step step) in omega arith
+
+pub groups_some : (steps : List Step) → 0 < length steps → 0 < length (groups steps)
+groups_some [] lt = absurd (omega arith)
+groups_some (step ∷ steps) lt = (groups_from_few steps (group_of_step step)).0
+
+-- ---- what groups are
+
+-- a step that is a runnable of a task
+record IsStepOf (model : SystemModel) (step : Step) : Type 0 where
+  known : step.task < length model.tasks
+  place : step.place < length (task_at model step.task).runnables
+
+both : (a b : Bool) → (a && b) ≡ true → (a ≡ true) × (b ≡ true)
+both true b h = (refl, h)
+both false b h = cc
+
+groups_from_are : (model : SystemModel) (steps : List Step) (group : Group) → IsGroupOf model group → All (IsStepOf model) steps → All (IsGroupOf model) (groups_from group steps)
+groups_from_are model [] group is each = All-cons (IsGroupOf model) group [] is (All-nil (IsGroupOf model))
+groups_from_are model (step ∷ steps) group is each =
+    let here : IsStepOf model step = each 0 step (omega arith) in
+    let rest : All (IsStepOf model) steps = λ k d lt. each (suc k) d (omega arith) in
+    elim (is_inner group step) as (λ b. is_inner group step ≡ b
+    → All (IsGroupOf model) (cond b (groups_from (record { task = group.task; first = group.first; last = step.place }) steps) (group ∷ groups_from (group_of_step step) steps))) [
+      | true ↦ λ e.
+          let inner = both (group.task == step.task) (nat_lt group.last step.place) e in
+          let same : group.task ≡ step.task = eqb-true group.task step.task inner.0 in
+          let behind = ltb-true group.last step.place inner.1 in
+          groups_from_are model steps (record { task = group.task; first = group.first; last = step.place })
+          (record { known = is.known; ordered = omega (arith, is.ordered); within = rw same here.place }) rest
+      | false ↦ λ e.
+          All-cons (IsGroupOf model) group (groups_from (group_of_step step) steps) is
+          (groups_from_are model steps (group_of_step step) (record { known = here.known; ordered = omega arith; within = here.place }) rest)
+    ] refl
+
+groups_are : (model : SystemModel) (steps : List Step) → All (IsStepOf model) steps → All (IsGroupOf model) (groups steps)
+groups_are model [] each = All-nil (IsGroupOf model)
+groups_are model (step ∷ steps) each =
+    let here : IsStepOf model step = each 0 step (omega arith) in
+    groups_from_are model steps (group_of_step step) (record { known = here.known; ordered = omega arith; within = here.place }) (λ k d lt. each (suc k) d (omega arith))
+
+module _ (model : SystemModel) (valid : IsValid model) where
+  steps_stand : (chain : ℕ) → chain < length model.chains → All (IsStepOf model) (steps_of model (slice_index_or model.chains chain no_chain))
+  steps_stand chain lt = All-map (IsStepOf model) (step_named model) (slice_index_or model.chains chain no_chain).runnables
+      (λ k d k_lt. let known = step_is_known model _ (steps_known model valid chain no_chain lt k d k_lt) in record { known = known.0; place = known.1 })
+
+  -- past the last chain there are no groups
+  none_past : (chain : ℕ) → length model.chains ≤ chain → groups_at model chain ≡ []
+  unfolding groups_of no_chain
+  none_past chain past = ap (groups_of model) (get_or_past model.chains chain no_chain past)
+
+  within : (chain : ℕ) → chain < length model.chains → All (IsGroupOf model) (groups_at model chain)
+  unfolding groups_of
+  within chain lt = groups_are model (steps_of model (slice_index_or model.chains chain no_chain)) (steps_stand chain lt)
+
+  pub groups_at_are : (chain : ℕ) → All (IsGroupOf model) (groups_at model chain)
+  groups_at_are chain = elim (nat_lt chain (length model.chains)) as (λ b. nat_lt chain (length model.chains) ≡ b → All (IsGroupOf model) (groups_at model chain)) [
+    | true ↦ λ e. within chain (ltb-true chain (length model.chains) e)
+    | false ↦ λ e. All-same (IsGroupOf model) (groups_at model chain) [] (none_past chain (ltb-false chain (length model.chains) e)) (All-nil (IsGroupOf model))
+  ] refl
+
+  pub groups_at_some : (chain : ℕ) → chain < length model.chains → 0 < length (groups_at model chain)
+  unfolding groups_of
+  groups_at_some chain lt = groups_some (steps_of model (slice_index_or model.chains chain no_chain))
+      (omega (arith, chain_lengths model valid chain no_chain lt, length-map (slice_index_or model.chains chain no_chain).runnables (step_named model)))
+
+  pub groups_at_few : (chain : ℕ) → chain < length model.chains → length (groups_at model chain) ≤ MOST_STEPS
+  unfolding groups_of
+  groups_at_few chain lt =
+      let few = groups_few (steps_of model (slice_index_or model.chains chain no_chain)) in
+      let steps = (valid.in_range.chains chain no_chain lt).runnables in
+      omega (arith, few, steps, length-map (slice_index_or model.chains chain no_chain).runnables (step_named model))
+
+-- ---- what is kept is found
+
+pub groups_kept : (model : SystemModel) (lists : List (List Group)) (i : ℕ) (list : List Group) → lists ≡ map (groups_of model) model.chains → i < length model.chains → list ≡ get_or lists i list → list ≡ groups_at model i
+groups_kept model lists i list kept lt at = at ∙ ap (λ ls. get_or ls i list) kept ∙ get_or-map (groups_of model) model.chains i no_chain list lt

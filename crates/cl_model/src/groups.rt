@@ -1,0 +1,119 @@
+//! The groups of each chain of a valid model.
+ghost use Rattle.std.specs.Prelude.{◌≡◌, ◌<◌, ◌^◌, true, [], ◌++◌, map, length, IfOk, OnOk, All};
+ghost use Rattle.cl_model.specs.Groups.{groups, groups_of};
+ghost use Rattle.cl_model.specs.Named.{has_name, runnable_names, all_runnables};
+ghost use Rattle.cl_model.specs.Ranges.{IsTaskInRange};
+ghost use Rattle.cl_model.specs.Refusals.{each};
+ghost use Rattle.cl_model.specs.Steps.{steps_in, steps_from, step_in, AreStepsOf};
+ghost use Rattle.cl_model.specs.ValidNames.{runnable_repeats};
+ghost use Rattle.cl_model.specs.Validity.{IsValid};
+
+use crate::entries::add_names;
+use crate::group::{Group, Step};
+use crate::list::List;
+use crate::model::SystemModel;
+use crate::name::Name;
+use crate::name_set::NameSet;
+use crate::task::TaskDef;
+use cl_time::NoMemory;
+use std::alloc::Global;
+
+/// The runnables of a model by name: the number of a name is the place of its step.
+#[derive(Drop)]
+struct StepTable {
+    names: NameSet,
+    steps: Vec<Step>,
+}
+
+fn names_of_runnables(alloc: Global, tasks: &[TaskDef]) -> Result<NameSet, NoMemory>
+    requires { each (runnable_repeats tasks.now) tasks.now ≡ [] }
+    ensures { IfOk result (λ names. names ≡ runnable_names (all_runnables tasks.now)) }
+{
+    let mut names = NameSet::new(alloc);
+    for task in tasks {
+        add_names(&mut names, task.runnables.as_slice())?;
+    }
+    Ok(names)
+}
+
+fn push_steps(steps: &mut Vec<Step>, task: u32, count: u32) -> Result<(), NoMemory>
+    ensures { OnOk result (steps.new.items ≡ steps.old.items ++ steps_in task count) }
+{
+    for place in 0..count {
+        steps.push(Step { task, place })?;
+    }
+    Ok(())
+}
+
+fn steps_of_tasks(alloc: Global, tasks: &[TaskDef]) -> Result<Vec<Step>, NoMemory>
+    requires count { length tasks.now < 2 ^ 32 }
+    requires in_range { All IsTaskInRange tasks.now }
+    ensures { IfOk result (λ steps. steps.items ≡ steps_from 0 tasks.now) }
+{
+    let mut steps = Vec::new(alloc);
+    for (i, task) in tasks.iter().enumerate() {
+        push_steps(&mut steps, i as u32, task.runnables.len() as u32)?;
+    }
+    Ok(steps)
+}
+
+fn step_table(alloc: Global, model: &SystemModel) -> Result<StepTable, NoMemory>
+    requires { IsValid model.now }
+    ensures { IfOk result (AreStepsOf model.now.tasks) }
+{
+    let tasks = model.tasks.as_slice();
+    Ok(StepTable {
+        names: names_of_runnables(alloc, tasks)?,
+        steps: steps_of_tasks(alloc, tasks)?,
+    })
+}
+
+fn steps_named(alloc: Global, table: &StepTable, names: &[Name]) -> Result<Vec<Step>, NoMemory>
+    requires known { All (λ name. has_name name table.now.names ≡ true) names.now }
+    requires paired { length table.now.steps.items ≡ length table.now.names }
+    ensures { IfOk result (λ steps. steps.items ≡ map (step_in table.now) names.now) }
+{
+    let mut steps = Vec::new(alloc);
+    for name in names {
+        let Some(number) = table.names.number_of(name) else {
+            unreachable!();
+        };
+        steps.push(table.steps[number])?;
+    }
+    Ok(steps)
+}
+
+/// The groups of a list of steps.
+pub fn groups(alloc: Global, steps: &[Step]) -> Result<List<Group>, NoMemory>
+    ensures { IfOk result (λ list. list ≡ groups steps.now) }
+{
+    let mut groups = List::new(alloc);
+    let Some((first, others)) = steps.split_first() else {
+        return Ok(groups);
+    };
+    let mut group = Group::of_step(*first);
+    for step in others {
+        if group.is_inner(*step) {
+            group.last = step.place;
+        } else {
+            groups.push(group)?;
+            group = Group::of_step(*step);
+        }
+    }
+    groups.push(group)?;
+    Ok(groups)
+}
+
+/// The groups of each chain, in time linear in the size of the model.
+pub fn groups_of_chains(alloc: Global, model: &SystemModel) -> Result<Vec<List<Group>>, NoMemory>
+    requires { IsValid model.now }
+    ensures { IfOk result (λ lists. lists.items ≡ map (groups_of model.now) model.now.chains) }
+{
+    let table = step_table(alloc, model)?;
+    let mut all = Vec::new(alloc);
+    for chain in model.chains.as_slice() {
+        let steps = steps_named(alloc, &table, chain.runnables.as_slice())?;
+        all.push(groups(alloc, steps.as_slice())?)?;
+    }
+    Ok(all)
+}
