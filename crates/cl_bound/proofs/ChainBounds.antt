@@ -1,0 +1,138 @@
+-- The bounds of a chain of timely tasks are at least the lengths of its complete chains in a legal run.
+use Rattle.std.proofs.Common.{◌≡◌, ℕ, pos, suc, ◌+◌, ◌-◌, ◌<◌, ◌≤◌, List, [], ◌∷◌, length, map, ap, subst, arith}
+use Rattle.std.specs.Prelude.{slice_index, ◌+ℤ◌, ◌≤ℤ◌, nat_abs}
+use Rattle.std.proofs.Math.Numerals.{add-one}
+use Rattle.cl_model.specs.declared.group.Group.{Group}
+use Rattle.cl_runs.specs.TaskTiming.{System, IsSound}
+use Rattle.cl_runs.specs.Table.{job_at}
+use Rattle.cl_runs.specs.Run.{Run, jobs_of}
+use Rattle.cl_runs.specs.Legal.{IsLegal}
+use Rattle.cl_runs.specs.Moments.{Reads, Writes}
+use Rattle.cl_runs.specs.Chains.{JobChain, chain_length, group_at, first_job, IsForwardChain, AreBackwardLinks, IsAgeChain, IsReducedChain}
+use Rattle.cl_runs.specs.RunChains.{run_moments}
+use Rattle.cl_comm.proofs.AccessTimes.{reads_come_late}
+use Rattle.cl_bound.specs.Hops.{group_timing, forward_hop, backward_hop, hops}
+use Rattle.cl_bound.specs.declared.group_timing.GroupTiming.{GroupTiming}
+use Rattle.cl_bound.specs.Bounds.{last_of, greatest_reaction, greatest_age, greatest_reduced, lengths_of}
+use Rattle.cl_bound.specs.Safe.{AreAtLeast}
+use Rattle.cl_bound.proofs.Arrivals.{next_arrival}
+use Rattle.cl_bound.proofs.LaterRuns.{IsTimely, writes_in_time}
+use Rattle.cl_bound.proofs.HopBounds.{forward_arrival, backward_arrival}
+use Rattle.cl_bound.proofs.AlongChains.{telescope, last_timing, at_last, length_within, from_first, from_before, to_next}
+
+-- all tasks of a chain are timely
+abbrev pub AreTimely : System → (ℕ → ℕ) → List Group → Type 0
+AreTimely system responses groups = (i : ℕ) → i < length groups → IsTimely system (group_at groups i).task (responses (group_at groups i).task)
+
+-- when the job of a group of a chain arrives
+abbrev arrival : Run → List Group → List ℕ → ℕ → ℕ
+arrival run groups jobs i = (job_at (jobs_of run (group_at groups i).task) (slice_index jobs i)).arrival
+
+module _ (system : System) (sound : IsSound system) (responses : ℕ → ℕ) (first : Group) (groups : List Group)
+    (timely : AreTimely system responses (first ∷ groups)) (run : Run) (legal : IsLegal system run) where
+  last_place : length groups < length (first ∷ groups)
+  last_place = omega arith
+
+  last_write : (last_of (group_timing system responses first) (map (group_timing system responses) groups)).write
+      ≡ (group_timing system responses (group_at (first ∷ groups) (length groups))).write
+  last_write = ap (λ (timing : GroupTiming). timing.write) (last_timing (group_timing system responses) first groups)
+
+  last_distance : (last_of (group_timing system responses first) (map (group_timing system responses) groups)).distance
+      ≡ (group_timing system responses (group_at (first ∷ groups) (length groups))).distance
+  last_distance = ap (λ (timing : GroupTiming). timing.distance) (last_timing (group_timing system responses) first groups)
+
+  -- the first group reads and the last writes as their windows say
+  first_reads : (k t : ℕ) → Reads system run first.task k first.first t
+      → (job_at (jobs_of run first.task) k).arrival + (group_timing system responses first).read ≤ t
+  unfolding group_timing
+  first_reads k t = reads_come_late system sound run legal first.task k first.first (responses first.task) t
+
+  last_writes : (k t : ℕ) → Writes system run (group_at (first ∷ groups) (length groups)).task k (group_at (first ∷ groups) (length groups)).last t
+      → t ≤ (job_at (jobs_of run (group_at (first ∷ groups) (length groups)).task) k).arrival
+      + (group_timing system responses (group_at (first ∷ groups) (length groups))).write
+  unfolding group_timing
+  last_writes k t = writes_in_time system sound run legal (group_at (first ∷ groups) (length groups)).task
+      (responses (group_at (first ∷ groups) (length groups)).task) (timely (length groups) last_place) k
+      (group_at (first ∷ groups) (length groups)).last t
+
+  -- the next job of a group arrives within its distance
+  next_soon : (i : ℕ) → i < length (first ∷ groups) → (k : ℕ) → suc k < length (jobs_of run (group_at (first ∷ groups) i).task)
+      → (job_at (jobs_of run (group_at (first ∷ groups) i).task) (suc k)).arrival
+      ≤ (job_at (jobs_of run (group_at (first ∷ groups) i).task) k).arrival + (group_timing system responses (group_at (first ∷ groups) i)).distance
+  unfolding group_timing
+  next_soon i h k = next_arrival system sound run legal (group_at (first ∷ groups) i).task (timely i h).is_task k
+
+  -- the last job of a chain arrives at most the sum of its hops after the first
+  forward_along : (chain : JobChain) → IsForwardChain (run_moments system run) (first ∷ groups) chain
+      → pos (arrival run (first ∷ groups) chain.jobs (length groups))
+      ≤ℤ (pos (arrival run (first ∷ groups) chain.jobs 0) +ℤ hops forward_hop (group_timing system responses first) (map (group_timing system responses) groups))
+  forward_along chain complete = telescope forward_hop (group_timing system responses) first groups (arrival run (first ∷ groups) chain.jobs) (λ i h.
+      forward_arrival system sound responses (group_at (first ∷ groups) i) (group_at (first ∷ groups) (suc i)) (timely i (omega arith)) (timely (suc i) h)
+      run legal (slice_index chain.jobs i) (slice_index chain.jobs (suc i)) (complete.not_first (suc i) h) (complete.linked i h) (complete.written (suc i) h))
+
+  backward_along : (jobs : List ℕ) → AreBackwardLinks (run_moments system run) (first ∷ groups) jobs
+      → pos (arrival run (first ∷ groups) jobs (length groups))
+      ≤ℤ (pos (arrival run (first ∷ groups) jobs 0) +ℤ hops backward_hop (group_timing system responses first) (map (group_timing system responses) groups))
+  backward_along jobs links = telescope backward_hop (group_timing system responses) first groups (arrival run (first ∷ groups) jobs) (λ i h.
+      backward_arrival system sound responses (group_at (first ∷ groups) i) (group_at (first ∷ groups) (suc i)) (timely i (omega arith)) (timely (suc i) h)
+      run legal (slice_index jobs i) (slice_index jobs (suc i)) (links.linked i h))
+
+  reaction_within : (chain : JobChain) → IsForwardChain (run_moments system run) (first ∷ groups) chain
+      → chain_length chain ≤ nat_abs (greatest_reaction (group_timing system responses first) (map (group_timing system responses) groups))
+  unfolding run_moments
+  reaction_within chain complete =
+      let k : ℕ = first_job chain - 1 in
+      let next : first_job chain ≡ suc k = omega (arith, complete.not_first 0 complete.some_group) in
+      let in_table : suc k < length (jobs_of run first.task)
+      = subst (λ (n : ℕ). n < length (jobs_of run first.task)) next (complete.written 0 complete.some_group).writes.in_table in
+      let soon = next_soon 0 complete.some_group k in_table in
+      let writes = at_last (λ (group : Group) (job : ℕ). Writes system run group.task job group.last chain.to) first groups chain.jobs
+      complete.one_a_group complete.to in
+      length_within chain.from chain.to _ (from_before (arrival run (first ∷ groups) chain.jobs 0)
+      (arrival run (first ∷ groups) chain.jobs (length groups)) chain.to
+      (hops forward_hop (group_timing system responses first) (map (group_timing system responses) groups))
+      _ _ last_write (last_writes _ chain.to writes) (forward_along chain complete)
+      chain.from (group_timing system responses first).read (job_at (jobs_of run first.task) k).arrival (group_timing system responses first).distance
+      (first_reads k chain.from complete.from)
+      (omega (arith, soon, ap (λ (n : ℕ). (job_at (jobs_of run first.task) n).arrival) next)))
+
+  reduced_within : (chain : JobChain) → IsReducedChain (run_moments system run) (first ∷ groups) chain
+      → chain_length chain ≤ nat_abs (greatest_reduced (group_timing system responses first) (map (group_timing system responses) groups))
+  unfolding run_moments
+  reduced_within chain complete =
+      let writes = at_last (λ (group : Group) (job : ℕ). Writes system run group.task job group.last chain.to) first groups chain.jobs
+      complete.links.one_a_group complete.to in
+      length_within chain.from chain.to _ (from_first (arrival run (first ∷ groups) chain.jobs 0)
+      (arrival run (first ∷ groups) chain.jobs (length groups)) chain.to
+      (hops backward_hop (group_timing system responses first) (map (group_timing system responses) groups))
+      _ _ last_write (last_writes _ chain.to writes) (backward_along chain.jobs complete.links)
+      chain.from (group_timing system responses first).read (first_reads (first_job chain) chain.from complete.from))
+
+  age_within : (chain : JobChain) → IsAgeChain (run_moments system run) (first ∷ groups) chain
+      → chain_length chain ≤ nat_abs (greatest_age (group_timing system responses first) (map (group_timing system responses) groups))
+  unfolding run_moments
+  age_within chain complete =
+      let last : ℕ = slice_index chain.jobs (length groups) in
+      let writes = at_last (λ (group : Group) (job : ℕ). Writes system run group.task (suc job) group.last chain.to) first groups chain.jobs
+      complete.links.one_a_group (rw add-one at complete.to) in
+      length_within chain.from chain.to _ (to_next (arrival run (first ∷ groups) chain.jobs 0)
+      (arrival run (first ∷ groups) chain.jobs (length groups))
+      (job_at (jobs_of run (group_at (first ∷ groups) (length groups)).task) (suc last)).arrival chain.to
+      (hops backward_hop (group_timing system responses first) (map (group_timing system responses) groups))
+      _ _ _ _ last_write last_distance (last_writes (suc last) chain.to writes) (next_soon (length groups) last_place last writes.in_table)
+      (backward_along chain.jobs complete.links)
+      chain.from (group_timing system responses first).read (first_reads (first_job chain) chain.from complete.from))
+
+-- the bounds of a chain of timely tasks are at least the lengths of its complete chains
+pub at_least : (system : System) → IsSound system → (responses : ℕ → ℕ) (groups : List Group) → AreTimely system responses groups
+    → (run : Run) → IsLegal system run → AreAtLeast system groups (lengths_of (map (group_timing system responses) groups)) run
+at_least system sound responses [] timely run legal = record {
+  reaction = λ chain complete. absurd (omega (arith, complete.some_group));
+  age = λ chain complete. absurd (omega (arith, complete.links.some_group));
+  reduced = λ chain complete. absurd (omega (arith, complete.links.some_group));
+}
+at_least system sound responses (first ∷ groups) timely run legal = record {
+  reaction = reaction_within system sound responses first groups timely run legal;
+  age = age_within system sound responses first groups timely run legal;
+  reduced = reduced_within system sound responses first groups timely run legal;
+}

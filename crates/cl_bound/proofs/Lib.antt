@@ -1,0 +1,14 @@
+pub mod Arrivals
+pub mod HeldBack
+pub mod Settled
+pub mod Windows
+pub mod LaterRuns
+pub mod ReadsBeforeWrites
+pub mod HopBounds
+pub mod AlongChains
+pub mod ChainBounds
+pub mod SumsOfHops
+pub mod SettledChains
+pub mod OfModel
+pub mod LoopSums
+pub mod BoundSums

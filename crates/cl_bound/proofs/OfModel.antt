@@ -1,0 +1,110 @@
+-- What the groups of a valid model's chain are in its system.
+use Rattle.std.proofs.Common.{◌≡◌, ℕ, ◌<◌, Bool, false, List, length, get_or, sym, ap, ◌∙◌, arith}
+use Rattle.std.specs.Prelude.{All}
+use Rattle.std.proofs.lemmas.List.{get_or-map, get_or_default}
+use Rattle.std.proofs.Math.ListN.{length-map}
+use Rattle.cl_model.specs.declared.model.SystemModel.{SystemModel}
+use Rattle.cl_model.specs.declared.group.Group.{Group}
+use Rattle.cl_model.specs.Groups as groups
+use Rattle.cl_model.specs.OfTask as of_task
+use Rattle.cl_model.specs.OfTask.{no_task, task_at, core_of, jitter_of}
+use Rattle.cl_model.specs.declared.task.TaskDef.{TaskDef}
+use Rattle.cl_runs.specs.Pattern.{greatest_gap}
+use Rattle.cl_model.specs.Timing.{greatest_jitter}
+use Rattle.cl_runs.specs.TaskTiming.{Timing, no_timing, timing_at}
+use Rattle.cl_runs.specs.SystemOf.{range_of, timing_of, system_of}
+use Rattle.cl_comm.specs.AccessMoments.{runs_on_reads}
+use Rattle.cl_comm.specs.Windows.{window_at}
+use Rattle.cl_model.specs.declared.stimulus.StimulusKind.{StimulusKind}
+use Rattle.cl_model.specs.declared.stimulus.StimulusKind.TheVariants.{Periodic, Sporadic}
+use Rattle.cl_stim.specs.declared.stimuli.AnyStimulus.{AnyStimulus}
+use Rattle.cl_stim.specs.AnyStimulus.{kind_of, stimulus_of}
+use Rattle.cl_resp.specs.Finishing.{IsSettled}
+use Rattle.cl_bound.specs.declared.answer.TaskAnswer.{TaskAnswer}
+use Rattle.cl_bound.specs.declared.answer.TaskAnswer.TheVariants.{Late}
+use Rattle.cl_bound.specs.Answers.{answers_of, answer_to, answer_at, is_late, response_in}
+use Rattle.cl_bound.proofs.Settled.{settled_task}
+use Rattle.cl_bound.specs.declared.group_timing.GroupTiming.{GroupTiming}
+use Rattle.cl_bound.specs.Hops.{group_timing}
+use Rattle.cl_bound.specs.Safe.{IsGroupOf, IsSettledChain}
+use Rattle.cl_bound.specs.SettledTiming.{settled_timing}
+
+-- the system of a model has its tasks
+pub tasks_of_system : (model : SystemModel) → length (system_of model).tasks ≡ length model.tasks
+unfolding system_of
+tasks_of_system model = length-map model.tasks (timing_of model)
+
+pub timing_is : (model : SystemModel) (i : ℕ) → i < length model.tasks → timing_at (system_of model) i ≡ timing_of model (task_at model i)
+unfolding system_of
+timing_is model i h = get_or-map (timing_of model) model.tasks i no_task no_timing h
+
+-- a task has as many ranges as runnables
+pub ranges_of_task : (model : SystemModel) (i : ℕ) → i < length model.tasks → length (timing_at (system_of model) i).ranges ≡ length (task_at model i).runnables
+ranges_of_task model i h = ap (λ (task : Timing). length task.ranges) (timing_is model i h) ∙ length-map (task_at model i).runnables range_of
+
+-- a group of a model is one of its system
+pub group_of_system : (model : SystemModel) (group : Group) → groups.IsGroupOf model group → IsGroupOf (system_of model) group
+group_of_system model group is = record {
+  is_task = omega (arith, is.known, tasks_of_system model);
+  ordered = is.ordered;
+  is_runnable = omega (arith, is.within, ranges_of_task model group.task is.known);
+}
+
+-- the chain of a number, none of whose tasks is late
+pub settled_chain : (model : SystemModel) (chain : List Group) → All (groups.IsGroupOf model) chain
+    → All (λ (group : Group). is_late (answer_at (answers_of (system_of model)) group.task) ≡ false) chain → IsSettledChain (system_of model) chain
+settled_chain model chain are timely = record {
+  groups_of = λ i d h. group_of_system model (get_or chain i d) (are i d h);
+  settled = timely;
+}
+
+abbrev timing_with : (task core priority : ℕ) (runs : Bool) (jitter distance read write : ℕ) → GroupTiming
+timing_with task core priority runs jitter distance read write =
+    record { task = task; core = core; priority = priority; runs_on_reads = runs; jitter = jitter; distance = distance; read = read; write = write }
+
+same_timing : (task c p : ℕ) (r : Bool) (j d a b core priority : ℕ) (runs : Bool) (jitter distance read write : ℕ)
+    → c ≡ core → p ≡ priority → r ≡ runs → j ≡ jitter → d ≡ distance → a ≡ read → b ≡ write
+    → timing_with task c p r j d a b ≡ timing_with task core priority runs jitter distance read write
+same_timing task c p r j d a b core priority runs jitter distance read write e f g h i k l = cc
+
+-- the timing of a group, by its fields
+pub timing_of_group : (model : SystemModel) (group : Group) (response : ℕ) (task : TaskDef) → groups.IsGroupOf model group → task ≡ task_at model group.task
+    → response ≡ response_in (answer_at (answers_of (system_of model)) group.task) → (core jitter distance read write : ℕ) (runs : Bool)
+    → core ≡ core_of model group.task → runs ≡ runs_on_reads task.access → jitter ≡ jitter_of model group.task
+    → distance ≡ greatest_gap (of_task.stimulus_of model group.task) 0
+    → read ≡ (window_at (timing_at (system_of model) group.task) group.first response).rlo
+    → write ≡ (window_at (timing_at (system_of model) group.task) group.last response).whi
+    → ◌≡◌ {A = GroupTiming} (record { task = group.task; core = core; priority = task.priority; runs_on_reads = runs; jitter = jitter; distance = distance; read = read; write = write })
+    (settled_timing (system_of model) group)
+unfolding group_timing
+timing_of_group model group response task is task_is responds core jitter distance read write runs core_is runs_is jitter_is distance_is read_is write_is =
+    let timing = sym (timing_is model group.task is.known) in
+    same_timing _ _ _ _ _ _ _ _ _ _ _ _ _ _ _
+    (core_is ∙ ap (λ (t : Timing). t.core) timing)
+    (ap (λ (t : TaskDef). t.priority) task_is ∙ ap (λ (t : Timing). t.priority) timing)
+    (runs_is ∙ ap (λ (t : TaskDef). runs_on_reads t.access) task_is ∙ ap (λ (t : Timing). runs_on_reads t.access) timing)
+    (jitter_is ∙ ap (λ (t : Timing). greatest_jitter t.pattern) timing)
+    (distance_is ∙ ap (λ (t : Timing). greatest_gap t.pattern 0) timing)
+    (read_is ∙ ap (λ (r : ℕ). (window_at (timing_at (system_of model) group.task) group.first r).rlo) responds)
+    (write_is ∙ ap (λ (r : ℕ). (window_at (timing_at (system_of model) group.task) group.last r).whi) responds)
+
+-- the kind of a stimulus that was made of it
+pub kind_is : (kind : StimulusKind) (stimulus : AnyStimulus) → stimulus ≡ stimulus_of kind → kind_of stimulus ≡ kind
+kind_is (Periodic period offset jitter) stimulus is = ap kind_of is
+kind_is (Sporadic least greatest) stimulus is = ap kind_of is
+
+-- the response of a task, from its answer in the list of all answers
+pub response_found : (model : SystemModel) (answers : List TaskAnswer) (i : ℕ) (answer : TaskAnswer) (response : ℕ) → i < length model.tasks
+    → answers ≡ answers_of (system_of model) → answer ≡ get_or answers i answer → response ≡ response_in answer
+    → response ≡ response_in (answer_at (answers_of (system_of model)) i)
+unfolding answers_of
+response_found model answers i answer response lt are at is =
+    let within : i < length answers = omega (arith, lt, tasks_of_system model, ap length are, length-map (system_of model).tasks (answer_to (system_of model))) in
+    is ∙ ap response_in (at ∙ get_or_default answers i answer Late within ∙ ap (λ (list : List TaskAnswer). answer_at list i) are)
+
+pub settled_response : (model : SystemModel) (answers : List TaskAnswer) (i : ℕ) (answer : TaskAnswer) (response : ℕ) → i < length model.tasks
+    → answers ≡ answers_of (system_of model) → is_late (answer_at answers i) ≡ false → answer ≡ get_or answers i answer → response ≡ response_in answer
+    → IsSettled (system_of model) i response
+settled_response model answers i answer response lt are timely at is =
+    rw (response_found model answers i answer response lt are at is)
+    (settled_task (system_of model) i (omega (arith, lt, tasks_of_system model)) (rw are at timely))

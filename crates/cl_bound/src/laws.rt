@@ -1,0 +1,4 @@
+//! What holds of the bounds of every settled chain of every sound system.
+pub mod hops;
+pub mod safety;
+pub mod sums;

@@ -1,0 +1,13 @@
+//! Bounds on the reaction, the age and the reduced age of a chain.
+#![tactic(auto)]
+
+mod answer;
+mod bounding;
+mod bounds;
+mod group_timing;
+pub mod laws;
+mod sums;
+
+pub use answer::TaskAnswer;
+pub use bounding::bound;
+pub use bounds::Bounds;

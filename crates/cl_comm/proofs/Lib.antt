@@ -1,0 +1,2 @@
+pub use Rattle.cl_comm.specs.Lemmas.AccessTimes
+pub mod Spots

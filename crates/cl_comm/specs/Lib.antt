@@ -1,0 +1,4 @@
+pub mod Windows
+pub mod AccessMoments
+pub mod AccessKinds
+pub mod Lemmas

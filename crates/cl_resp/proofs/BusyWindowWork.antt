@@ -1,0 +1,116 @@
+-- The work of a task that is released before a moment, and how much of it a window of ticks can add.
+use Rattle.std.proofs.Common.{◌≡◌, ℕ, zero, suc, ◌+◌, ◌*◌, ◌<◌, ◌≤◌, Bool, true, false, ◌&&◌, cond, nat_le, nat_lt, List, [], ◌∷◌, take, refl, ap, arith, add-mul}
+use Rattle.std.specs.Prelude.{sum, sum_by}
+use Rattle.std.specs.List.{AllZip}
+use Rattle.std.proofs.lemmas.Bool.Decides.{nat_tests}
+use Rattle.std.proofs.lemmas.List.Sums.{sum_by-cons, sum_by-le-sum_by}
+use Rattle.cl_runs.specs.TaskTiming.{TimeRange, Timing}
+use Rattle.cl_runs.specs.declared.job.Job.{Job}
+use Rattle.cl_runs.specs.Table.{job_at, IsInRange, IsLawfulJob, AreLawfulFrom}
+use Rattle.cl_runs.specs.Legal.{released}
+use Rattle.cl_stim.specs.Releases.{releases_in}
+use Rattle.cl_resp.specs.Question.{greatest_time}
+
+-- the total time of the jobs that are released before t
+unfoldable pub released_before : List Job → ℕ → ℕ
+released_before jobs t = sum_by (λ (job : Job). cond (nat_lt job.release t) (sum job.times) 0) jobs
+
+before_next : (r t v : ℕ) → cond (nat_le r t) v 0 ≤ cond (nat_lt r (suc t)) v 0
+before_next r t v = grind (arith, nat_tests)
+
+next_before : (r t v : ℕ) → cond (nat_lt r (suc t)) v 0 ≤ cond (nat_le r t) v 0
+next_before r t v = grind (arith, nat_tests)
+
+-- what is released at or before t is released before the next moment
+pub released_is : (jobs : List Job) (t : ℕ) → released jobs t ≡ released_before jobs (suc t)
+unfolding released released_before
+released_is jobs t = omega (
+  arith,
+  sum_by-le-sum_by (λ (job : Job). cond (nat_le job.release t) (sum job.times) 0)
+      (λ (job : Job). cond (nat_lt job.release (suc t)) (sum job.times) 0) jobs (λ job. before_next job.release t (sum job.times)),
+  sum_by-le-sum_by (λ (job : Job). cond (nat_lt job.release (suc t)) (sum job.times) 0)
+      (λ (job : Job). cond (nat_le job.release t) (sum job.times) 0) jobs (λ job. next_before job.release t (sum job.times)),
+)
+
+before_nil : (t : ℕ) → released_before [] t ≡ 0
+unfolding released_before
+before_nil t = refl
+
+before_cons : (job : Job) (jobs : List Job) (t : ℕ)
+    → released_before (job ∷ jobs) t ≡ cond (nat_lt job.release t) (sum job.times) 0 + released_before jobs t
+unfolding released_before
+before_cons job jobs t = sum_by-cons (λ (j : Job). cond (nat_lt j.release t) (sum j.times) 0) job jobs
+
+releases_nil : (start width : ℕ) → releases_in [] start width ≡ 0
+unfolding releases_in
+releases_nil start width = refl
+
+releases_cons : (job : Job) (jobs : List Job) (start width : ℕ)
+    → releases_in (job ∷ jobs) start width ≡ cond (nat_le start job.release && nat_lt job.release (start + width)) 1 0 + releases_in jobs start width
+unfolding releases_in
+releases_cons job jobs start width = sum_by-cons (λ (j : Job). cond (nat_le start j.release && nat_lt j.release (start + width)) 1 0) job jobs
+
+none_at_zero : (r v : ℕ) → cond (nat_lt r 0) v 0 ≡ 0
+none_at_zero r v = grind (arith, nat_tests)
+
+-- nothing is released before 0
+pub before_zero : (jobs : List Job) → released_before jobs 0 ≡ 0
+before_zero [] = before_nil 0
+before_zero (job ∷ jobs) = omega (arith, before_cons job jobs 0, none_at_zero job.release (sum job.times), before_zero jobs)
+
+within_greatest : (ranges : List TimeRange) (times : List ℕ) → AllZip IsInRange ranges times → sum times ≤ sum_by (λ (range : TimeRange). range.greatest) ranges
+within_greatest [] [] zipped = omega arith
+within_greatest [] (time ∷ times) zipped = absurd zipped
+within_greatest (range ∷ ranges) [] zipped = absurd zipped
+within_greatest (range ∷ ranges) (time ∷ times) zipped = omega (
+  arith,
+  zipped.0.1,
+  within_greatest ranges times zipped.1,
+  sum_by-cons (λ (x : ℕ). x) time times,
+  sum_by-cons (λ (r : TimeRange). r.greatest) range ranges,
+)
+
+-- a lawful job takes no more than the greatest time of its task
+pub job_within : (task : Timing) (ticks low high : ℕ) (job : Job) → IsLawfulJob task ticks low high job → sum job.times ≤ greatest_time task
+unfolding greatest_time
+job_within task ticks low high job lawful = within_greatest task.ranges job.times lawful.times
+
+-- a job adds its time to the work of a window only if it is released there
+part_added : (r start width v most : ℕ) → v ≤ most
+    → cond (nat_lt r (start + width)) v 0 ≤ cond (nat_lt r start) v 0 + cond (nat_le start r && nat_lt r (start + width)) most 0
+part_added r start width v most h = grind (arith, nat_tests)
+
+one_or_none : (b : Bool) (most count : ℕ) → cond b most 0 + count * most ≡ (cond b 1 0 + count) * most
+one_or_none true most count = omega (arith, add-mul 1 count most)
+one_or_none false most count = omega (arith, add-mul 0 count most)
+
+-- the work that a window adds is at most the greatest time for each release in it
+pub work_added : (task : Timing) (ticks start width : ℕ) (jobs : List Job) (k low high : ℕ) → AreLawfulFrom task ticks k low high jobs
+    → released_before jobs (start + width) ≤ released_before jobs start + releases_in jobs start width * greatest_time task
+work_added task ticks start width [] k low high lawful = omega (arith, before_nil (start + width))
+work_added task ticks start width (job ∷ jobs) k low high lawful = omega (
+  arith,
+  before_cons job jobs start,
+  before_cons job jobs (start + width),
+  part_added job.release start width (sum job.times) (greatest_time task) (job_within task ticks low high job lawful.0),
+  one_or_none (nat_le start job.release && nat_lt job.release (start + width)) (greatest_time task) (releases_in jobs start width),
+  ap (λ (count : ℕ). count * greatest_time task) (releases_cons job jobs start width),
+  work_added task ticks start width jobs (suc k) _ _ lawful.1,
+)
+
+part_there : (r t v : ℕ) → r ≤ t → cond (nat_lt r (suc t)) v 0 ≡ v
+part_there r t v h = grind (arith, nat_tests)
+
+-- where the first jobs are all released by t, their work is
+pub first_released : (jobs : List Job) (n t : ℕ) → ((l : ℕ) → l < n → (job_at jobs l).release ≤ t)
+    → sum_by (λ (job : Job). sum job.times) (take n jobs) ≤ released_before jobs (suc t)
+first_released [] zero t h = omega arith
+first_released [] (suc n) t h = omega arith
+first_released (job ∷ jobs) zero t h = omega arith
+first_released (job ∷ jobs) (suc n) t h = omega (
+  arith,
+  before_cons job jobs (suc t),
+  part_there job.release t (sum job.times) (h 0 (omega arith)),
+  sum_by-cons (λ (j : Job). sum j.times) job (take n jobs),
+  first_released jobs n t (λ l below. h (suc l) (omega arith)),
+)

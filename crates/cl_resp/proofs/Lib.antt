@@ -1,0 +1,11 @@
+pub mod Windows
+pub mod BusyWindowTotals
+pub mod BusyWindowStart
+pub mod BusyWindowWork
+pub mod BusyWindowJobs
+pub mod BusyWindowTicks
+pub mod BusyWindowDemand
+pub mod BusyWindowJob
+pub mod BusyWindowTask
+pub mod Filters
+pub mod Questions

@@ -1,0 +1,3 @@
+pub mod Question
+pub mod Response
+pub mod Finishing

@@ -1,0 +1,79 @@
+//! How the response of a task is found. Times are in ticks.
+ghost use Rattle.std.specs.Prelude.{◌≡◌, ◌+◌, ◌*◌, ◌^◌, ◌≤◌, Some, None, MatchResult, IfOk};
+ghost use Rattle.cl_stim.specs.AnyStimulus.{kind_of};
+ghost use Rattle.cl_stim.specs.Releases.{most_releases};
+ghost use Rattle.cl_resp.specs.Question.{IsQuestionInRange};
+ghost use Rattle.cl_resp.specs.Finishing.{AnswersFor};
+ghost use Rattle.cl_resp.specs.Response.{demand, window_of, response_to};
+
+use crate::question::{Above, Question};
+use crate::settled::{Late, Settled};
+use cl_model::{MOST_RUNNABLES, MOST_TICKS};
+use cl_stim::{Arrivals, MOST_WIDTH};
+use cl_time::Steps;
+use std::sync::ledger::Ledger;
+
+/// What a task of higher priority takes of a window of `width` ticks at most.
+fn taken(above: &Above, width: u64) -> u128
+    requires width { width ≤ MOST_WIDTH }
+    requires time { above.now.time ≤ MOST_RUNNABLES * MOST_TICKS }
+    ensures taken { result ≡ most_releases (kind_of above.now.stimulus) width * above.now.time }
+    ensures small { result ≤ 2 ^ 64 * (MOST_RUNNABLES * MOST_TICKS) }
+{
+    u128::from(above.stimulus.most(width)) * u128::from(above.time)
+}
+
+/// The most ticks that a job of the task and what goes before it need of a window of `width` ticks.
+fn demand(question: &Question, width: u64) -> u128
+    requires in_range { IsQuestionInRange question.now }
+    requires width { width ≤ MOST_WIDTH }
+    ensures { result ≡ demand question.now width }
+{
+    let mut needed = u128::from(question.block) + u128::from(question.time);
+    for above in question.above.as_slice() {
+        needed += taken(above, width);
+    }
+    needed
+}
+
+/// The least window that holds its own demand, where there is one up to the end. It starts at a width below which none
+/// does, and goes on to what is needed, as long as that is more.
+fn window(question: &Question) -> Option<u64>
+    requires { IsQuestionInRange question.now }
+    ensures { result ≡ window_of question.now }
+{
+    let end = question.deadline - question.jitter;
+    let mut width = question.block + question.time;
+    while width <= end {
+        let needed = demand(question, width);
+        if needed <= u128::from(width) {
+            return Some(width);
+        }
+        if needed > u128::from(end) {
+            return None;
+        }
+        width = needed as u64;
+    }
+    None
+}
+
+/// The window and the response of a task, or that it is late: that no window up to its deadline holds its own demand.
+/// Each job of a task with this question that arrives a response or more before the end of a legal run finishes within
+/// the response of its arrival. It takes no memory, and counts one analysing step, whatever it answers.
+pub fn respond<L: Ledger>(question: &Question, steps: &mut Steps<L>) -> Result<Settled, Late>
+    requires { IsQuestionInRange question.now }
+    ensures response { MatchResult result
+        (λ settled. response_to question.now ≡ Some settled)
+        (λ _. response_to question.now ≡ None) }
+    ensures finishing { IfOk result (λ settled. AnswersFor question.now settled.response) }
+    ensures steps { steps.new ≡ steps.old + 1 }
+{
+    steps.tick();
+    match window(question) {
+        Some(window) => Ok(Settled {
+            window,
+            response: question.jitter + window,
+        }),
+        None => Err(Late),
+    }
+}

@@ -1,0 +1,27 @@
+//! The question of a task: what its response depends on. Times are in ticks.
+use cl_model::List;
+use cl_stim::AnyStimulus;
+
+/// What a task of higher priority takes of their core.
+#[derive(Debug, PartialEq, Eq, Drop)]
+pub struct Above {
+    /// When its jobs arrive.
+    pub stimulus: AnyStimulus,
+    /// The greatest execution time of a job.
+    pub time: u64,
+}
+
+/// What the response of a task depends on.
+#[derive(Debug, PartialEq, Eq, Drop)]
+pub struct Question {
+    /// The greatest execution time of a job of the task.
+    pub time: u64,
+    /// How long a runnable of lower priority may hold the core.
+    pub block: u64,
+    /// How long after its arrival a job is released at most.
+    pub jitter: u64,
+    /// The deadline of the task, from arrival.
+    pub deadline: u64,
+    /// The tasks of higher priority on its core, in file order.
+    pub above: List<Above>,
+}

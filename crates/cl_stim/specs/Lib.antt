@@ -1,0 +1,5 @@
+pub mod Stimulus
+pub mod Releases
+pub mod AnyStimulus
+pub mod Jobs
+pub mod Laws

@@ -1,0 +1,26 @@
+//! The laws of `Arrivals` over the kinds of stimuli, and that valid models have such stimuli.
+ghost use Rattle.std.specs.Prelude.{ℕ, ◌<◌, ◌≤◌, List, length};
+ghost use Rattle.cl_model.specs.declared.model.SystemModel.{SystemModel};
+ghost use Rattle.cl_model.specs.declared.stimulus.StimulusKind.{StimulusKind};
+ghost use Rattle.cl_model.specs.OfTask.{stimulus_of};
+ghost use Rattle.cl_model.specs.Timing.{least_distance};
+ghost use Rattle.cl_model.specs.Validity.{IsValid};
+ghost use Rattle.cl_runs.specs.declared.job.Job.{Job};
+ghost use Rattle.cl_stim.specs.Releases.{releases_in, most_releases};
+ghost use Rattle.cl_stim.specs.Stimulus.{IsStimulus, Follows};
+
+/// Of jobs that follow a stimulus, at most `most_releases` are released in any window.
+pub fn releases_are_few()
+    ensures { (kind : StimulusKind) → 1 ≤ least_distance kind → (ticks : ℕ) (jobs : List Job) → Follows kind ticks jobs
+        → (start width : ℕ) → releases_in jobs start width ≤ most_releases kind width }
+{}
+
+/// The most releases never fall as the window grows.
+pub fn most_releases_never_falls()
+    ensures { (kind : StimulusKind) (narrow wide : ℕ) → narrow ≤ wide → most_releases kind narrow ≤ most_releases kind wide }
+{}
+
+/// Each task of a valid model has a stimulus whose numbers are in range and in order.
+pub fn valid_models_have_stimuli()
+    ensures { (model : SystemModel) → IsValid model → (i : ℕ) → i < length model.tasks → IsStimulus (stimulus_of model i) }
+{}
