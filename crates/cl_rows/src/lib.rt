@@ -10,6 +10,8 @@ mod frame;
 #[cfg(test)]
 mod reading;
 #[cfg(test)]
+mod reports;
+#[cfg(test)]
 mod texts;
 #[cfg(test)]
 mod validity;

@@ -1,5 +1,5 @@
 use crate::base::{EMPTY, FULL, ONE, TWO};
-use crate::texts::{ACCEPTED, assert_outcome, assert_rows, grown, many_tasks};
+use crate::texts::{ACCEPTED, NOT_BUILT, assert_outcome, assert_rows, grown, many_tasks};
 use cl_time::NoMemory;
 use faults::{ABSENT_ROWS, KIND_ROWS, STARTS, TOP_ROWS, TWO_ROWS, UNKNOWN_ROWS};
 use limits::{
@@ -50,8 +50,13 @@ fn files_are_refused_at_their_first_fault(rt: HostRuntime) -> Result<(), Fail> {
 #[test]
 fn files_read_in_every_writing(rt: HostRuntime) -> Result<(), Fail> {
     let alloc = rt.alloc();
-    for base in [EMPTY, TWO, ONE, FULL] {
-        assert_outcome(&rt, alloc, base.as_bytes(), ACCEPTED, base)?;
+    for (base, outcome) in [
+        (EMPTY, ACCEPTED),
+        (TWO, ACCEPTED),
+        (ONE, ACCEPTED),
+        (FULL, NOT_BUILT),
+    ] {
+        assert_outcome(&rt, alloc, base.as_bytes(), outcome, base)?;
     }
     assert_rows(&rt, alloc, TWO, &WRITING_ROWS)?;
     let marked = format!(in alloc; "\u{feff}{TWO}")?;

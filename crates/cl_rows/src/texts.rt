@@ -4,11 +4,17 @@ use cl_time::NoMemory;
 use std::alloc::Global;
 use std::process::Abort;
 
-/// What a row says of a file that isn't refused.
+/// What a row says of a file that is accepted and reported on.
 pub(crate) const ACCEPTED: &str = "accepted";
 
-/// A text of a base, what stands in its place, and what the file then comes to: `accepted`, or the code and place of
-/// its refusal.
+/// What a row says of a file that is accepted, and whose analysis isn't built yet.
+pub(crate) const NOT_BUILT: &str = "form not built";
+
+/// How every report begins.
+pub(crate) const TITLE: &str = "chainlat report 1\n";
+
+/// A text of a base, what stands in its place, and what the file then comes to: `ACCEPTED`, `NOT_BUILT`, or the code and
+/// place of its refusal.
 pub(crate) type Row = (&'static str, &'static str, &'static str);
 
 /// The entry so many times, with its number from 0 up in place of each `#`.
@@ -59,13 +65,16 @@ pub(crate) fn assert_outcome(
     case: &str,
 ) -> Result<(), NoMemory> {
     let (status, sink) = answer_of(alloc, content)?;
-    let line = str::from_utf8(sink.bytes()).unwrap_or("no text");
+    let text = str::from_utf8(sink.bytes()).unwrap_or("no text");
     if outcome == ACCEPTED {
-        assert_eq!(rt; line, "form not built\n", "{case}");
+        assert!(rt; text.starts_with(TITLE), "{case}: {text}");
+        assert_eq!(rt; status, 0, "{case}");
+    } else if outcome == NOT_BUILT {
+        assert_eq!(rt; text, "form not built\n", "{case}");
         assert_eq!(rt; status, 11, "{case}");
     } else {
         let refusal = format!(in alloc; "model refused {outcome}\n")?;
-        assert_eq!(rt; line, refusal.as_str(), "{case}");
+        assert_eq!(rt; text, refusal.as_str(), "{case}");
         assert_eq!(rt; status, 5, "{case}");
     }
     Ok(())

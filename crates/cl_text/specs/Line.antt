@@ -1,5 +1,5 @@
 -- Where lines and words end.
-use Rattle.std.specs.Prelude.{ℕ, Bool, ◌==◌, List, Option, position, take_while}
+use Rattle.std.specs.Prelude.{ℕ, Bool, ◌==◌, List, [], ◌∷◌, ◌++◌, Option, position, take_while}
 use Rattle.std.specs.Int.{is_in_range}
 
 -- the place of the first byte 0x0A, which ends a line
@@ -13,3 +13,7 @@ is_graphic byte = is_in_range 0x21 0x7E byte
 -- the longest run of word bytes that a text begins with
 abbrev pub first_word : List ℕ → List ℕ
 first_word text = take_while is_graphic text
+
+-- one line of these words, with its end
+abbrev pub line : List ℕ → List ℕ
+line words = words ++ 0x0A ∷ []

@@ -4,6 +4,7 @@
 mod command;
 mod fetching;
 mod file_shelf;
+mod form;
 mod out_sink;
 mod outcome;
 mod running;

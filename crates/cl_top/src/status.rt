@@ -1,5 +1,8 @@
 //! The numbers that a call of `run`, and so the program, ends with.
 
+/// The command did what it says.
+pub const DONE: u8 = 0;
+
 /// The words are no command.
 pub const WORDS_REFUSED: u8 = 2;
 

@@ -1,7 +1,7 @@
 use Rattle.std.proofs.lemmas.Result.{IfOk-weaker}
 use Rattle.cl_top.specs.Fetch.{given}
 use Rattle.cl_top.proofs.Coming.{analysed_comes}
-use Rattle.cl_top.proofs.running.analyse.Goals as goal
+use Rattle.cl_top.proofs.running.analyse_file.Goals as goal
 
 pub returns : goal.returns
 returns g c =

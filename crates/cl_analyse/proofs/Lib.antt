@@ -1,0 +1,4 @@
+pub mod FirstFound
+pub mod FirstLate
+pub mod SafeFindings
+pub mod Lists

@@ -1,0 +1,130 @@
+//! The analysis of a model. Times are in ticks.
+ghost use Rattle.std.specs.Prelude.{◌≡◌, ◌+◌, ◌<◌, ◌≤◌, length, map, slice_index_or, IfOk};
+ghost use Rattle.cl_model.specs.Groups.{steps_of, no_chain};
+ghost use Rattle.cl_runs.specs.SystemOf.{system_of};
+ghost use Rattle.cl_runs.specs.TaskTiming.{timing_at};
+ghost use Rattle.cl_bound.specs.Answers.{answer_to, answers_of, answer_at, is_late};
+ghost use Rattle.cl_analyse.specs.Findings.{first_late, chain_answer_of, findings_of};
+ghost use Rattle.cl_analyse.specs.Headline.{AreSafeFindings};
+
+use crate::findings::{ChainAnswer, Findings};
+use cl_bound::{TaskAnswer, bound};
+use cl_model::{List, ValidModel};
+use cl_resp::{Late, ask, respond};
+use cl_time::{NoMemory, Steps};
+use std::alloc::Global;
+use std::sync::ledger::Ledger;
+
+/// What is found of a model: the response of each task, and the bounds of each chain none of whose tasks is late.
+///
+/// In each legal run, of any length, each job of a task that is found settled finishes within its response of its
+/// arrival where the run lasts so long, and each bound is at least the length of each complete chain of its kind.
+///
+/// It counts a step for each task and for each chain that has bounds. `NoMemory` comes where there is no memory for the
+/// findings or for a question; it leaves nothing.
+pub fn analyse<L: Ledger>(
+    alloc: Global,
+    model: &ValidModel,
+    steps: &mut Steps<L>,
+) -> Result<Findings, NoMemory>
+    ensures findings { IfOk result (λ findings. findings ≡ findings_of model.now) }
+    ensures safe { IfOk result (AreSafeFindings model.now) }
+    ensures steps { steps.new ≤ steps.old + (length model.now.tasks + length model.now.chains) }
+{
+    // read for what it says: the model is valid
+    let _plain = model.plain();
+    let tasks = answer_tasks(alloc, model, steps)?;
+    let chains = answer_chains(alloc, model, &tasks, steps)?;
+    Ok(Findings { tasks, chains })
+}
+
+/// The answers to the questions of all tasks.
+fn answer_tasks<L: Ledger>(
+    alloc: Global,
+    model: &ValidModel,
+    steps: &mut Steps<L>,
+) -> Result<List<TaskAnswer>, NoMemory>
+    ensures answers { IfOk result (λ answers. answers ≡ answers_of (system_of model.now)) }
+    ensures steps { steps.new ≤ steps.old + length model.now.tasks }
+{
+    let mut answers = List::new(alloc);
+    for task in 0..model.tasks() {
+        answers.push(answer_task(alloc, model, task, steps)?)?;
+    }
+    Ok(answers)
+}
+
+/// The answer to the question of a task.
+fn answer_task<L: Ledger>(
+    alloc: Global,
+    model: &ValidModel,
+    task: u32,
+    steps: &mut Steps<L>,
+) -> Result<TaskAnswer, NoMemory>
+    requires { task < length model.now.tasks }
+    ensures answer { IfOk result (λ answer. answer ≡ answer_to (system_of model.now) (timing_at (system_of model.now) task)) }
+    ensures steps { steps.new ≤ steps.old + 1 }
+{
+    let question = ask(alloc, model, task)?;
+    match respond(&question, steps) {
+        Ok(settled) => Ok(TaskAnswer::Settled(settled)),
+        Err(Late) => Ok(TaskAnswer::Late),
+    }
+}
+
+/// The answers for all chains, from those for all tasks.
+fn answer_chains<L: Ledger>(
+    alloc: Global,
+    model: &ValidModel,
+    tasks: &List<TaskAnswer>,
+    steps: &mut Steps<L>,
+) -> Result<List<ChainAnswer>, NoMemory>
+    requires { tasks.now ≡ answers_of (system_of model.now) }
+    ensures answers { IfOk result (λ answers. answers ≡ map (chain_answer_of model.now) model.now.chains) }
+    ensures steps { steps.new ≤ steps.old + length model.now.chains }
+{
+    let mut answers = List::new(alloc);
+    for chain in 0..model.chains() {
+        answers.push(answer_chain(model, chain, tasks, steps))?;
+    }
+    Ok(answers)
+}
+
+/// The answer for a chain: its bounds, or the first of its tasks that is late.
+fn answer_chain<L: Ledger>(
+    model: &ValidModel,
+    chain: u32,
+    tasks: &List<TaskAnswer>,
+    steps: &mut Steps<L>,
+) -> ChainAnswer
+    requires chain { chain < length model.now.chains }
+    requires answers { tasks.now ≡ answers_of (system_of model.now) }
+    ensures answer { result ≡ chain_answer_of model.now (slice_index_or model.now.chains chain no_chain) }
+    ensures steps { steps.new ≤ steps.old + 1 }
+{
+    match first_late(model, chain, tasks) {
+        Some(task) => ChainAnswer::Late { task },
+        None => ChainAnswer::Bounds(bound(model, chain, tasks, steps)),
+    }
+}
+
+/// The first late task along the steps of a chain.
+fn first_late(model: &ValidModel, chain: u32, answers: &List<TaskAnswer>) -> Option<u32>
+    requires { chain < length model.now.chains }
+    ensures { result ≡ first_late answers.now (steps_of model.now (slice_index_or model.now.chains chain no_chain)) }
+{
+    for place in 0..model.group_count(chain) {
+        let task = model.group(chain, place).task;
+        if task_is_late(answers, task) {
+            return Some(task);
+        }
+    }
+    None
+}
+
+/// Whether a task is late.
+fn task_is_late(answers: &List<TaskAnswer>, task: u32) -> bool
+    ensures { result ≡ is_late (answer_at answers.now task) }
+{
+    !matches!(answers.at(task as usize), Some(TaskAnswer::Settled(_)))
+}

@@ -1,0 +1,145 @@
+//! The report of a model, as text.
+ghost use Rattle.std.specs.Prelude.{◌≡◌, ◌<◌, ◌++◌, length, OnOk, IfOk};
+ghost use Rattle.std.specs.List.{flat_map, range_with_len};
+ghost use Rattle.cl_model.specs.OfTask.{task_at};
+ghost use Rattle.cl_analyse.specs.Findings.{findings_of, IsOfTask};
+ghost use Rattle.cl_report.specs.Report.{task_words, task_line, bounds_words, chain_words, chain_line, report_text};
+
+use cl_analyse::{ChainAnswer, Findings};
+use cl_bound::{Bounds, TaskAnswer};
+use cl_model::ValidModel;
+use cl_text::Text;
+use cl_time::NoMemory;
+use std::alloc::Global;
+
+/// The report of a model: a title, a line for each task and a line for each chain, each in file order. Times are in
+/// ticks. The findings are those of the model.
+///
+/// `NoMemory` comes where there is no memory for the text; it leaves nothing.
+pub fn report(alloc: Global, model: &ValidModel, findings: &Findings) -> Result<Text, NoMemory>
+    requires { findings.now ≡ findings_of model.now }
+    ensures { IfOk result (λ text. text ≡ report_text model.now findings.now) }
+{
+    let mut text = Text::new(alloc);
+    text.put(b"chainlat report 1\n")?;
+    put_tasks(&mut text, model, findings)?;
+    put_chains(&mut text, model, findings)?;
+    Ok(text)
+}
+
+/// Puts the lines of all tasks.
+fn put_tasks(text: &mut Text, model: &ValidModel, findings: &Findings) -> Result<(), NoMemory>
+    requires { findings.now ≡ findings_of model.now }
+    ensures { OnOk result (text.new ≡ text.old ++ flat_map (task_line model.now findings.now) (range_with_len 0 (length model.now.tasks))) }
+{
+    for task in 0..model.tasks() {
+        put_task(text, model, findings, task)?;
+    }
+    Ok(())
+}
+
+/// Puts the line of a task.
+fn put_task(
+    text: &mut Text,
+    model: &ValidModel,
+    findings: &Findings,
+    task: u32,
+) -> Result<(), NoMemory>
+    requires found { findings.now ≡ findings_of model.now }
+    requires within { task < length model.now.tasks }
+    ensures { OnOk result (text.new ≡ text.old ++ task_line model.now findings.now task) }
+{
+    text.put(b"task ")?;
+    put_name(text, model, task)?;
+    put_answer(text, &findings.tasks.as_slice()[task as usize])?;
+    text.put(b" deadline ")?;
+    text.put_number(model.deadline_of(task))?;
+    text.put(b"\n")
+}
+
+/// Puts the name of a task.
+fn put_name(text: &mut Text, model: &ValidModel, task: u32) -> Result<(), NoMemory>
+    requires { task < length model.now.tasks }
+    ensures { OnOk result (text.new ≡ text.old ++ (task_at model.now task).name) }
+{
+    text.put(
+        model.plain().tasks.as_slice()[task as usize]
+            .name
+            .as_slice(),
+    )
+}
+
+/// Puts what is found of a task.
+fn put_answer(text: &mut Text, answer: &TaskAnswer) -> Result<(), NoMemory>
+    ensures { OnOk result (text.new ≡ text.old ++ task_words answer.now) }
+{
+    match answer {
+        TaskAnswer::Settled(settled) => {
+            text.put(b" response ")?;
+            text.put_number(settled.response())
+        }
+        TaskAnswer::Late => text.put(b" late"),
+    }
+}
+
+/// Puts the lines of all chains.
+fn put_chains(text: &mut Text, model: &ValidModel, findings: &Findings) -> Result<(), NoMemory>
+    requires { findings.now ≡ findings_of model.now }
+    ensures { OnOk result (text.new ≡ text.old ++ flat_map (chain_line model.now findings.now) (range_with_len 0 (length model.now.chains))) }
+{
+    for chain in 0..model.chains() {
+        put_chain(text, model, findings, chain)?;
+    }
+    Ok(())
+}
+
+/// Puts the line of a chain.
+fn put_chain(
+    text: &mut Text,
+    model: &ValidModel,
+    findings: &Findings,
+    chain: u32,
+) -> Result<(), NoMemory>
+    requires found { findings.now ≡ findings_of model.now }
+    requires within { chain < length model.now.chains }
+    ensures { OnOk result (text.new ≡ text.old ++ chain_line model.now findings.now chain) }
+{
+    text.put(b"chain ")?;
+    text.put(
+        model.plain().chains.as_slice()[chain as usize]
+            .name
+            .as_slice(),
+    )?;
+    put_chain_answer(text, model, &findings.chains.as_slice()[chain as usize])?;
+    text.put(b"\n")
+}
+
+/// Puts what is found of a chain.
+fn put_chain_answer(
+    text: &mut Text,
+    model: &ValidModel,
+    answer: &ChainAnswer,
+) -> Result<(), NoMemory>
+    requires { IsOfTask (length model.now.tasks) answer.now }
+    ensures { OnOk result (text.new ≡ text.old ++ chain_words model.now answer.now) }
+{
+    match answer {
+        ChainAnswer::Bounds(bounds) => put_bounds(text, bounds),
+        ChainAnswer::Late { task } => {
+            text.put(b" late ")?;
+            put_name(text, model, *task)
+        }
+    }
+}
+
+/// Puts the bounds of a chain.
+fn put_bounds(text: &mut Text, bounds: &Bounds) -> Result<(), NoMemory>
+    ensures { OnOk result (text.new ≡ text.old ++ bounds_words bounds.now) }
+{
+    text.put(b" reaction ")?;
+    text.put_number(bounds.reaction())?;
+    text.put(b" age ")?;
+    text.put_number(bounds.age())?;
+    text.put(b" reduced ")?;
+    text.put_number(bounds.reduced())
+}

@@ -1,0 +1,25 @@
+-- The headline, from the bytes of a model file to the bytes of its report (docs/headline.md).
+use Rattle.std.specs.Prelude.{◌≡◌, ℕ, List, Option, Ok}
+use Rattle.cl_io.specs.Sink.{appended}
+use Rattle.cl_model.specs.declared.model.SystemModel.{SystemModel}
+use Rattle.cl_model.specs.Reading.{model_of}
+use Rattle.cl_model.specs.Validity.{IsValid}
+use Rattle.cl_analyse.specs.Findings.{findings_of}
+use Rattle.cl_analyse.specs.Headline.{AreSafeFindings}
+use Rattle.cl_report.specs.Report.{report_text}
+
+-- the text is the report of the model that the bytes mean, and what it prints is safe: each bound is at least the
+-- length of every complete job chain of its chain in every legal run, of any length, and a bound is missing only where
+-- a task has no fixpoint within its deadline
+pub record IsSafeReport (bytes text : List ℕ) : Type 0 where
+  pub model : SystemModel
+  pub means : model_of bytes ≡ Ok model
+  pub valid : IsValid model
+  pub printed : text ≡ report_text model (findings_of model)
+  pub safe : AreSafeFindings model (findings_of model)
+
+-- such a report was written, and nothing else
+pub record HasReported {K : Type 0} (written : K → Option (List ℕ)) (before after : K) (bytes : List ℕ) : Type 0 where
+  pub text : List ℕ
+  pub is_safe : IsSafeReport bytes text
+  pub whole : written after ≡ appended (written before) text
