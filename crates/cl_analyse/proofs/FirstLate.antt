@@ -1,6 +1,6 @@
 -- The first late task along a chain is the same along its steps and along its groups, since an inner hop stays in one task.
 use Rattle.std.proofs.Common.{◌≡◌, ℕ, ◌+◌, ◌<◌, ◌≤◌, Bool, true, false, cond, ◌==◌, Option, Some, None, List, [], ◌∷◌, length, get_or, take, refl, sym, ap, ◌∙◌, subst, nat_lt}
-use Rattle.std.specs.Prelude.{All, find}
+use Rattle.std.specs.Prelude.{find}
 use Rattle.std.specs.Option.{option_map}
 use Rattle.std.proofs.lemmas.Bool.{and_parts, eqb-true}
 use Rattle.std.proofs.lemmas.List.{take_all}
@@ -11,17 +11,13 @@ use Rattle.cl_model.specs.declared.group.Group.{Group}
 use Rattle.cl_model.specs.declared.group.Step.{Step}
 use Rattle.cl_model.specs.Groups.{is_inner, group_of_step, groups_from, groups, steps_of, groups_of}
 use Rattle.cl_bound.specs.declared.answer.TaskAnswer.{TaskAnswer}
-use Rattle.cl_bound.specs.Answers.{answer_at, is_late}
+use Rattle.cl_bound.specs.Answers.{answer_at, is_late, NoneIsLate}
 use Rattle.cl_analyse.specs.Findings.{first_late}
-use Rattle.cl_analyse.proofs.FirstFound.{none_passes, finds_none, finds_first}
+use Rattle.cl_resp.proofs.FirstFound.{none_passes, finds_none, finds_first}
 
 -- the first task along groups that is late, if there is one
 abbrev pub first_late_group : List TaskAnswer → List Group → Option ℕ
 first_late_group answers groups = option_map (λ (group : Group). group.task) (find (λ (group : Group). is_late (answer_at answers group.task)) groups)
-
--- none of the groups' tasks is late
-abbrev pub AreTimely : List TaskAnswer → List Group → Type 0
-AreTimely answers groups = All (λ (group : Group). is_late (answer_at answers group.task) ≡ false) groups
 
 -- ---- along steps and along groups
 
@@ -81,11 +77,11 @@ module _ (answers : List TaskAnswer) (model : SystemModel) (chain : ChainDef) wh
 
   -- ---- no task of the chain is late
 
-  pub settled_groups : first_late answers (steps_of model chain) ≡ None → AreTimely answers (groups_of model chain)
+  pub settled_groups : first_late answers (steps_of model chain) ≡ None → NoneIsLate answers (groups_of model chain)
   settled_groups none = none_passes (λ (group : Group). late answers group.task) (groups_of model chain)
       (nothing_mapped (λ (group : Group). group.task) (find (λ (group : Group). late answers group.task) (groups_of model chain)) (sym first_late_of_groups ∙ none))
 
-  pub none_late : AreTimely answers (groups_of model chain) → first_late answers (steps_of model chain) ≡ None
+  pub none_late : NoneIsLate answers (groups_of model chain) → first_late answers (steps_of model chain) ≡ None
   none_late timely =
       first_late_of_groups ∙ ap (option_map (λ (group : Group). group.task)) (finds_none (λ (group : Group). late answers group.task) (groups_of model chain) timely)
 
@@ -93,7 +89,7 @@ module _ (answers : List TaskAnswer) (model : SystemModel) (chain : ChainDef) wh
 
   -- one is late, and none before it
   pub late_found : (i : ℕ) (group d : Group) → i < length (groups_of model chain) → group ≡ get_or (groups_of model chain) i d
-      → AreTimely answers (take i (groups_of model chain)) → is_late (answer_at answers group.task) ≡ true
+      → NoneIsLate answers (take i (groups_of model chain)) → is_late (answer_at answers group.task) ≡ true
       → first_late answers (steps_of model chain) ≡ Some group.task
   late_found i group d within at before is =
       first_late_of_groups
@@ -103,11 +99,11 @@ module _ (answers : List TaskAnswer) (model : SystemModel) (chain : ChainDef) wh
 
   -- one more isn't late
   pub timely_more : (i : ℕ) (group d : Group) → i < length (groups_of model chain) → group ≡ get_or (groups_of model chain) i d
-      → AreTimely answers (take i (groups_of model chain)) → is_late (answer_at answers group.task) ≡ false
-      → AreTimely answers (take (i + 1) (groups_of model chain))
+      → NoneIsLate answers (take i (groups_of model chain)) → is_late (answer_at answers group.task) ≡ false
+      → NoneIsLate answers (take (i + 1) (groups_of model chain))
   timely_more i group d within at before is =
       All-more (λ (g : Group). late answers g.task ≡ false) (groups_of model chain) i d within before (subst (λ (g : Group). late answers g.task ≡ false) at is)
 
   -- all were looked at, and none is late
-  pub timely_all : (i : ℕ) → length (groups_of model chain) ≤ i → AreTimely answers (take i (groups_of model chain)) → AreTimely answers (groups_of model chain)
-  timely_all i all timely = subst (AreTimely answers) (take_all i (groups_of model chain) all) timely
+  pub timely_all : (i : ℕ) → length (groups_of model chain) ≤ i → NoneIsLate answers (take i (groups_of model chain)) → NoneIsLate answers (groups_of model chain)
+  timely_all i all timely = subst (NoneIsLate answers) (take_all i (groups_of model chain) all) timely

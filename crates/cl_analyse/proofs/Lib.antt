@@ -1,4 +1,4 @@
-pub mod FirstFound
 pub mod FirstLate
+pub mod AnswerLists
+pub mod LateTasks
 pub mod SafeFindings
-pub mod Lists

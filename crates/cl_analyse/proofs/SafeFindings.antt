@@ -1,44 +1,36 @@
 -- The findings of a valid model are safe.
-use Rattle.std.proofs.Common.{◌≡◌, ℕ, ◌+◌, ◌<◌, Bool, true, false, Option, Some, None, List, length, refl, sym, ap, ◌∙◌, subst, arith}
-use Rattle.std.specs.Prelude.{All, find, slice_index_or}
+use Rattle.std.proofs.Common.{◌≡◌, ℕ, ◌<◌, Bool, true, false, Option, Some, None, List, length, refl, sym, ap, ◌∙◌, subst, arith}
+use Rattle.std.specs.Prelude.{All, find}
 use Rattle.std.specs.Option.{option_map}
-use Rattle.std.proofs.lemmas.Bool.{true≢false}
 use Rattle.std.proofs.lemmas.List.{get_or-map}
-use Rattle.std.proofs.lemmas.List.Elements.{All-map, All-weaker}
+use Rattle.std.proofs.lemmas.List.Elements.{All-map}
 use Rattle.cl_model.specs.declared.model.SystemModel.{SystemModel}
-use Rattle.cl_model.specs.declared.chain.ChainDef.{ChainDef}
 use Rattle.cl_model.specs.declared.group.Step.{Step}
-use Rattle.cl_model.specs.Groups.{step_named, steps_of, groups_at, no_chain, IsGroupOf as IsGroupOfModel}
+use Rattle.cl_model.specs.Groups.{step_named, steps_of, no_step, groups_at}
+use Rattle.cl_model.specs.ByNumber.{no_chain, chain_at}
 use Rattle.cl_model.specs.Validity.{IsValid}
 use Rattle.cl_model.proofs.GroupFacts.{groups_at_are}
 use Rattle.cl_model.proofs.StepFacts.{step_is_known}
-use Rattle.cl_model.proofs.ValidFacts.{steps_known}
-use Rattle.cl_runs.specs.TaskTiming.{System, timing_at, no_timing}
+use Rattle.cl_model.proofs.NamesKnown.{steps_known}
 use Rattle.cl_runs.specs.SystemOf.{system_of}
-use Rattle.cl_runs.proofs.SoundSystem.{system_sound}
-use Rattle.cl_resp.specs.declared.question.Question.{Question}
-use Rattle.cl_resp.specs.Question.{question_of}
-use Rattle.cl_resp.specs.Response.{Response, window_of}
-use Rattle.cl_resp.specs.Finishing.{IsSettled, AlwaysFinishesWithin}
+use Rattle.cl_runs.proofs.ModelSystem.{count_is, system_sound}
+use Rattle.cl_resp.specs.Response.{Response, IsSettled}
+use Rattle.cl_resp.specs.Promises.{AlwaysFinishesWithin}
 use Rattle.cl_resp.proofs.BusyWindowTask.{settled_finish}
-use Rattle.cl_resp.proofs.Windows.{window_is_least, no_window_holds}
+use Rattle.cl_resp.proofs.FirstFound.{first_found}
 use Rattle.cl_bound.specs.declared.answer.TaskAnswer.TheVariants as answer
-use Rattle.cl_bound.specs.Answers.{answer_with, answer_to, answers_of, answer_at, is_late, response_in}
-use Rattle.cl_bound.specs.Bounds.{Lengths, bounds_of}
-use Rattle.cl_bound.specs.Safe.{IsGroupOf, IsSettledChain, AreSafe}
-use Rattle.cl_bound.proofs.OfModel.{tasks_of_system, group_of_system}
-use Rattle.cl_bound.proofs.Settled.{settled_task}
-use Rattle.cl_bound.proofs.SettledChains.{settled_safe}
-use Rattle.cl_analyse.specs.declared.findings.ChainAnswer.{ChainAnswer}
+use Rattle.cl_bound.specs.Answers.{answers_of, answer_at, is_late, response_in}
+use Rattle.cl_bound.specs.Bounds.{Lengths, AreBoundsOf, settled_timings, bounds_of}
+use Rattle.cl_bound.specs.Promises.{AreSafe}
+use Rattle.cl_bound.specs.SettledChains.{IsSettledChain}
+use Rattle.cl_bound.proofs.ModelGroups.{settled_chain}
+use Rattle.cl_bound.proofs.SettledTasks.{settled_task}
+use Rattle.cl_bound.proofs.SettledChains.{settled_sums, settled_safe}
 use Rattle.cl_analyse.specs.declared.findings.ChainAnswer.TheVariants.{Bounds, Late}
-use Rattle.cl_analyse.specs.Findings.{first_late, chain_answer, chain_answer_of, chain_answer_at, findings_of, IsOfTask}
-use Rattle.cl_analyse.specs.Headline.{HasNoFixpoint, task_of_step, IsFirstWithoutFixpoint, AreSafeFindings}
-use Rattle.cl_analyse.proofs.FirstFound.{first_found}
+use Rattle.cl_analyse.specs.Findings.{first_late, chain_answer, chain_answer_of, chain_answer_at, findings_of}
+use Rattle.cl_analyse.specs.Headline.{task_of_step, IsFirstWithoutFixpoint, AreSafeFindings}
 use Rattle.cl_analyse.proofs.FirstLate.{settled_groups}
-
--- the chain of a number
-abbrev chain_at : SystemModel → ℕ → ChainDef
-chain_at model chain = slice_index_or model.chains chain no_chain
+use Rattle.cl_analyse.proofs.LateTasks.{late_without, timely_with}
 
 -- ---- the answers
 
@@ -57,46 +49,8 @@ late_where : (first : Option ℕ) (own : Lengths) (task : ℕ) → chain_answer 
 late_where None own task is = absurd (cc)
 late_where (Some other) own task is = cc
 
--- the answer for a task of the system
-answer_of_task : (system : System) (i : ℕ) → i < length system.tasks → answer_at (answers_of system) i ≡ answer_to system (timing_at system i)
-unfolding answers_of
-answer_of_task system i within = get_or-map (answer_to system) system.tasks i no_timing answer.Late within
-
--- ---- late tasks
-
-module _ (jitter : ℕ) where
-  -- whether a task with this window, or none, is late
-  abbrev late_with : Option ℕ → Bool
-  late_with found = is_late (answer_with (option_map (λ (window : ℕ). record { window = window; response = jitter + window }) found))
-
-  no_window : (found : Option ℕ) → late_with found ≡ true → found ≡ None
-  no_window None late = refl
-  no_window (Some window) late = absurd (true≢false (sym late))
-
-  some_window : (found : Option ℕ) → late_with found ≡ false → (window : ℕ) × (found ≡ Some window)
-  some_window None timely = absurd (true≢false timely)
-  some_window (Some window) timely = (window, refl)
-
-module _ (system : System) (i : ℕ) (within : i < length system.tasks) where
-  -- the question of the task
-  abbrev question : Question
-  question = question_of system (timing_at system i)
-
-  -- it is late exactly where it has no fixpoint within its deadline
-  late_without : is_late (answer_at (answers_of system) i) ≡ true → HasNoFixpoint system i
-  late_without late width some most enough =
-      let none = no_window question.jitter (window_of question) (sym (ap is_late (answer_of_task system i within)) ∙ late) in
-      let short = no_window_holds question none width some most in
-      omega (arith, short, enough)
-
-  timely_with : is_late (answer_at (answers_of system) i) ≡ false → HasNoFixpoint system i → ⊥
-  timely_with timely none =
-      let (window, found) = some_window question.jitter (window_of question) (sym (ap is_late (answer_of_task system i within)) ∙ timely) in
-      let is = window_is_least question window found in
-      none window is.some is.within is.enough
-
 task_of_system : (model : SystemModel) (task : ℕ) → task < length model.tasks → task < length (system_of model).tasks
-task_of_system model task within = omega (arith, within, tasks_of_system model)
+task_of_system model task within = omega (arith, within, count_is model)
 
 -- ---- the first late task of a chain
 
@@ -117,15 +71,14 @@ first_late_stands : (model : SystemModel) (chain task : ℕ) → first_late (ans
 first_late_stands model chain task is =
     let steps : List Step = steps_of model (chain_at model chain) in
     let late : Step → Bool = λ (step : Step). is_late (answer_at (answers_of (system_of model)) step.task) in
-    let none : Step = record { task = 0; place = 0 } in
     let (step, found, same) = some_mapped (λ (step : Step). step.task) (find late steps) task is in
     let first = first_found late steps step found in
     record {
       step = first.place;
       within = first.within;
-      is_task = ap (λ (s : Step). s.task) (first.is none) ∙ same;
+      is_task = ap (λ (s : Step). s.task) (first.is no_step) ∙ same;
       late = subst (λ (n : ℕ). is_late (answer_at (answers_of (system_of model)) n) ≡ true) same first.passes;
-      timely_before = λ earlier before. first.none_before earlier none before;
+      timely_before = λ earlier before. first.fails_before earlier no_step before;
     }
 
 -- ---- chains of a valid model
@@ -140,10 +93,8 @@ module _ (model : SystemModel) (valid : IsValid model) where
   -- a chain without a late task is settled
   pub chain_settled : (chain : ℕ) → first_late (answers_of (system_of model)) (steps_of model (chain_at model chain)) ≡ None
       → IsSettledChain (system_of model) (groups_at model chain)
-  chain_settled chain none = record {
-    groups_of = All-weaker (IsGroupOfModel model) (IsGroupOf (system_of model)) (group_of_system model) (groups_at model chain) (groups_at_are model valid chain);
-    settled = settled_groups (answers_of (system_of model)) model (chain_at model chain) none;
-  }
+  chain_settled chain none =
+      settled_chain model (groups_at model chain) (groups_at_are model valid chain) (settled_groups (answers_of (system_of model)) model (chain_at model chain) none)
 
   late_of_chain : (chain task : ℕ) → chain < length model.chains → chain_answer_at (findings_of model) chain ≡ Late task → IsFirstLate model chain task
   unfolding chain_answer_of
@@ -154,18 +105,14 @@ module _ (model : SystemModel) (valid : IsValid model) where
   -- the task of each step of a chain is a task of the model
   step_within : (chain step : ℕ) → chain < length model.chains → step < length (steps_of model (chain_at model chain))
       → task_of_step model chain step < length model.tasks
-  step_within chain step within at = steps_of_tasks chain within step (record { task = 0; place = 0 }) at
+  step_within chain step within at = steps_of_tasks chain within step no_step at
 
   late_task_within : (chain task : ℕ) → chain < length model.chains → IsFirstLate model chain task → task < length model.tasks
   late_task_within chain task within first = subst (λ (n : ℕ). n < length model.tasks) first.is_task (step_within chain first.step within first.within)
 
   -- a late task that an answer names is a task of the model
-  pub named_task_within : (chain : ℕ) → chain < length model.chains → IsOfTask (length model.tasks) (chain_answer_at (findings_of model) chain)
-  named_task_within chain within = named (chain_answer_at (findings_of model) chain) refl
-    where
-      named : (answer : ChainAnswer) → chain_answer_at (findings_of model) chain ≡ answer → IsOfTask (length model.tasks) answer
-      named (Bounds bounds) is = tt
-      named (Late task) is = late_task_within chain task within (late_of_chain chain task within is)
+  pub named_task_within : (chain task : ℕ) → chain < length model.chains → chain_answer_at (findings_of model) chain ≡ Late task → task < length model.tasks
+  named_task_within chain task within is = late_task_within chain task within (late_of_chain chain task within is)
 
   -- ---- what the findings promise
 
@@ -177,15 +124,30 @@ module _ (model : SystemModel) (valid : IsValid model) where
       settled_finish (system_of model) (system_sound model valid) task response.response
       (subst (IsSettled (system_of model) task) (ap response_in is) settled)
 
+  -- bounds are given only to settled chains, and are theirs
+  bounds_given : (chain : ℕ) (bounds : Lengths) → chain < length model.chains → chain_answer_at (findings_of model) chain ≡ Bounds bounds
+      → IsSettledChain (system_of model) (groups_at model chain) × (bounds_of (system_of model) (groups_at model chain) ≡ bounds)
+  unfolding chain_answer_of
+  bounds_given chain bounds within is =
+      let (none, own) = bounds_where (first_late (answers_of (system_of model)) (steps_of model (chain_at model chain)))
+      (bounds_of (system_of model) (groups_at model chain)) bounds (sym (answer_of_chain model chain within) ∙ is) in
+      (chain_settled chain none, own)
+
   -- bounds are safe
   bounds_hold : (chain : ℕ) (bounds : Lengths) → chain < length model.chains → chain_answer_at (findings_of model) chain ≡ Bounds bounds
       → AreSafe (system_of model) (groups_at model chain) bounds
-  unfolding chain_answer_of
   bounds_hold chain bounds within is =
-      let (none, own) = bounds_where (first_late (answers_of (system_of model)) (steps_of model (chain_at model chain)))
-      (bounds_of (system_of model) (groups_at model chain)) bounds (sym (answer_of_chain model chain within) ∙ is) in
+      let (settled, own) = bounds_given chain bounds within is in
       subst (AreSafe (system_of model) (groups_at model chain)) own
-      (settled_safe (system_of model) (system_sound model valid) (groups_at model chain) (chain_settled chain none))
+      (settled_safe (system_of model) (system_sound model valid) (groups_at model chain) settled)
+
+  -- and are the signed sums that define them
+  pub bounds_found : (chain : ℕ) (bounds : Lengths) → chain < length model.chains → chain_answer_at (findings_of model) chain ≡ Bounds bounds
+      → AreBoundsOf (settled_timings (system_of model) (groups_at model chain)) bounds
+  bounds_found chain bounds within is =
+      let (settled, own) = bounds_given chain bounds within is in
+      subst (AreBoundsOf (settled_timings (system_of model) (groups_at model chain))) own
+      (settled_sums (system_of model) (system_sound model valid) (groups_at model chain) settled)
 
   -- a missing bound names the first task without a fixpoint
   missing_named : (chain task : ℕ) → chain < length model.chains → chain_answer_at (findings_of model) chain ≡ Late task → IsFirstWithoutFixpoint model chain task
@@ -199,7 +161,7 @@ module _ (model : SystemModel) (valid : IsValid model) where
         first = λ earlier before.
             timely_with (system_of model) (task_of_step model chain earlier)
             (task_of_system model (task_of_step model chain earlier) (step_within chain earlier within (omega (arith, before, first.within))))
-            (first.timely_before earlier before);
+            (system_sound model valid) (first.timely_before earlier before);
       }
 
   pub findings_safe : AreSafeFindings model (findings_of model)

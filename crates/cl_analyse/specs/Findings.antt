@@ -1,5 +1,5 @@
 -- The findings of a model: the answer for each task, and the bounds of each chain. Source: this project's profile.
-use Rattle.std.specs.Prelude.{ℕ, ◌<◌, List, map, slice_index_or, find, Option, Some, None}
+use Rattle.std.specs.Prelude.{ℕ, List, map, slice_index_or, find, Option, Some, None}
 use Rattle.std.specs.Option.{option_map}
 use Rattle.cl_model.specs.declared.model.SystemModel.{SystemModel}
 use Rattle.cl_model.specs.declared.chain.ChainDef.{ChainDef}
@@ -25,11 +25,6 @@ chain_answer (Some task) bounds = Late task
 unfoldable pub chain_answer_of : SystemModel → ChainDef → ChainAnswer
 chain_answer_of model chain =
     chain_answer (first_late (answers_of (system_of model)) (steps_of model chain)) (bounds_of (system_of model) (groups_of model chain))
-
--- an answer that names a late task names one of so many tasks
-abbrev pub IsOfTask : (tasks : ℕ) → ChainAnswer → Type 0
-IsOfTask tasks (Bounds bounds) = Unit {0}
-IsOfTask tasks (Late task) = task < tasks
 
 -- the findings of a model, in file order
 unfoldable pub findings_of : SystemModel → Findings

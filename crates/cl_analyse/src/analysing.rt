@@ -1,6 +1,7 @@
 //! The analysis of a model. Times are in ticks.
 ghost use Rattle.std.specs.Prelude.{◌≡◌, ◌+◌, ◌<◌, ◌≤◌, length, map, slice_index_or, IfOk};
-ghost use Rattle.cl_model.specs.Groups.{steps_of, no_chain};
+ghost use Rattle.cl_model.specs.Groups.{steps_of};
+ghost use Rattle.cl_model.specs.ByNumber.{chain_at};
 ghost use Rattle.cl_runs.specs.SystemOf.{system_of};
 ghost use Rattle.cl_runs.specs.TaskTiming.{timing_at};
 ghost use Rattle.cl_bound.specs.Answers.{answer_to, answers_of, answer_at, is_late};
@@ -99,7 +100,7 @@ fn answer_chain<L: Ledger>(
 ) -> ChainAnswer
     requires chain { chain < length model.now.chains }
     requires answers { tasks.now ≡ answers_of (system_of model.now) }
-    ensures answer { result ≡ chain_answer_of model.now (slice_index_or model.now.chains chain no_chain) }
+    ensures answer { result ≡ chain_answer_of model.now (chain_at model.now chain) }
     ensures steps { steps.new ≤ steps.old + 1 }
 {
     match first_late(model, chain, tasks) {
@@ -111,7 +112,7 @@ fn answer_chain<L: Ledger>(
 /// The first late task along the steps of a chain.
 fn first_late(model: &ValidModel, chain: u32, answers: &List<TaskAnswer>) -> Option<u32>
     requires { chain < length model.now.chains }
-    ensures { result ≡ first_late answers.now (steps_of model.now (slice_index_or model.now.chains chain no_chain)) }
+    ensures { result ≡ first_late answers.now (steps_of model.now (chain_at model.now chain)) }
 {
     for place in 0..model.group_count(chain) {
         let task = model.group(chain, place).task;
@@ -122,9 +123,12 @@ fn first_late(model: &ValidModel, chain: u32, answers: &List<TaskAnswer>) -> Opt
     None
 }
 
-/// Whether a task is late.
+/// Whether a task is late. One that has no answer counts as late.
 fn task_is_late(answers: &List<TaskAnswer>, task: u32) -> bool
     ensures { result ≡ is_late (answer_at answers.now task) }
 {
-    !matches!(answers.at(task as usize), Some(TaskAnswer::Settled(_)))
+    match answers.at(task as usize) {
+        Some(answer) => answer.is_late(),
+        None => true,
+    }
 }

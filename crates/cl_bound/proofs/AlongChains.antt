@@ -1,9 +1,10 @@
 -- Sums of hops along a chain.
-use Rattle.std.proofs.Common.{◌≡◌, ℕ, ℤ, pos, negsuc, suc, ◌+◌, ◌-◌, ◌<◌, ◌≤◌, List, [], ◌∷◌, length, map, refl, subst, arith}
-use Rattle.std.specs.Prelude.{◌+ℤ◌, ◌-ℤ◌, ◌≤ℤ◌, nat_abs, slice_index}
+use Rattle.std.proofs.Common.{◌≡◌, ℕ, ℤ, pos, suc, ◌+◌, ◌-◌, ◌<◌, ◌≤◌, List, [], ◌∷◌, length, map, refl, subst, arith}
+use Rattle.std.specs.Prelude.{◌+ℤ◌, ◌-ℤ◌, ◌≤ℤ◌, slice_index}
 use Rattle.std.proofs.lemmas.Int.{ints}
 use Rattle.cl_model.specs.declared.group.Group.{Group}
-use Rattle.cl_runs.specs.Chains.{group_at, last_group}
+use Rattle.cl_model.specs.Groups.{group_at}
+use Rattle.cl_runs.specs.Chains.{last_group}
 use Rattle.cl_bound.specs.Hops.{hops}
 use Rattle.cl_bound.specs.declared.group_timing.GroupTiming.{GroupTiming}
 use Rattle.cl_bound.specs.Bounds.{last_of}
@@ -35,10 +36,9 @@ at_last P first groups jobs same holds =
     subst (λ i. P (group_at (first ∷ groups) i) (slice_index jobs (length groups))) group
     (subst (λ i. P (last_group (first ∷ groups)) (slice_index jobs i)) job holds)
 
--- a length is at most the absolute value of what bounds its end from its beginning
-pub length_within : (from to : ℕ) (bound : ℤ) → pos to ≤ℤ (pos from +ℤ bound) → to - from ≤ nat_abs bound
-length_within from to (pos n) h = omega (arith, ints, h)
-length_within from to (negsuc n) h = omega (arith, ints, h)
+-- a length is at most a number that bounds its end from its beginning
+pub length_within : (from to n : ℕ) (bound : ℤ) → pos n ≡ bound → pos to ≤ℤ (pos from +ℤ bound) → to - from ≤ n
+length_within from to n bound is h = omega (arith, ints, is, h)
 
 module _ (first last end : ℕ) (sum : ℤ) (write last_write : ℕ) (written : write ≡ last_write) (to_end : end ≤ last + last_write)
     (along : pos last ≤ℤ (pos first +ℤ sum)) (from read : ℕ) where

@@ -1,33 +1,29 @@
 -- The sums over all groups of a chain of a valid model are its bounds.
-use Rattle.std.proofs.Common.{◌≡◌, ℕ, ℤ, pos, suc, ◌-◌, ◌*◌, ◌<◌, ◌≤◌, false, List, [], ◌∷◌, length, get_or, take, drop, map, refl, sym, ap, ◌∙◌, subst, arith}
-use Rattle.std.specs.Prelude.{All}
+use Rattle.std.proofs.Common.{◌≡◌, ℕ, ℤ, pos, suc, ◌-◌, ◌*◌, ◌<◌, ◌≤◌, List, [], ◌∷◌, length, get_or, take, drop, map, refl, sym, ap, ◌∙◌, arith}
 use Rattle.std.proofs.lemmas.Int.{ints}
 use Rattle.std.proofs.lemmas.List.{get_or-map, length-drop, take_all}
 use Rattle.std.proofs.Math.ListN.{length-map}
 use Rattle.cl_model.specs.declared.limits.TheConstants.{MOST_TICKS, MOST_STEPS}
 use Rattle.cl_model.specs.declared.model.SystemModel.{SystemModel}
 use Rattle.cl_model.specs.declared.group.Group.{Group}
-use Rattle.cl_model.specs.declared.stimulus.StimulusKind.{StimulusKind}
-use Rattle.cl_model.specs.declared.stimulus.StimulusKind.TheVariants.{Periodic, Sporadic}
 use Rattle.cl_model.specs.Groups.{no_group, groups_at}
-use Rattle.cl_model.specs.Ranges.{IsKindInRange}
+use Rattle.cl_model.specs.Timing.{greatest_distance}
 use Rattle.cl_model.specs.Validity.{IsValid}
 use Rattle.cl_model.proofs.GroupFacts.{groups_at_are, groups_at_some, groups_at_few}
-use Rattle.cl_runs.specs.Pattern.{greatest_gap}
 use Rattle.cl_runs.specs.TaskTiming.{Timing}
 use Rattle.cl_runs.specs.SystemOf.{system_of}
-use Rattle.cl_runs.proofs.SoundSystem.{system_sound}
+use Rattle.cl_runs.proofs.ModelSystem.{timing_is, system_sound}
 use Rattle.cl_stim.proofs.ValidStimuli.{has_stimulus}
+use Rattle.cl_resp.proofs.StimulusKinds.{greatest_few}
 use Rattle.cl_bound.specs.declared.group_timing.GroupTiming.{GroupTiming}
 use Rattle.cl_bound.specs.declared.sums.Sums.{Sums}
-use Rattle.cl_bound.specs.Answers.{answers_of, answer_at, is_late}
+use Rattle.cl_bound.specs.Answers.{answers_of, NoneIsLate}
 use Rattle.cl_bound.specs.Hops.{group_timing}
-use Rattle.cl_bound.specs.Bounds.{Lengths, bounds_of}
-use Rattle.cl_bound.specs.Safe.{IsSettledChain}
-use Rattle.cl_bound.specs.SettledTiming.{settled_timing, AreWithin}
-use Rattle.cl_bound.specs.Sums.{IsBound, sums_of, reaction_in, age_in, reduced_in}
-use Rattle.cl_bound.proofs.OfModel.{timing_is, settled_chain}
-use Rattle.cl_bound.proofs.SettledChains.{reaction_is, age_is, reduced_is, limited}
+use Rattle.cl_bound.specs.Bounds.{Lengths, greatest_reaction, greatest_age, greatest_reduced, AreBoundsOf, settled_timing, settled_timings, bounds_of}
+use Rattle.cl_bound.specs.SettledChains.{IsSettledChain, AreWithin}
+use Rattle.cl_bound.specs.Inner.Sums.{IsBound, sums_of, reaction_in, age_in, reduced_in}
+use Rattle.cl_bound.proofs.ModelGroups.{settled_chain}
+use Rattle.cl_bound.proofs.SettledChains.{settled_sums, AreLimited, limited, reaction_positive, age_positive, reduced_positive}
 
 -- a list that isn't empty, by its first item and the rest
 first_and_rest : (groups : List Group) → 0 < length groups → groups ≡ get_or groups 0 no_group ∷ drop 1 groups
@@ -57,32 +53,27 @@ bounded n count z is some small few =
     let top : n ≤ 2 * MOST_STEPS * MOST_TICKS = omega (arith, small, few) in
     (omega (arith, ints, is, some), omega (arith, ints, is, top))
 
-near_kind : (kind : StimulusKind) → IsKindInRange kind → greatest_gap kind 0 ≤ MOST_TICKS
-near_kind (Periodic period offset jitter) in_range = in_range.0.1
-near_kind (Sporadic least greatest) in_range = in_range.1.1
-
-same_lengths : (r a d reaction age reduced : ℕ) → r ≡ reaction → a ≡ age → d ≡ reduced
-    → ◌≡◌ {A = Lengths} (record { reaction = r; age = a; reduced = d }) (record { reaction = reaction; age = age; reduced = reduced })
-same_lengths r a d reaction age reduced e f g = cc
-
 module _ (model : SystemModel) (valid : IsValid model) (chain : ℕ) (is_chain : chain < length model.chains)
-    (timely : All (λ (group : Group). is_late (answer_at (answers_of (system_of model)) group.task) ≡ false) (groups_at model chain)) where
-  -- it is a settled chain, and its groups are near
+    (timely : NoneIsLate (answers_of (system_of model)) (groups_at model chain)) where
+  -- it is a settled chain of some groups, and its groups are near
   pub is_settled : IsSettledChain (system_of model) (groups_at model chain)
   is_settled = settled_chain model (groups_at model chain) (groups_at_are model valid chain) timely
+
+  some : 0 < length (groups_at model chain)
+  some = groups_at_some model valid chain is_chain
 
   are_near : AreWithin (system_of model) MOST_TICKS (groups_at model chain)
   unfolding group_timing
   are_near i d h =
       let known = (groups_at_are model valid chain i d h).known in
-      rw (ap (λ (t : Timing). greatest_gap t.pattern 0) (timing_is model (get_or (groups_at model chain) i d).task known))
-      (near_kind _ (has_stimulus model valid (get_or (groups_at model chain) i d).task known).0)
+      rw (ap (λ (t : Timing). greatest_distance t.pattern) (timing_is model (get_or (groups_at model chain) i d).task known))
+      (greatest_few _ (has_stimulus model valid (get_or (groups_at model chain) i d).task known).0)
+
+  most : AreLimited (system_of model) (groups_at model chain) MOST_TICKS
+  most = limited (system_of model) (system_sound model valid) (groups_at model chain) is_settled MOST_TICKS are_near
 
   few : length (groups_at model chain) ≤ MOST_STEPS
   few = groups_at_few model valid chain is_chain
-
-  split : groups_at model chain ≡ get_or (groups_at model chain) 0 no_group ∷ drop 1 (groups_at model chain)
-  split = first_and_rest (groups_at model chain) (groups_at_some model valid chain is_chain)
 
   abbrev pub first : GroupTiming
   first = settled_timing (system_of model) (get_or (groups_at model chain) 0 no_group)
@@ -90,31 +81,34 @@ module _ (model : SystemModel) (valid : IsValid model) (chain : ℕ) (is_chain :
   abbrev pub sums : Sums
   sums = sums_of first (map (settled_timing (system_of model)) (drop 1 (groups_at model chain)))
 
-  most : ((bounds_of (system_of model) (groups_at model chain)).reaction ≤ 2 * length (groups_at model chain) * MOST_TICKS)
-      × ((bounds_of (system_of model) (groups_at model chain)).age ≤ 2 * length (groups_at model chain) * MOST_TICKS)
-      × ((bounds_of (system_of model) (groups_at model chain)).reduced ≤ 2 * length (groups_at model chain) * MOST_TICKS)
-  most = limited (system_of model) (system_sound model valid) (groups_at model chain) is_settled MOST_TICKS are_near
+  -- the sums of the first group and the rest are those of all
+  split : settled_timings (system_of model) (groups_at model chain) ≡ first ∷ map (settled_timing (system_of model)) (drop 1 (groups_at model chain))
+  split = ap (settled_timings (system_of model)) (first_and_rest (groups_at model chain) some)
 
-  pub reaction_sum : (pos (bounds_of (system_of model) (groups_at model chain)).reaction ≡ reaction_in first sums) × IsBound (reaction_in first sums)
-  reaction_sum =
-      let is = reaction_is (system_of model) (system_sound model valid) _ _ (subst (IsSettledChain (system_of model)) split is_settled) in
-      let same = ap (λ groups. pos (bounds_of (system_of model) groups).reaction) split ∙ is.0 in
-      (same, bounded _ _ _ same (rw (ap (λ groups. (bounds_of (system_of model) groups).reaction) split) is.1) most.0 few)
+  abbrev bounds : Lengths
+  bounds = bounds_of (system_of model) (groups_at model chain)
 
-  pub age_sum : (pos (bounds_of (system_of model) (groups_at model chain)).age ≡ age_in first sums) × IsBound (age_in first sums)
-  age_sum =
-      let is = age_is (system_of model) (system_sound model valid) _ _ (subst (IsSettledChain (system_of model)) split is_settled) in
-      let same = ap (λ groups. pos (bounds_of (system_of model) groups).age) split ∙ is.0 in
-      (same, bounded _ _ _ same (rw (ap (λ groups. (bounds_of (system_of model) groups).age) split) is.1) most.1 few)
+  are_sums : AreBoundsOf (settled_timings (system_of model) (groups_at model chain)) bounds
+  are_sums = settled_sums (system_of model) (system_sound model valid) (groups_at model chain) is_settled
 
-  pub reduced_sum : (pos (bounds_of (system_of model) (groups_at model chain)).reduced ≡ reduced_in first sums) × IsBound (reduced_in first sums)
-  reduced_sum =
-      let is = reduced_is (system_of model) (system_sound model valid) _ _ (subst (IsSettledChain (system_of model)) split is_settled) in
-      let same = ap (λ groups. pos (bounds_of (system_of model) groups).reduced) split ∙ is.0 in
-      (same, bounded _ _ _ same (rw (ap (λ groups. (bounds_of (system_of model) groups).reduced) split) is.1) most.2 few)
+  -- each is a bound
+  pub reaction_bound : IsBound (reaction_in first sums)
+  reaction_bound = bounded bounds.reaction _ _ (are_sums.reaction ∙ ap greatest_reaction split)
+      (reaction_positive (system_of model) (system_sound model valid) (groups_at model chain) is_settled some) most.reaction few
+
+  pub age_bound : IsBound (age_in first sums)
+  age_bound = bounded bounds.age _ _ (are_sums.age ∙ ap greatest_age split)
+      (age_positive (system_of model) (system_sound model valid) (groups_at model chain) is_settled some) most.age few
+
+  pub reduced_bound : IsBound (reduced_in first sums)
+  reduced_bound = bounded bounds.reduced _ _ (are_sums.reduced ∙ ap greatest_reduced split)
+      (reduced_positive (system_of model) (system_sound model valid) (groups_at model chain) is_settled some) most.reduced few
 
   -- bounds that are these sums are those of the chain
-  pub bounds_are : (bounds : Lengths) → pos bounds.reaction ≡ reaction_in first sums → pos bounds.age ≡ age_in first sums → pos bounds.reduced ≡ reduced_in first sums
-      → bounds ≡ bounds_of (system_of model) (groups_at model chain)
-  bounds_are bounds reaction age reduced = same_lengths _ _ _ _ _ _
-      (omega (arith, ints, reaction ∙ sym reaction_sum.0)) (omega (arith, ints, age ∙ sym age_sum.0)) (omega (arith, ints, reduced ∙ sym reduced_sum.0))
+  pub bounds_are : (found : Lengths) → pos found.reaction ≡ reaction_in first sums → pos found.age ≡ age_in first sums → pos found.reduced ≡ reduced_in first sums
+      → AreBoundsOf (settled_timings (system_of model) (groups_at model chain)) found
+  bounds_are found reaction age reduced = record {
+    reaction = reaction ∙ sym (ap greatest_reaction split);
+    age = age ∙ sym (ap greatest_age split);
+    reduced = reduced ∙ sym (ap greatest_reduced split);
+  }

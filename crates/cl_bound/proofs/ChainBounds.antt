@@ -1,6 +1,6 @@
 -- The bounds of a chain of timely tasks are at least the lengths of its complete chains in a legal run.
 use Rattle.std.proofs.Common.{◌≡◌, ℕ, pos, suc, ◌+◌, ◌-◌, ◌<◌, ◌≤◌, List, [], ◌∷◌, length, map, ap, subst, arith}
-use Rattle.std.specs.Prelude.{slice_index, ◌+ℤ◌, ◌≤ℤ◌, nat_abs}
+use Rattle.std.specs.Prelude.{slice_index, ◌+ℤ◌, ◌≤ℤ◌}
 use Rattle.std.proofs.Math.Numerals.{add-one}
 use Rattle.cl_model.specs.declared.group.Group.{Group}
 use Rattle.cl_runs.specs.TaskTiming.{System, IsSound}
@@ -8,14 +8,15 @@ use Rattle.cl_runs.specs.Table.{job_at}
 use Rattle.cl_runs.specs.Run.{Run, jobs_of}
 use Rattle.cl_runs.specs.Legal.{IsLegal}
 use Rattle.cl_runs.specs.Moments.{Reads, Writes}
-use Rattle.cl_runs.specs.Chains.{JobChain, chain_length, group_at, first_job, IsForwardChain, AreBackwardLinks, IsAgeChain, IsReducedChain}
+use Rattle.cl_model.specs.Groups.{group_at}
+use Rattle.cl_runs.specs.Chains.{JobChain, chain_length, first_job, IsForwardChain, AreBackwardLinks, IsAgeChain, IsReducedChain}
 use Rattle.cl_runs.specs.RunChains.{run_moments}
+use Rattle.cl_runs.proofs.RunArrivals.{next_within}
 use Rattle.cl_comm.proofs.AccessTimes.{reads_come_late}
 use Rattle.cl_bound.specs.Hops.{group_timing, forward_hop, backward_hop, hops}
 use Rattle.cl_bound.specs.declared.group_timing.GroupTiming.{GroupTiming}
-use Rattle.cl_bound.specs.Bounds.{last_of, greatest_reaction, greatest_age, greatest_reduced, lengths_of}
-use Rattle.cl_bound.specs.Safe.{AreAtLeast}
-use Rattle.cl_bound.proofs.Arrivals.{next_arrival}
+use Rattle.cl_bound.specs.Bounds.{last_of, Lengths, AreBoundsOf}
+use Rattle.cl_bound.specs.Promises.{AreAtLeast}
 use Rattle.cl_bound.proofs.LaterRuns.{IsTimely, writes_in_time}
 use Rattle.cl_bound.proofs.HopBounds.{forward_arrival, backward_arrival}
 use Rattle.cl_bound.proofs.AlongChains.{telescope, last_timing, at_last, length_within, from_first, from_before, to_next}
@@ -29,7 +30,8 @@ abbrev arrival : Run → List Group → List ℕ → ℕ → ℕ
 arrival run groups jobs i = (job_at (jobs_of run (group_at groups i).task) (slice_index jobs i)).arrival
 
 module _ (system : System) (sound : IsSound system) (responses : ℕ → ℕ) (first : Group) (groups : List Group)
-    (timely : AreTimely system responses (first ∷ groups)) (run : Run) (legal : IsLegal system run) where
+    (timely : AreTimely system responses (first ∷ groups)) (run : Run) (legal : IsLegal system run)
+    (bounds : Lengths) (are : AreBoundsOf (map (group_timing system responses) (first ∷ groups)) bounds) where
   last_place : length groups < length (first ∷ groups)
   last_place = omega arith
 
@@ -60,7 +62,7 @@ module _ (system : System) (sound : IsSound system) (responses : ℕ → ℕ) (f
       → (job_at (jobs_of run (group_at (first ∷ groups) i).task) (suc k)).arrival
       ≤ (job_at (jobs_of run (group_at (first ∷ groups) i).task) k).arrival + (group_timing system responses (group_at (first ∷ groups) i)).distance
   unfolding group_timing
-  next_soon i h k = next_arrival system sound run legal (group_at (first ∷ groups) i).task (timely i h).is_task k
+  next_soon i h k = next_within system sound run legal (group_at (first ∷ groups) i).task (timely i h).is_task k
 
   -- the last job of a chain arrives at most the sum of its hops after the first
   forward_along : (chain : JobChain) → IsForwardChain (run_moments system run) (first ∷ groups) chain
@@ -78,7 +80,7 @@ module _ (system : System) (sound : IsSound system) (responses : ℕ → ℕ) (f
       run legal (slice_index jobs i) (slice_index jobs (suc i)) (links.linked i h))
 
   reaction_within : (chain : JobChain) → IsForwardChain (run_moments system run) (first ∷ groups) chain
-      → chain_length chain ≤ nat_abs (greatest_reaction (group_timing system responses first) (map (group_timing system responses) groups))
+      → chain_length chain ≤ bounds.reaction
   unfolding run_moments
   reaction_within chain complete =
       let k : ℕ = first_job chain - 1 in
@@ -88,7 +90,7 @@ module _ (system : System) (sound : IsSound system) (responses : ℕ → ℕ) (f
       let soon = next_soon 0 complete.some_group k in_table in
       let writes = at_last (λ (group : Group) (job : ℕ). Writes system run group.task job group.last chain.to) first groups chain.jobs
       complete.one_a_group complete.to in
-      length_within chain.from chain.to _ (from_before (arrival run (first ∷ groups) chain.jobs 0)
+      length_within chain.from chain.to _ _ are.reaction (from_before (arrival run (first ∷ groups) chain.jobs 0)
       (arrival run (first ∷ groups) chain.jobs (length groups)) chain.to
       (hops forward_hop (group_timing system responses first) (map (group_timing system responses) groups))
       _ _ last_write (last_writes _ chain.to writes) (forward_along chain complete)
@@ -97,25 +99,25 @@ module _ (system : System) (sound : IsSound system) (responses : ℕ → ℕ) (f
       (omega (arith, soon, ap (λ (n : ℕ). (job_at (jobs_of run first.task) n).arrival) next)))
 
   reduced_within : (chain : JobChain) → IsReducedChain (run_moments system run) (first ∷ groups) chain
-      → chain_length chain ≤ nat_abs (greatest_reduced (group_timing system responses first) (map (group_timing system responses) groups))
+      → chain_length chain ≤ bounds.reduced
   unfolding run_moments
   reduced_within chain complete =
       let writes = at_last (λ (group : Group) (job : ℕ). Writes system run group.task job group.last chain.to) first groups chain.jobs
       complete.links.one_a_group complete.to in
-      length_within chain.from chain.to _ (from_first (arrival run (first ∷ groups) chain.jobs 0)
+      length_within chain.from chain.to _ _ are.reduced (from_first (arrival run (first ∷ groups) chain.jobs 0)
       (arrival run (first ∷ groups) chain.jobs (length groups)) chain.to
       (hops backward_hop (group_timing system responses first) (map (group_timing system responses) groups))
       _ _ last_write (last_writes _ chain.to writes) (backward_along chain.jobs complete.links)
       chain.from (group_timing system responses first).read (first_reads (first_job chain) chain.from complete.from))
 
   age_within : (chain : JobChain) → IsAgeChain (run_moments system run) (first ∷ groups) chain
-      → chain_length chain ≤ nat_abs (greatest_age (group_timing system responses first) (map (group_timing system responses) groups))
+      → chain_length chain ≤ bounds.age
   unfolding run_moments
   age_within chain complete =
       let last : ℕ = slice_index chain.jobs (length groups) in
       let writes = at_last (λ (group : Group) (job : ℕ). Writes system run group.task (suc job) group.last chain.to) first groups chain.jobs
       complete.links.one_a_group (rw add-one at complete.to) in
-      length_within chain.from chain.to _ (to_next (arrival run (first ∷ groups) chain.jobs 0)
+      length_within chain.from chain.to _ _ are.age (to_next (arrival run (first ∷ groups) chain.jobs 0)
       (arrival run (first ∷ groups) chain.jobs (length groups))
       (job_at (jobs_of run (group_at (first ∷ groups) (length groups)).task) (suc last)).arrival chain.to
       (hops backward_hop (group_timing system responses first) (map (group_timing system responses) groups))
@@ -125,14 +127,15 @@ module _ (system : System) (sound : IsSound system) (responses : ℕ → ℕ) (f
 
 -- the bounds of a chain of timely tasks are at least the lengths of its complete chains
 pub at_least : (system : System) → IsSound system → (responses : ℕ → ℕ) (groups : List Group) → AreTimely system responses groups
-    → (run : Run) → IsLegal system run → AreAtLeast system groups (lengths_of (map (group_timing system responses) groups)) run
-at_least system sound responses [] timely run legal = record {
+    → (run : Run) → IsLegal system run → (bounds : Lengths) → AreBoundsOf (map (group_timing system responses) groups) bounds
+    → AreAtLeast system groups bounds run
+at_least system sound responses [] timely run legal bounds are = record {
   reaction = λ chain complete. absurd (omega (arith, complete.some_group));
   age = λ chain complete. absurd (omega (arith, complete.links.some_group));
   reduced = λ chain complete. absurd (omega (arith, complete.links.some_group));
 }
-at_least system sound responses (first ∷ groups) timely run legal = record {
-  reaction = reaction_within system sound responses first groups timely run legal;
-  age = age_within system sound responses first groups timely run legal;
-  reduced = reduced_within system sound responses first groups timely run legal;
+at_least system sound responses (first ∷ groups) timely run legal bounds are = record {
+  reaction = reaction_within system sound responses first groups timely run legal bounds are;
+  age = age_within system sound responses first groups timely run legal bounds are;
+  reduced = reduced_within system sound responses first groups timely run legal bounds are;
 }

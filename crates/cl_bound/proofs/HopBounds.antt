@@ -1,7 +1,7 @@
 -- Hops bound the arrivals of neighbouring jobs of chains.
-use Rattle.std.proofs.Common.{◌≡◌, ℕ, ℤ, pos, suc, ◌+◌, ◌-◌, ◌<◌, ◌≤◌, inl, inr, length, ap, subst, arith}
-use Rattle.std.specs.Prelude.{◌+ℤ◌, ◌-ℤ◌, ◌≤ℤ◌, ◌==◌}
-use Rattle.std.proofs.lemmas.Bool.{cases_lt, cond_both, eqb-true}
+use Rattle.std.proofs.Common.{◌≡◌, ℕ, pos, suc, ◌+◌, ◌-◌, ◌<◌, ◌≤◌, true, inl, inr, length, ap, subst, arith}
+use Rattle.std.specs.Prelude.{◌+ℤ◌, ◌≤ℤ◌}
+use Rattle.std.proofs.lemmas.Bool.{cases_lt}
 use Rattle.std.proofs.lemmas.Int.{ints}
 use Rattle.cl_model.specs.declared.group.Group.{Group}
 use Rattle.cl_runs.specs.TaskTiming.{System, IsSound}
@@ -10,23 +10,23 @@ use Rattle.cl_runs.specs.Run.{Run, jobs_of}
 use Rattle.cl_runs.specs.Legal.{IsLegal}
 use Rattle.cl_runs.specs.Chains.{HasWritten, IsEarliestReader, IsLatestWriter}
 use Rattle.cl_runs.specs.RunChains.{run_moments}
-use Rattle.cl_runs.proofs.LegalFacts.{arrivals_in_order}
+use Rattle.cl_runs.proofs.RunArrivals.{arrivals_rise, next_within}
 use Rattle.cl_runs.proofs.MomentFacts.{reads_below, earlier_read}
 use Rattle.cl_runs.proofs.Agreement.{arrival_kept, reads_kept, write_returns}
-use Rattle.cl_bound.specs.Hops.{group_timing, delay, hop, forward_hop, backward_hop}
+use Rattle.cl_bound.specs.Hops.{group_timing, saves, hop, forward_hop, backward_hop}
 use Rattle.cl_bound.specs.declared.group_timing.GroupTiming.{GroupTiming}
-use Rattle.cl_bound.proofs.Arrivals.{next_arrival}
+use Rattle.cl_bound.proofs.HopTable.{hop_lines}
 use Rattle.cl_bound.proofs.LaterRuns.{IsTimely, NextWrite, next_write}
-use Rattle.cl_bound.proofs.ReadsBeforeWrites.{arrival_before_write, job_before_write}
+use Rattle.cl_bound.proofs.ReadsBeforeWrites.{arrival_where_saved, arrival_before_write, job_before_write}
 
--- a hop bounds an arrival where it does so in each of its two cases
+-- a hop bounds an arrival where it does so in each line of its table
 hop_bounds : (a b distance : ℕ) (writer reader : GroupTiming) → (writer.task ≡ reader.task → a ≤ b + distance)
-    → a + reader.read + 1 ≤ b + distance + delay writer reader → pos a ≤ℤ (pos b +ℤ hop distance writer reader)
-hop_bounds a b distance writer reader one_task two_tasks =
-    cond_both (writer.task == reader.task) (pos distance) (((pos distance -ℤ pos 1) +ℤ pos (delay writer reader)) -ℤ pos reader.read)
-    (λ (z : ℤ). pos a ≤ℤ (pos b +ℤ z))
-    (λ same. let within : a ≤ b + distance = one_task (eqb-true writer.task reader.task same) in omega (arith, ints, within))
-    (λ other. omega (arith, ints, two_tasks))
+    → (saves writer reader ≡ true → a + reader.read + 1 ≤ b + distance + writer.jitter)
+    → a + reader.read + 1 ≤ b + distance + writer.write → pos a ≤ℤ (pos b +ℤ hop distance writer reader)
+hop_bounds a b distance writer reader one_task saved every_other = hop_lines (λ z. pos a ≤ℤ (pos b +ℤ z)) distance writer reader
+    (λ same. let within : a ≤ b + distance = one_task same in omega (arith, ints, within))
+    (λ saves. let within : a + reader.read + 1 ≤ b + distance + writer.jitter = saved saves in omega (arith, ints, within))
+    (λ other. omega (arith, ints, every_other))
 
 -- a job that is no later arrives no later
 no_later : (system : System) → IsSound system → (run : Run) → IsLegal system run → (x y : ℕ) → x ≡ y → y < length system.tasks → (k l : ℕ)
@@ -34,7 +34,7 @@ no_later : (system : System) → IsSound system → (run : Run) → IsLegal syst
 no_later system sound run legal x y same is k l h below =
     let along = ap (λ (i : ℕ). (job_at (jobs_of run i) l).arrival) same in
     elim (cases_lt k l) [
-      | inl earlier ↦ omega (arith, along, arrivals_in_order system sound run legal y is k l earlier (subst (λ (i : ℕ). l < length (jobs_of run i)) same below))
+      | inl earlier ↦ omega (arith, along, arrivals_rise system sound run legal y is k l earlier (subst (λ (i : ℕ). l < length (jobs_of run i)) same below))
       | inr late ↦ let one : k ≡ l = omega arith in omega (arith, along, ap (λ (n : ℕ). (job_at (jobs_of run y) n).arrival) one)
     ]
 
@@ -53,7 +53,7 @@ module _ (system : System) (sound : IsSound system) (responses : ℕ → ℕ) (x
         | inl before ↦ before
         | inr after ↦ absurd (omega (arith, next, reader.least j r reads after))
       ] in
-      let soon = next_arrival system sound run legal y.task timely_y.is_task j (subst (λ (n : ℕ). n < length (jobs_of run y.task)) next reader.reads.in_table) in
+      let soon = next_within system sound run legal y.task timely_y.is_task j (subst (λ (n : ℕ). n < length (jobs_of run y.task)) next reader.reads.in_table) in
       let same = ap (λ (n : ℕ). (job_at (jobs_of run y.task) n).arrival) next in
       hop_bounds _ _ _ (group_timing system responses x) (group_timing system responses y)
       (λ one. omega (
@@ -63,6 +63,12 @@ module _ (system : System) (sound : IsSound system) (responses : ℕ → ℕ) (x
         no_later system sound run legal x.task y.task one timely_y.is_task j m
             (job_before_write system sound run legal x.task y.task j y.first r m x.last reader.write one reads reader.writes before)
             reader.writes.in_table,
+      ))
+      (λ saved. omega (
+        arith,
+        same,
+        soon,
+        arrival_where_saved system sound responses x y timely_x timely_y run legal j m r reader.write reads reader.writes before saved,
       ))
       (omega (
         arith,
@@ -98,7 +104,7 @@ module _ (system : System) (sound : IsSound system) (responses : ℕ → ℕ) (x
       let n = next_write system sound run legal x.task (responses x.task) timely_x m x.last writer.writes.in_table writer.writes.is_runnable in
       let before = next_after n writer in
       let reads = reads_kept system run n.longer n.goes_on y.task k y.first writer.read writer.reads in
-      let soon = next_arrival system sound n.longer n.legal x.task timely_x.is_task m n.in_table in
+      let soon = next_within system sound n.longer n.legal x.task timely_x.is_task m n.in_table in
       let same_x = arrival_kept system run n.longer n.goes_on x.task m writer.writes.in_table in
       let same_y = arrival_kept system run n.longer n.goes_on y.task k writer.reads.in_table in
       hop_bounds _ _ _ (group_timing system responses x) (group_timing system responses y)
@@ -110,6 +116,13 @@ module _ (system : System) (sound : IsSound system) (responses : ℕ → ℕ) (x
         no_later system sound n.longer n.legal x.task y.task one timely_y.is_task k (suc m)
             (job_before_write system sound n.longer n.legal x.task y.task k y.first writer.read (suc m) x.last n.write one reads n.writes before)
             n.in_table,
+      ))
+      (λ saved. omega (
+        arith,
+        same_x,
+        same_y,
+        soon,
+        arrival_where_saved system sound responses x y timely_x timely_y n.longer n.legal k (suc m) writer.read n.write reads n.writes before saved,
       ))
       (omega (
         arith,

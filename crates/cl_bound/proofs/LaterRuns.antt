@@ -1,19 +1,18 @@
 -- What a longer run says of a task whose jobs always finish in time: its writes come in time, and its next job writes.
 use Rattle.std.proofs.Common.{ℕ, suc, ◌+◌, ◌<◌, ◌≤◌, length, arith}
-use Rattle.cl_runs.specs.Pattern.{greatest_gap}
+use Rattle.cl_model.specs.Timing.{greatest_distance}
 use Rattle.cl_runs.specs.TaskTiming.{System, timing_at, IsSound}
 use Rattle.cl_runs.specs.Table.{job_at}
 use Rattle.cl_runs.specs.Run.{Run, jobs_of}
 use Rattle.cl_runs.specs.Legal.{IsLegal}
 use Rattle.cl_runs.specs.Moments.{Writes}
 use Rattle.cl_runs.specs.GoesOn.{GoesOn}
-use Rattle.cl_runs.proofs.LegalFacts.{arrives_below}
+use Rattle.cl_runs.proofs.RunArrivals.{arrives_below, next_within, next_due}
 use Rattle.cl_runs.proofs.Extension.{extension}
 use Rattle.cl_runs.proofs.Agreement.{job_kept, arrival_kept, writes_kept}
 use Rattle.cl_comm.specs.Windows.{window_at}
 use Rattle.cl_comm.proofs.AccessTimes.{writes_come_in_time, finished_jobs_write}
-use Rattle.cl_resp.specs.Finishing.{AlwaysFinishesWithin}
-use Rattle.cl_bound.proofs.Arrivals.{next_arrival, next_in_table}
+use Rattle.cl_resp.specs.Promises.{AlwaysFinishesWithin}
 
 -- the jobs of a task always finish within a response that its deadline allows
 pub record IsTimely (system : System) (i response : ℕ) : Type 0 where
@@ -51,14 +50,14 @@ module _ (system : System) (sound : IsSound system) (run : Run) (legal : IsLegal
   -- the next job of a job writes in a longer run
   pub next_write : (k p : ℕ) → k < length (jobs_of run i) → p < length (timing_at system i).ranges → NextWrite system run i k p
   next_write k p job place =
-      let gap : ℕ = greatest_gap (timing_at system i).pattern 0 in
+      let gap : ℕ = greatest_distance (timing_at system i).pattern in
       let by : ℕ = (window_at (timing_at system i) p response).whi in
       let (longer, end, legal_longer, goes_on) = extension system sound run legal (run.table.ticks + (gap + (response + by))) (omega arith) in
       let same = arrival_kept system run longer goes_on i k job in
       let early = arrives_below system sound run legal i timely.is_task k job in
-      let next = next_in_table system sound longer legal_longer i timely.is_task k (job_kept system run longer goes_on i k job)
+      let next = next_due system sound longer legal_longer i timely.is_task k (job_kept system run longer goes_on i k job)
       (omega (arith, same, early, end)) in
-      let soon = next_arrival system sound longer legal_longer i timely.is_task k next in
+      let soon = next_within system sound longer legal_longer i timely.is_task k next in
       let (f, finishes, in_time) = (timely.always longer legal_longer).each (suc k) next (omega (arith, same, early, end, soon)) in
       let (write, writes) = finished_jobs_write system sound longer legal_longer i (suc k) p response f finishes in_time timely.by_deadline place
       (omega (arith, same, early, end, soon)) in

@@ -7,7 +7,7 @@ use Rattle.cl_bound.specs.declared.group_timing.GroupTiming.{GroupTiming}
 use Rattle.cl_bound.specs.declared.sums.Sums.{Sums}
 use Rattle.cl_bound.specs.Hops.{forward_hop, backward_hop, hops}
 use Rattle.cl_bound.specs.Bounds.{last_of}
-use Rattle.cl_bound.specs.Sums.{IsWithin, sums_with, sums_of}
+use Rattle.cl_bound.specs.Inner.Sums.{IsWithin, sums_with, sums_of}
 
 -- a sum with one more group
 hops_more : (hop : GroupTiming → GroupTiming → ℤ) (first : GroupTiming) (groups : List GroupTiming) (next : GroupTiming)

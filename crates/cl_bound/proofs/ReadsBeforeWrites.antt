@@ -1,7 +1,8 @@
--- Where a job of one group reads before a job of another writes, it arrived at most the delay later.
-use Rattle.std.proofs.Common.{◌≡◌, ◌≢◌, ℕ, ◌+◌, ◌<◌, ◌≤◌, true, inl, inr, nat_lt, length, sym, ap, ◌∙◌, subst, arith}
+-- Where a job of one group reads before a job of another writes, it arrived at most so much later: by the jitter where the
+-- hop saves, else by when the writer writes.
+use Rattle.std.proofs.Common.{◌≡◌, ◌≢◌, ℕ, ◌+◌, ◌<◌, ◌≤◌, true, inl, inr, not, nat_lt, length, sym, ap, ◌∙◌, subst, arith}
 use Rattle.std.specs.Prelude.{◌==◌, ◌&&◌}
-use Rattle.std.proofs.lemmas.Bool.{cases_lt, cond_both, and_parts, ltb-true, eqb-true, true≢false}
+use Rattle.std.proofs.lemmas.Bool.{cases_lt, and_parts, ltb-true, eqb-true, true≢false}
 use Rattle.cl_model.specs.declared.group.Group.{Group}
 use Rattle.cl_model.specs.declared.task.AccessKind.{AccessKind}
 use Rattle.cl_model.specs.declared.task.AccessKind.TheVariants.{Timed}
@@ -11,30 +12,30 @@ use Rattle.cl_runs.specs.Run.{Run, jobs_of}
 use Rattle.cl_runs.specs.Legal.{IsLegal}
 use Rattle.cl_runs.specs.Moments.{Reads, Writes}
 use Rattle.cl_runs.proofs.MomentFacts.{writes_once}
-use Rattle.cl_comm.specs.AccessMoments.{runs_on_reads}
+use Rattle.cl_runs.proofs.RunArrivals.{released_within}
+use Rattle.cl_comm.specs.AccessMoments.{is_timed}
 use Rattle.cl_comm.proofs.AccessTimes.{reads_come_late, readers_run, readers_write_by_their_finish, writes_come_before_the_next_read}
-use Rattle.cl_bound.specs.Hops.{group_timing, is_held_back, delay}
-use Rattle.cl_bound.proofs.Arrivals.{released_in_jitter}
-use Rattle.cl_bound.proofs.HeldBack.{finished_before}
+use Rattle.cl_bound.specs.Hops.{group_timing, saves}
+use Rattle.cl_bound.proofs.HigherFinished.{finished_before}
 use Rattle.cl_bound.proofs.LaterRuns.{IsTimely, writes_in_time}
 
-not_timed : (access : AccessKind) → runs_on_reads access ≡ true → access ≢ Timed
-not_timed access runs timed = true≢false (sym runs ∙ ap runs_on_reads timed)
+not_timed : (access : AccessKind) → not (is_timed access) ≡ true → access ≢ Timed
+not_timed access other timed = true≢false (sym other ∙ ap (λ a. not (is_timed a)) timed)
 
--- what it means that a writer holds a reader back
-record HoldsBack (writer reader : Timing) : Type 0 where
+-- what it means that a hop saves
+record IsSaving (writer reader : Timing) : Type 0 where
   same_core : writer.core ≡ reader.core
   higher : reader.priority < writer.priority
   writer_runs : writer.access ≢ Timed
   reader_runs : reader.access ≢ Timed
 
-holds_back : (writer reader : Timing)
-    → ((writer.core == reader.core) && (nat_lt reader.priority writer.priority && (runs_on_reads writer.access && runs_on_reads reader.access))) ≡ true
-    → HoldsBack writer reader
-holds_back writer reader held =
-    let (core, rest) = and_parts (writer.core == reader.core) _ held in
+is_saving : (writer reader : Timing)
+    → ((writer.core == reader.core) && (nat_lt reader.priority writer.priority && (not (is_timed writer.access) && not (is_timed reader.access)))) ≡ true
+    → IsSaving writer reader
+is_saving writer reader saved =
+    let (core, rest) = and_parts (writer.core == reader.core) _ saved in
     let (priority, run) = and_parts (nat_lt reader.priority writer.priority) _ rest in
-    let (one, other) = and_parts (runs_on_reads writer.access) (runs_on_reads reader.access) run in
+    let (one, other) = and_parts (not (is_timed writer.access)) (not (is_timed reader.access)) run in
     record {
       same_core = eqb-true writer.core reader.core core;
       higher = ltb-true reader.priority writer.priority priority;
@@ -44,16 +45,16 @@ holds_back writer reader held =
 
 module _ (system : System) (sound : IsSound system) (run : Run) (legal : IsLegal system run) (x y : ℕ)
     (is_x : x < length system.tasks) (is_y : y < length system.tasks) where
-  -- a reader that is held back reads before the release of what writes after it
-  read_before_release : HoldsBack (timing_at system x) (timing_at system y) → (k p r m q w : ℕ)
+  -- a reader that reads before the write of a higher writer reads before its release
+  read_before_release : IsSaving (timing_at system x) (timing_at system y) → (k p r m q w : ℕ)
       → Reads system run y k p r → Writes system run x m q w → r < w → r < (job_at (jobs_of run x) m).release
-  read_before_release held k p r m q w reads writes before = elim (cases_lt r (job_at (jobs_of run x) m).release) [
+  read_before_release saving k p r m q w reads writes before = elim (cases_lt r (job_at (jobs_of run x) m).release) [
     | inl early ↦ early
     | inr is_released ↦
-        let (place, starts) = readers_run system sound run legal y held.reader_runs k p r reads in
-        let (f, by, finishes) = finished_before system sound run legal x y is_x is_y held.same_core held.higher r m
-        starts.below_end starts.runs writes.in_table is_released in
-        let (other, earlier, again) = readers_write_by_their_finish system sound run legal x held.writer_runs m q f finishes writes.is_runnable in
+        let (place, starts) = readers_run system sound run legal y saving.reader_runs k p r reads in
+        let (f, by, finishes) = finished_before system sound run legal x y is_x saving.same_core saving.higher k place r m
+        starts writes.in_table is_released in
+        let (other, earlier, again) = readers_write_by_their_finish system sound run legal x saving.writer_runs m q f finishes writes.is_runnable in
         absurd (omega (arith, before, by, earlier, writes_once system run x m q other w again writes))
   ]
 
@@ -61,28 +62,33 @@ module _ (system : System) (sound : IsSound system) (responses : ℕ → ℕ) (x
     (timely_x : IsTimely system x.task (responses x.task)) (timely_y : IsTimely system y.task (responses y.task))
     (run : Run) (legal : IsLegal system run) (k m r w : ℕ)
     (reads : Reads system run y.task k y.first r) (writes : Writes system run x.task m x.last w) (before : r < w) where
-  -- a job that reads before a write arrived at most the delay after the writer
-  pub arrival_before_write : (job_at (jobs_of run y.task) k).arrival + (group_timing system responses y).read + 1
-      ≤ (job_at (jobs_of run x.task) m).arrival + delay (group_timing system responses x) (group_timing system responses y)
+  reads_late : (job_at (jobs_of run y.task) k).arrival + (group_timing system responses y).read ≤ r
   unfolding group_timing
-  arrival_before_write =
-      let early = reads_come_late system sound run legal y.task k y.first (responses y.task) r reads in
-      cond_both (is_held_back (group_timing system responses x) (group_timing system responses y))
-      (group_timing system responses x).jitter (group_timing system responses x).write
-      (λ (d : ℕ). (job_at (jobs_of run y.task) k).arrival + (group_timing system responses y).read + 1 ≤ (job_at (jobs_of run x.task) m).arrival + d)
-      (λ held. omega (
-        arith,
-        early,
-        read_before_release system sound run legal x.task y.task timely_x.is_task timely_y.is_task
-            (holds_back (timing_at system x.task) (timing_at system y.task) held) k y.first r m x.last w reads writes before,
-        released_in_jitter system sound run legal x.task timely_x.is_task m writes.in_table,
-      ))
-      (λ free. omega (
-        arith,
-        early,
-        before,
-        writes_in_time system sound run legal x.task (responses x.task) timely_x m x.last w writes,
-      ))
+  reads_late = reads_come_late system sound run legal y.task k y.first (responses y.task) r reads
+
+  -- a job that reads before a write arrived at most the jitter after the writer, where the hop saves
+  pub arrival_where_saved : saves (group_timing system responses x) (group_timing system responses y) ≡ true
+      → (job_at (jobs_of run y.task) k).arrival + (group_timing system responses y).read + 1
+      ≤ (job_at (jobs_of run x.task) m).arrival + (group_timing system responses x).jitter
+  unfolding group_timing
+  arrival_where_saved saved = omega (
+    arith,
+    reads_late,
+    read_before_release system sound run legal x.task y.task timely_x.is_task timely_y.is_task
+        (is_saving (timing_at system x.task) (timing_at system y.task) saved) k y.first r m x.last w reads writes before,
+    released_within system sound run legal x.task timely_x.is_task m writes.in_table,
+  )
+
+  -- and at most as long after it as its write comes
+  pub arrival_before_write : (job_at (jobs_of run y.task) k).arrival + (group_timing system responses y).read + 1
+      ≤ (job_at (jobs_of run x.task) m).arrival + (group_timing system responses x).write
+  unfolding group_timing
+  arrival_before_write = omega (
+    arith,
+    reads_late,
+    before,
+    writes_in_time system sound run legal x.task (responses x.task) timely_x m x.last w writes,
+  )
 
 -- of one task, a job that reads before another writes is no later job
 pub job_before_write : (system : System) → IsSound system → (run : Run) → IsLegal system run → (x y k p r m q w : ℕ) → x ≡ y

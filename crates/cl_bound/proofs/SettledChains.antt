@@ -1,40 +1,51 @@
--- Settled chains: all of their tasks are timely, so their bounds are safe, positive and limited.
-use Rattle.std.proofs.Common.{◌≡◌, ℕ, pos, ◌*◌, ◌<◌, ◌≤◌, List, [], ◌∷◌, length, map, arith}
-use Rattle.std.specs.Prelude.{◌+ℤ◌, ◌≤ℤ◌, All}
+-- Settled chains: all of their tasks are timely, so their bounds are their sums, safe, positive and limited.
+use Rattle.std.proofs.Common.{◌≡◌, ℕ, pos, ◌*◌, ◌<◌, ◌≤◌, List, [], ◌∷◌, length, ap, arith}
+use Rattle.std.specs.Prelude.{◌+ℤ◌, ◌≤ℤ◌, nat_abs, All}
 use Rattle.std.proofs.Math.ListN.{length-map}
-use Rattle.std.proofs.lemmas.List.Elements.{All-map, All-head, All-tail}
+use Rattle.std.proofs.lemmas.List.Elements.{All-map}
 use Rattle.cl_model.specs.declared.group.Group.{Group}
-use Rattle.cl_model.specs.Groups.{no_group}
+use Rattle.cl_model.specs.Groups.{no_group, group_at}
 use Rattle.cl_runs.specs.TaskTiming.{System, IsSound}
 use Rattle.cl_runs.specs.Table.{job_at}
 use Rattle.cl_runs.specs.Run.{Run, jobs_of}
 use Rattle.cl_runs.specs.Legal.{IsLegal}
-use Rattle.cl_runs.specs.Chains.{group_at, HasWritten, IsEarliestReader, IsLatestWriter}
+use Rattle.cl_runs.specs.Chains.{HasWritten, IsEarliestReader, IsLatestWriter}
 use Rattle.cl_runs.specs.RunChains.{run_moments}
-use Rattle.cl_resp.specs.Finishing.{IsSettled}
+use Rattle.cl_resp.specs.Response.{IsSettled}
 use Rattle.cl_resp.proofs.BusyWindowTask.{settled_finish}
+use Rattle.cl_resp.proofs.SettledTasks.{response_in_deadline}
 use Rattle.cl_bound.specs.Answers.{answers_of, answer_at, response_in}
 use Rattle.cl_bound.specs.Hops.{forward_hop, backward_hop}
 use Rattle.cl_bound.specs.declared.group_timing.GroupTiming.{GroupTiming}
-use Rattle.cl_bound.specs.Bounds.{bounds_of, greatest_reaction, greatest_age, greatest_reduced}
-use Rattle.cl_bound.specs.Safe.{IsSettledChain, AreSafe}
-use Rattle.cl_bound.specs.SettledTiming.{settled_timing, AreWithin}
-use Rattle.cl_bound.proofs.Settled.{settled_task, response_between}
-use Rattle.cl_bound.proofs.Windows.{IsProper, group_proper}
+use Rattle.cl_bound.specs.Bounds.{Lengths, AreBoundsOf, settled_timing, settled_timings, bounds_of}
+use Rattle.cl_bound.specs.Promises.{AreSafe}
+use Rattle.cl_bound.specs.SettledChains.{IsSettledChain, AreWithin}
+use Rattle.cl_bound.proofs.SettledTasks.{settled_task}
+use Rattle.cl_bound.proofs.GroupWindows.{IsProper, group_proper}
 use Rattle.cl_bound.proofs.LaterRuns.{IsTimely}
 use Rattle.cl_bound.proofs.HopBounds.{forward_arrival, backward_arrival}
 use Rattle.cl_bound.proofs.ChainBounds.{AreTimely, at_least}
-use Rattle.cl_bound.proofs.SumsOfHops.{IsAtMost, reaction_positive, age_positive, reduced_positive, reaction_at_most, age_at_most, reduced_at_most}
+use Rattle.cl_bound.proofs.SumsOfHops.{IsAtMost, reaction_absolute, age_absolute, reduced_absolute, reaction_some, age_some, reduced_some, reaction_at_most, age_at_most, reduced_at_most}
 
 -- the response in the answer for a task of a system
 abbrev response_at : System → ℕ → ℕ
 response_at system i = response_in (answer_at (answers_of system) i)
 
+same_lengths : (r a d reaction age reduced : ℕ) → r ≡ reaction → a ≡ age → d ≡ reduced
+    → ◌≡◌ {A = Lengths} (record { reaction = r; age = a; reduced = d }) (record { reaction = reaction; age = age; reduced = reduced })
+same_lengths r a d reaction age reduced e f g = cc
+
+-- there are no other bounds of a chain than those that the function gives
+pub only_bounds : (system : System) (groups : List Group) (bounds : Lengths) → AreBoundsOf (settled_timings system groups) bounds → bounds ≡ bounds_of system groups
+unfolding bounds_of
+only_bounds system groups bounds are =
+    same_lengths bounds.reaction bounds.age bounds.reduced _ _ _ (ap nat_abs are.reaction) (ap nat_abs are.age) (ap nat_abs are.reduced)
+
 -- a settled task is timely
 timely_task : (system : System) → IsSound system → (i response : ℕ) → IsSettled system i response → IsTimely system i response
 timely_task system sound i response settled = record {
   is_task = settled.is_task;
-  by_deadline = (response_between system sound i response settled).1;
+  by_deadline = response_in_deadline system i response settled sound;
   always = settled_finish system sound i response settled;
 }
 
@@ -46,15 +57,23 @@ module _ (system : System) (sound : IsSound system) (groups : List Group) (chain
   chain_timely i h = timely_task system sound (group_at groups i).task (response_at system (group_at groups i).task) (settled_at i h)
 
   -- the timings of its groups are proper
-  pub chain_proper : All IsProper (map (settled_timing system) groups)
+  pub chain_proper : All IsProper (settled_timings system groups)
   chain_proper = All-map IsProper (settled_timing system) groups (λ i d h.
       let is = chain.groups_of i d h in
       group_proper system sound (response_at system) _ is (settled_task system _ is.is_task (chain.settled i d h)))
 
-  -- the bounds of a settled chain are safe
-  pub settled_safe : AreSafe system groups (bounds_of system groups)
+  -- the bounds of a settled chain are its sums
+  pub settled_sums : AreBoundsOf (settled_timings system groups) (bounds_of system groups)
   unfolding bounds_of
-  settled_safe run legal = at_least system sound (response_at system) groups chain_timely run legal
+  settled_sums = record {
+    reaction = reaction_absolute (settled_timings system groups) chain_proper;
+    age = age_absolute (settled_timings system groups) chain_proper;
+    reduced = reduced_absolute (settled_timings system groups) chain_proper;
+  }
+
+  -- and are safe
+  pub settled_safe : AreSafe system groups (bounds_of system groups)
+  settled_safe run legal = at_least system sound (response_at system) groups chain_timely run legal (bounds_of system groups) settled_sums
 
 module _ (system : System) (sound : IsSound system) (x y : Group) (chain : IsSettledChain system (x ∷ y ∷ [])) (run : Run) (legal : IsLegal system run)
     (m k : ℕ) where
@@ -72,50 +91,48 @@ module _ (system : System) (sound : IsSound system) (x y : Group) (chain : IsSet
       ≤ℤ (pos (job_at (jobs_of run x.task) m).arrival +ℤ backward_hop (settled_timing system x) (settled_timing system y))
   settled_backward = backward_arrival system sound (response_at system) x y (timely 0 (omega arith)) (timely 1 (omega arith)) run legal m k
 
-module _ (system : System) (sound : IsSound system) (first : Group) (groups : List Group) (chain : IsSettledChain system (first ∷ groups)) where
-  proper_first : IsProper (settled_timing system first)
-  proper_first = All-head IsProper _ _ (chain_proper system sound (first ∷ groups) chain)
+module _ (system : System) (sound : IsSound system) (groups : List Group) (chain : IsSettledChain system groups) where
+  some_timing : 0 < length groups → 0 < length (settled_timings system groups)
+  some_timing some = omega (arith, some, length-map groups (settled_timing system))
 
-  proper_rest : All IsProper (map (settled_timing system) groups)
-  proper_rest = All-tail IsProper (settled_timing system first) _ (chain_proper system sound (first ∷ groups) chain)
-
-  -- the bounds of a settled chain are its sums
-  pub reaction_is : (pos (bounds_of system (first ∷ groups)).reaction ≡ greatest_reaction (settled_timing system first) (map (settled_timing system) groups))
-      × (1 ≤ (bounds_of system (first ∷ groups)).reaction)
+  -- each bound of a chain with some group is positive
+  pub reaction_positive : 0 < length groups → 1 ≤ (bounds_of system groups).reaction
   unfolding bounds_of
-  reaction_is = reaction_positive (settled_timing system first) (map (settled_timing system) groups) proper_first proper_rest
+  reaction_positive some = reaction_some (settled_timings system groups) (chain_proper system sound groups chain) (some_timing some)
 
-  pub age_is : (pos (bounds_of system (first ∷ groups)).age ≡ greatest_age (settled_timing system first) (map (settled_timing system) groups))
-      × (1 ≤ (bounds_of system (first ∷ groups)).age)
+  pub age_positive : 0 < length groups → 1 ≤ (bounds_of system groups).age
   unfolding bounds_of
-  age_is = age_positive (settled_timing system first) (map (settled_timing system) groups) proper_first proper_rest
+  age_positive some = age_some (settled_timings system groups) (chain_proper system sound groups chain) (some_timing some)
 
-  pub reduced_is : (pos (bounds_of system (first ∷ groups)).reduced ≡ greatest_reduced (settled_timing system first) (map (settled_timing system) groups))
-      × (1 ≤ (bounds_of system (first ∷ groups)).reduced)
+  pub reduced_positive : 0 < length groups → 1 ≤ (bounds_of system groups).reduced
   unfolding bounds_of
-  reduced_is = reduced_positive (settled_timing system first) (map (settled_timing system) groups) proper_first proper_rest
+  reduced_positive some = reduced_some (settled_timings system groups) (chain_proper system sound groups chain) (some_timing some)
 
 -- where the distances of its groups are at most so many ticks, so is all that its sums are made of
-pub chain_at_most : (system : System) → IsSound system → (groups : List Group) → IsSettledChain system groups → (most : ℕ) → AreWithin system most groups
-    → All (IsAtMost most) (map (settled_timing system) groups)
+chain_at_most : (system : System) → IsSound system → (groups : List Group) → IsSettledChain system groups → (most : ℕ) → AreWithin system most groups
+    → All (IsAtMost most) (settled_timings system groups)
 chain_at_most system sound groups chain most within =
-    let near : All (λ (timing : GroupTiming). timing.distance ≤ most) (map (settled_timing system) groups)
+    let near : All (λ (timing : GroupTiming). timing.distance ≤ most) (settled_timings system groups)
     = All-map (λ (timing : GroupTiming). timing.distance ≤ most) (settled_timing system) groups within in
     λ i d h. record { proper = chain_proper system sound groups chain i d h; distance = near i d h }
 
 -- and its bounds are at most twice that a group
+pub record AreLimited (system : System) (groups : List Group) (most : ℕ) : Type 0 where
+  pub reaction : (bounds_of system groups).reaction ≤ 2 * length groups * most
+  pub age : (bounds_of system groups).age ≤ 2 * length groups * most
+  pub reduced : (bounds_of system groups).reduced ≤ 2 * length groups * most
+
 pub limited : (system : System) → IsSound system → (groups : List Group) → IsSettledChain system groups → (most : ℕ) → AreWithin system most groups
-    → ((bounds_of system groups).reaction ≤ 2 * length groups * most)
-    × ((bounds_of system groups).age ≤ 2 * length groups * most)
-    × ((bounds_of system groups).reduced ≤ 2 * length groups * most)
+    → AreLimited system groups most
 unfolding bounds_of
-limited system sound [] chain most within = (omega arith, omega arith, omega arith)
+limited system sound [] chain most within = record { reaction = omega arith; age = omega arith; reduced = omega arith }
 limited system sound (first ∷ groups) chain most within =
     let all = chain_at_most system sound (first ∷ groups) chain most within in
-    let bounded = All-head (IsAtMost most) _ _ all in
-    let rest = All-tail (IsAtMost most) (settled_timing system first) _ all in
-    let proper = proper_rest system sound first groups chain in (
-      rw (length-map groups (settled_timing system)) at (reaction_at_most most (settled_timing system first) (map (settled_timing system) groups) bounded rest proper),
-      rw (length-map groups (settled_timing system)) at (age_at_most most (settled_timing system first) (map (settled_timing system) groups) bounded rest proper),
-      rw (length-map groups (settled_timing system)) at (reduced_at_most most (settled_timing system first) (map (settled_timing system) groups) bounded rest proper),
-    )
+    let first_timing = settled_timing system first in
+    let timings = settled_timings system groups in
+    let same = length-map groups (settled_timing system) in
+    record {
+      reaction = rw same at (reaction_at_most most first_timing timings all);
+      age = rw same at (age_at_most most first_timing timings all);
+      reduced = rw same at (reduced_at_most most first_timing timings all);
+    }

@@ -1,13 +1,13 @@
 -- How great and how small sums of hops are: the bounds of a chain are positive, and bounded by its longest distance or write.
 use Rattle.std.proofs.Common.{◌≡◌, ℕ, ℤ, pos, negsuc, suc, ◌+◌, ◌*◌, ◌<◌, ◌≤◌, List, [], ◌∷◌, length, refl, arith}
-use Rattle.std.specs.Prelude.{◌+ℤ◌, ◌-ℤ◌, ◌≤ℤ◌, nat_abs, All, ◌==◌}
-use Rattle.std.proofs.lemmas.Bool.{cond_both}
+use Rattle.std.specs.Prelude.{◌+ℤ◌, ◌≤ℤ◌, nat_abs, All}
 use Rattle.std.proofs.lemmas.Int.{ints}
-use Rattle.std.proofs.lemmas.List.Elements.{All-head, All-tail}
-use Rattle.cl_bound.specs.Hops.{is_held_back, delay, hop, forward_hop, backward_hop, hops}
+use Rattle.std.proofs.lemmas.List.Elements.{All-head, All-tail, All-weaker}
+use Rattle.cl_bound.specs.Hops.{hop, forward_hop, backward_hop, hops}
 use Rattle.cl_bound.specs.declared.group_timing.GroupTiming.{GroupTiming}
 use Rattle.cl_bound.specs.Bounds.{last_of, greatest_reaction, greatest_age, greatest_reduced}
-use Rattle.cl_bound.proofs.Windows.{IsProper}
+use Rattle.cl_bound.proofs.GroupWindows.{IsProper}
+use Rattle.cl_bound.proofs.HopTable.{hop_lines}
 
 -- what holds of all groups of a chain holds of the last
 last_holds : (P : GroupTiming → Type 0) (first : GroupTiming) (groups : List GroupTiming) → P first → All P groups → P (last_of first groups)
@@ -16,10 +16,12 @@ last_holds P first (next ∷ groups) holds all = last_holds P next groups (All-h
 
 -- forward hops don't go back
 forward_step : (writer reader : GroupTiming) → IsProper reader → pos 0 ≤ℤ forward_hop writer reader
-forward_step writer reader proper = cond_both (writer.task == reader.task)
-    (pos reader.distance) (((pos reader.distance -ℤ pos 1) +ℤ pos (delay writer reader)) -ℤ pos reader.read) (λ (z : ℤ). pos 0 ≤ℤ z)
+forward_step writer reader proper =
+    let next : reader.read < reader.distance = proper.read_before_next in
+    hop_lines (λ z. pos 0 ≤ℤ z) reader.distance writer reader
     (λ same. omega (arith, ints))
-    (λ other. let next : reader.read < reader.distance = proper.read_before_next in omega (arith, ints, next))
+    (λ saved. omega (arith, ints, next))
+    (λ other. omega (arith, ints, next))
 
 forward_sum : (first : GroupTiming) (groups : List GroupTiming) → All IsProper groups → pos 0 ≤ℤ hops forward_hop first groups
 forward_sum first [] all = omega (arith, ints)
@@ -34,10 +36,9 @@ forward_sum first (next ∷ groups) all = omega (
 backward_step : (writer reader : GroupTiming) → IsProper writer → pos (suc writer.read) ≤ℤ (backward_hop writer reader +ℤ pos (suc reader.read))
 backward_step writer reader proper =
     let next : writer.read < writer.distance = proper.read_before_next in
-    cond_both (writer.task == reader.task)
-    (pos writer.distance) (((pos writer.distance -ℤ pos 1) +ℤ pos (delay writer reader)) -ℤ pos reader.read)
-    (λ (z : ℤ). pos (suc writer.read) ≤ℤ (z +ℤ pos (suc reader.read)))
+    hop_lines (λ z. pos (suc writer.read) ≤ℤ (z +ℤ pos (suc reader.read))) writer.distance writer reader
     (λ same. omega (arith, ints, next))
+    (λ saved. omega (arith, ints, next))
     (λ other. omega (arith, ints, next))
 
 backward_sum : (first : GroupTiming) (groups : List GroupTiming) → IsProper first → All IsProper groups
@@ -50,32 +51,57 @@ backward_sum first (next ∷ groups) proper all = omega (
   backward_sum next groups (All-head IsProper next groups all) (All-tail IsProper next groups all),
 )
 
--- a positive number is its absolute value
-is_absolute : (z : ℤ) → pos 1 ≤ℤ z → (pos (nat_abs z) ≡ z) × (1 ≤ nat_abs z)
-is_absolute (pos n) h = (refl, omega (arith, ints, h))
+-- ---- the sums of a chain are positive
+
+reaction_positive : (groups : List GroupTiming) → All IsProper groups → 0 < length groups → pos 1 ≤ℤ greatest_reaction groups
+reaction_positive [] all some = absurd (omega (arith, some))
+reaction_positive (first ∷ groups) all some =
+    let proper : IsProper first = All-head IsProper first groups all in
+    let next : first.read < first.distance = proper.read_before_next in
+    omega (arith, ints, next, forward_sum first groups (All-tail IsProper first groups all))
+
+reduced_positive : (groups : List GroupTiming) → All IsProper groups → 0 < length groups → pos 1 ≤ℤ greatest_reduced groups
+reduced_positive [] all some = absurd (omega (arith, some))
+reduced_positive (first ∷ groups) all some =
+    omega (arith, ints, backward_sum first groups (All-head IsProper first groups all) (All-tail IsProper first groups all))
+
+age_positive : (groups : List GroupTiming) → All IsProper groups → 0 < length groups → pos 1 ≤ℤ greatest_age groups
+age_positive [] all some = absurd (omega (arith, some))
+age_positive (first ∷ groups) all some =
+    omega (arith, ints, backward_sum first groups (All-head IsProper first groups all) (All-tail IsProper first groups all))
+
+-- a number that isn't negative is its absolute value
+is_absolute : (z : ℤ) → pos 0 ≤ℤ z → pos (nat_abs z) ≡ z
+is_absolute (pos n) h = refl
 is_absolute (negsuc n) h = absurd (omega (arith, ints, h))
 
-module _ (first : GroupTiming) (groups : List GroupTiming) (proper : IsProper first) (all : All IsProper groups) where
-  -- each of the sums of a chain is positive
-  reaction_some : pos 1 ≤ℤ greatest_reaction first groups
-  reaction_some =
-      let next : first.read < first.distance = proper.read_before_next in
-      omega (arith, ints, next, forward_sum first groups all)
+-- a sum of a chain is its absolute value, where it is positive for chains with some group and 0 for one with none
+sum_absolute : (sum : List GroupTiming → ℤ) → sum [] ≡ pos 0 → ((groups : List GroupTiming) → All IsProper groups → 0 < length groups → pos 1 ≤ℤ sum groups)
+    → (groups : List GroupTiming) → All IsProper groups → pos (nat_abs (sum groups)) ≡ sum groups
+sum_absolute sum none positive [] all = is_absolute (sum []) (omega (arith, ints, none))
+sum_absolute sum none positive (first ∷ groups) all = is_absolute (sum (first ∷ groups)) (omega (arith, ints, positive (first ∷ groups) all (omega arith)))
 
-  reduced_some : pos 1 ≤ℤ greatest_reduced first groups
-  reduced_some = omega (arith, ints, backward_sum first groups proper all)
+module _ (groups : List GroupTiming) (all : All IsProper groups) where
+  pub reaction_absolute : pos (nat_abs (greatest_reaction groups)) ≡ greatest_reaction groups
+  reaction_absolute = sum_absolute greatest_reaction refl reaction_positive groups all
 
-  age_some : pos 1 ≤ℤ greatest_age first groups
-  age_some = omega (arith, ints, backward_sum first groups proper all)
+  pub age_absolute : pos (nat_abs (greatest_age groups)) ≡ greatest_age groups
+  age_absolute = sum_absolute greatest_age refl age_positive groups all
 
-  pub reaction_positive : (pos (nat_abs (greatest_reaction first groups)) ≡ greatest_reaction first groups) × (1 ≤ nat_abs (greatest_reaction first groups))
-  reaction_positive = is_absolute (greatest_reaction first groups) reaction_some
+  pub reduced_absolute : pos (nat_abs (greatest_reduced groups)) ≡ greatest_reduced groups
+  reduced_absolute = sum_absolute greatest_reduced refl reduced_positive groups all
 
-  pub reduced_positive : (pos (nat_abs (greatest_reduced first groups)) ≡ greatest_reduced first groups) × (1 ≤ nat_abs (greatest_reduced first groups))
-  reduced_positive = is_absolute (greatest_reduced first groups) reduced_some
+  module _ (some : 0 < length groups) where
+    pub reaction_some : 1 ≤ nat_abs (greatest_reaction groups)
+    reaction_some = omega (arith, ints, reaction_absolute, reaction_positive groups all some)
 
-  pub age_positive : (pos (nat_abs (greatest_age first groups)) ≡ greatest_age first groups) × (1 ≤ nat_abs (greatest_age first groups))
-  age_positive = is_absolute (greatest_age first groups) age_some
+    pub age_some : 1 ≤ nat_abs (greatest_age groups)
+    age_some = omega (arith, ints, age_absolute, age_positive groups all some)
+
+    pub reduced_some : 1 ≤ nat_abs (greatest_reduced groups)
+    reduced_some = omega (arith, ints, reduced_absolute, reduced_positive groups all some)
+
+-- ---- and bounded
 
 -- a proper group whose distance is at most so many ticks
 pub record IsAtMost (most : ℕ) (group : GroupTiming) : Type 0 where
@@ -83,28 +109,25 @@ pub record IsAtMost (most : ℕ) (group : GroupTiming) : Type 0 where
   pub distance : group.distance ≤ most
 
 module _ (most : ℕ) where
-  delay_within : (writer reader : GroupTiming) → IsAtMost most writer → delay writer reader ≤ most
-  delay_within writer reader bounded =
-      let proper : IsProper writer = bounded.proper in
-      cond_both (is_held_back writer reader) (writer.jitter) writer.write (λ (d : ℕ). d ≤ most)
-      (λ held. omega (arith, bounded.distance, proper.jitter_before_next))
-      (λ free. omega (arith, bounded.distance, proper.write_by_next))
-
   -- a hop is at most twice that far
   hop_within : (distance : ℕ) (writer reader : GroupTiming) → distance ≤ most → IsAtMost most writer → hop distance writer reader ≤ℤ pos (2 * most)
-  hop_within distance writer reader near bounded = cond_both (writer.task == reader.task)
-      (pos distance) (((pos distance -ℤ pos 1) +ℤ pos (delay writer reader)) -ℤ pos reader.read) (λ (z : ℤ). z ≤ℤ pos (2 * most))
+  hop_within distance writer reader near bounded =
+      let far : writer.distance ≤ most = bounded.distance in
+      let jitter : writer.jitter < writer.distance = bounded.proper.jitter_before_next in
+      let write : writer.write ≤ writer.distance = bounded.proper.write_by_next in
+      hop_lines (λ z. z ≤ℤ pos (2 * most)) distance writer reader
       (λ same. omega (arith, ints, near))
-      (λ other. omega (arith, ints, near, delay_within writer reader bounded))
+      (λ saved. omega (arith, ints, near, far, jitter))
+      (λ other. omega (arith, ints, near, far, write))
 
   -- and goes back by at most so far
   hop_back : (distance : ℕ) (writer reader : GroupTiming) → 1 ≤ distance → IsAtMost most reader → pos 0 ≤ℤ (hop distance writer reader +ℤ pos most)
   hop_back distance writer reader some bounded =
       let next : reader.read < reader.distance = bounded.proper.read_before_next in
       let near : reader.distance ≤ most = bounded.distance in
-      cond_both (writer.task == reader.task)
-      (pos distance) (((pos distance -ℤ pos 1) +ℤ pos (delay writer reader)) -ℤ pos reader.read) (λ (z : ℤ). pos 0 ≤ℤ (z +ℤ pos most))
+      hop_lines (λ z. pos 0 ≤ℤ (z +ℤ pos most)) distance writer reader
       (λ same. omega (arith, ints))
+      (λ saved. omega (arith, ints, some, next, near))
       (λ other. omega (arith, ints, some, next, near))
 
   -- hops that go at most so far, forward and back
@@ -148,23 +171,31 @@ absolute_within z n is within = omega (arith, ints, is, within)
 twice_each : (n most : ℕ) → 2 * suc n * most ≡ 2 * most + n * (2 * most)
 twice_each n most = omega arith
 
-module _ (most : ℕ) (first : GroupTiming) (groups : List GroupTiming) (bounded : IsAtMost most first) (all : All (IsAtMost most) groups)
-    (proper : All IsProper groups) where
+module _ (most : ℕ) (first : GroupTiming) (groups : List GroupTiming) (all : All (IsAtMost most) (first ∷ groups)) where
+  bounded : IsAtMost most first
+  bounded = All-head (IsAtMost most) first groups all
+
+  others : All (IsAtMost most) groups
+  others = All-tail (IsAtMost most) first groups all
+
+  proper : All IsProper (first ∷ groups)
+  proper = All-weaker (IsAtMost most) IsProper (λ group at_most. at_most.proper) (first ∷ groups) all
+
   last_at_most : IsAtMost most (last_of first groups)
-  last_at_most = last_holds (IsAtMost most) first groups bounded all
+  last_at_most = last_holds (IsAtMost most) first groups bounded others
 
   last_writes_within : (last_of first groups).write ≤ most
   last_writes_within = omega (arith, last_at_most.distance, last_at_most.proper.write_by_next)
 
   -- the bounds of a chain are at most twice so far a group
-  pub reaction_at_most : nat_abs (greatest_reaction first groups) ≤ 2 * suc (length groups) * most
-  reaction_at_most = absolute_within (greatest_reaction first groups) _ (reaction_positive first groups bounded.proper proper).0
-      (omega (arith, ints, twice_each (length groups) most, bounded.distance, last_writes_within, (forward_within most first groups bounded all).0))
+  pub reaction_at_most : nat_abs (greatest_reaction (first ∷ groups)) ≤ 2 * suc (length groups) * most
+  reaction_at_most = absolute_within (greatest_reaction (first ∷ groups)) _ (reaction_absolute (first ∷ groups) proper)
+      (omega (arith, ints, twice_each (length groups) most, bounded.distance, last_writes_within, (forward_within most first groups bounded others).0))
 
-  pub age_at_most : nat_abs (greatest_age first groups) ≤ 2 * suc (length groups) * most
-  age_at_most = absolute_within (greatest_age first groups) _ (age_positive first groups bounded.proper proper).0
-      (omega (arith, ints, twice_each (length groups) most, last_at_most.distance, last_writes_within, (backward_within most first groups bounded all).0))
+  pub age_at_most : nat_abs (greatest_age (first ∷ groups)) ≤ 2 * suc (length groups) * most
+  age_at_most = absolute_within (greatest_age (first ∷ groups)) _ (age_absolute (first ∷ groups) proper)
+      (omega (arith, ints, twice_each (length groups) most, last_at_most.distance, last_writes_within, (backward_within most first groups bounded others).0))
 
-  pub reduced_at_most : nat_abs (greatest_reduced first groups) ≤ 2 * suc (length groups) * most
-  reduced_at_most = absolute_within (greatest_reduced first groups) _ (reduced_positive first groups bounded.proper proper).0
-      (omega (arith, ints, twice_each (length groups) most, last_writes_within, (backward_within most first groups bounded all).0))
+  pub reduced_at_most : nat_abs (greatest_reduced (first ∷ groups)) ≤ 2 * suc (length groups) * most
+  reduced_at_most = absolute_within (greatest_reduced (first ∷ groups)) _ (reduced_absolute (first ∷ groups) proper)
+      (omega (arith, ints, twice_each (length groups) most, last_writes_within, (backward_within most first groups bounded others).0))

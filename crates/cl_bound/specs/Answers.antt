@@ -1,5 +1,6 @@
 -- The answers to the questions of the tasks of a system.
-use Rattle.std.specs.Prelude.{ℕ, Bool, true, false, List, map, slice_index_or, Option, Some, None}
+use Rattle.std.specs.Prelude.{◌≡◌, ℕ, Bool, true, false, List, map, slice_index_or, All, Option, Some, None}
+use Rattle.cl_model.specs.declared.group.Group.{Group}
 use Rattle.cl_runs.specs.TaskTiming.{Timing, System}
 use Rattle.cl_resp.specs.Question.{question_of}
 use Rattle.cl_resp.specs.Response.{Response, response_to}
@@ -30,5 +31,9 @@ response_in (Settled response) = response.response
 response_in Late = 0
 
 -- the answer for the task of a number
-abbrev pub answer_at : List TaskAnswer → ℕ → TaskAnswer
-answer_at answers i = slice_index_or answers i Late
+abbrev pub answer_at : List TaskAnswer → (task : ℕ) → TaskAnswer
+answer_at answers task = slice_index_or answers task Late
+
+-- none of the tasks of these groups is late
+abbrev pub NoneIsLate : (answers : List TaskAnswer) → (groups : List Group) → Type 0
+NoneIsLate answers groups = All (λ (group : Group). is_late (answer_at answers group.task) ≡ false) groups

@@ -1,15 +1,14 @@
 -- Hops: how much later the job of a group arrives than that of the group before it. Source: this project's profile.
-use Rattle.std.specs.Prelude.{ℕ, ℤ, pos, ◌+ℤ◌, ◌-ℤ◌, Bool, ◌==◌, ◌&&◌, nat_lt, if◌then◌else◌, List, [], ◌∷◌}
+use Rattle.std.specs.Prelude.{ℕ, ℤ, pos, ◌+ℤ◌, ◌-ℤ◌, Bool, ◌==◌, ◌&&◌, not, nat_lt, if◌then◌else◌, List, [], ◌∷◌}
 use Rattle.cl_model.specs.declared.group.Group.{Group}
-use Rattle.cl_model.specs.Timing.{greatest_jitter}
-use Rattle.cl_runs.specs.Pattern.{greatest_gap}
+use Rattle.cl_model.specs.Timing.{greatest_distance, greatest_jitter}
 use Rattle.cl_runs.specs.TaskTiming.{System, timing_at}
-use Rattle.cl_comm.specs.AccessMoments.{runs_on_reads}
+use Rattle.cl_comm.specs.AccessMoments.{is_timed}
 use Rattle.cl_comm.specs.Windows.{window_at}
 use Rattle.cl_bound.specs.declared.group_timing.GroupTiming.{GroupTiming}
 
--- what the bounds know of a group, where these are the responses of the tasks: what decides whether it runs, its
--- greatest distance between arrivals, and when it reads and writes: it reads at its first runnable and writes at its last
+-- what the bounds know of a group, where these are the responses of the tasks: where its task runs and how it accesses
+-- labels, how its jobs arrive, and when it reads and writes: it reads at its first runnable and writes at its last
 unfoldable pub group_timing : System → (responses : ℕ → ℕ) → Group → GroupTiming
 group_timing system responses group =
     let timing = timing_at system group.task in
@@ -17,30 +16,26 @@ group_timing system responses group =
       task = group.task;
       core = timing.core;
       priority = timing.priority;
-      runs_on_reads = runs_on_reads timing.access;
+      is_timed = is_timed timing.access;
       jitter = greatest_jitter timing.pattern;
-      distance = greatest_gap timing.pattern 0;
+      distance = greatest_distance timing.pattern;
       read = (window_at timing group.first (responses group.task)).rlo;
       write = (window_at timing group.last (responses group.task)).whi;
     }
 
--- whether a reader can't read while a job of the writer is pending: the writer has a higher priority on its core, and
--- both run when they read, so neither is timed
-abbrev pub is_held_back : (writer reader : GroupTiming) → Bool
-is_held_back writer reader =
-    (writer.core == reader.core) && (nat_lt reader.priority writer.priority && (writer.runs_on_reads && reader.runs_on_reads))
+-- whether a hop saves the writer's time: the writer has a higher priority on the reader's core, and neither is timed, so
+-- that the reader can't read while a job of the writer is pending
+abbrev pub saves : (writer reader : GroupTiming) → Bool
+saves writer reader =
+    (writer.core == reader.core) && (nat_lt reader.priority writer.priority && (not writer.is_timed && not reader.is_timed))
 
--- how long after the arrival of its job a writer keeps a reader from reading what it writes: until its release where
--- the reader is held back, else until its write
-abbrev pub delay : (writer reader : GroupTiming) → ℕ
-delay writer reader = if is_held_back writer reader then writer.jitter else writer.write
-
--- a hop from a writer to a reader, over one distance between arrivals of the one that the direction says
+-- a hop from a writer to a reader, over the distance between arrivals of the one that the direction says: where both are
+-- of one task, where the hop saves, and every other
 abbrev pub hop : (distance : ℕ) → (writer reader : GroupTiming) → ℤ
 hop distance writer reader =
-    if writer.task == reader.task
-    then pos distance
-    else (((pos distance -ℤ pos 1) +ℤ pos (delay writer reader)) -ℤ pos reader.read)
+    if writer.task == reader.task then pos distance
+    else if saves writer reader then ((pos distance -ℤ pos 1) +ℤ pos writer.jitter) -ℤ pos reader.read
+    else ((pos distance -ℤ pos 1) +ℤ pos writer.write) -ℤ pos reader.read
 
 -- forward, the reader's job is at most one job past the one that read before the write
 abbrev pub forward_hop : (writer reader : GroupTiming) → ℤ

@@ -1,6 +1,6 @@
 pub mod Answers
 pub mod Hops
 pub mod Bounds
-pub mod Safe
-pub mod SettledTiming
-pub mod Sums
+pub mod SettledChains
+pub mod Promises
+pub mod Inner

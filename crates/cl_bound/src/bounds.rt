@@ -1,6 +1,6 @@
 //! The bounds of a chain. Times are in ticks.
 ghost use Rattle.std.specs.Prelude.{◌≡◌, pos};
-ghost use Rattle.cl_bound.specs.Sums.{IsBound};
+ghost use Rattle.cl_bound.specs.Inner.Sums.{IsBound};
 
 use std::marker::Model;
 

@@ -1,20 +1,21 @@
 //! What the bounds know of a group, and hops between groups. Times are in ticks.
 ghost use Rattle.std.specs.Prelude.{◌≡◌, ◌^◌, ◌<◌, false, length, pos};
 ghost use Rattle.cl_model.specs.Groups.{IsGroupOf};
-ghost use Rattle.cl_model.specs.OfTask.{task_at};
+ghost use Rattle.cl_model.specs.ByNumber.{task_at};
 ghost use Rattle.cl_model.specs.Validity.{IsValid};
 ghost use Rattle.cl_runs.specs.SystemOf.{system_of};
 ghost use Rattle.cl_runs.specs.TaskTiming.{timing_at};
+ghost use Rattle.cl_comm.specs.AccessMoments.{is_timed};
 ghost use Rattle.cl_comm.specs.Windows.{window_at};
-ghost use Rattle.cl_resp.specs.Finishing.{IsSettled};
+ghost use Rattle.cl_resp.specs.Response.{IsSettled};
 ghost use Rattle.cl_bound.specs.Answers.{answers_of, answer_at, is_late};
-ghost use Rattle.cl_bound.specs.Hops.{is_held_back, delay, hop, forward_hop, backward_hop};
-ghost use Rattle.cl_bound.specs.SettledTiming.{settled_timing};
-ghost use Rattle.cl_bound.specs.Sums.{IsWithin};
+ghost use Rattle.cl_bound.specs.Bounds.{settled_timing};
+ghost use Rattle.cl_bound.specs.Hops.{saves, hop, forward_hop, backward_hop};
+ghost use Rattle.cl_bound.specs.Inner.Sums.{IsWithin};
 
 use crate::answer::TaskAnswer;
 use cl_comm::{Access, AnyAccess, Window, spot_of};
-use cl_model::{Group, List, ValidModel};
+use cl_model::{AccessKind, Group, List, ValidModel};
 use cl_stim::{AnyStimulus, Arrivals};
 
 /// What the bounds know of a group.
@@ -23,8 +24,8 @@ pub(crate) struct GroupTiming {
     pub(crate) task: u32,
     pub(crate) core: u32,
     pub(crate) priority: u64,
-    /// Whether its task runs in the tick in which it reads.
-    pub(crate) runs_on_reads: bool,
+    /// Whether its task is timed.
+    pub(crate) is_timed: bool,
     /// How long after its arrival a job is released at most.
     pub(crate) jitter: u64,
     /// The greatest distance between two arrivals.
@@ -35,8 +36,15 @@ pub(crate) struct GroupTiming {
     pub(crate) write: u64,
 }
 
+/// Whether tasks of that kind of access are timed.
+fn is_timed(access: AccessKind) -> bool
+    ensures { result ≡ is_timed access }
+{
+    matches!(access, AccessKind::Timed)
+}
+
 /// The window of a runnable of a settled task with this response.
-fn window_of(model: &ValidModel, task: u32, place: u32, response: u64) -> Window
+fn access_window(model: &ValidModel, task: u32, place: u32, response: u64) -> Window
     requires is_task { task < length model.now.tasks }
     requires is_runnable { place < length (task_at model.now task).runnables }
     requires settled { IsSettled (system_of model.now) task response }
@@ -63,33 +71,22 @@ impl GroupTiming {
             task: group.task,
             core: model.core_of(group.task),
             priority: task.priority,
-            runs_on_reads: AnyAccess::of(task.access).runs_on_reads(),
+            is_timed: is_timed(task.access),
             jitter: stimulus.jitter(),
             distance: stimulus.greatest_gap(),
-            read: window_of(model, group.task, group.first, response).rlo,
-            write: window_of(model, group.task, group.last, response).whi,
+            read: access_window(model, group.task, group.first, response).rlo,
+            write: access_window(model, group.task, group.last, response).whi,
         }
     }
 
-    /// Whether a reader can't read while a job of this writer is pending.
-    fn holds_back(&self, reader: &GroupTiming) -> bool
-        ensures { result ≡ is_held_back self.now reader.now }
+    /// Whether a hop from this writer saves the writer's time.
+    fn saves(&self, reader: &GroupTiming) -> bool
+        ensures { result ≡ saves self.now reader.now }
     {
         self.core == reader.core
             && self.priority > reader.priority
-            && self.runs_on_reads
-            && reader.runs_on_reads
-    }
-
-    /// How long after its arrival this writer keeps a reader from reading what it writes.
-    fn delay_of(&self, reader: &GroupTiming) -> u64
-        ensures { result ≡ delay self.now reader.now }
-    {
-        if self.holds_back(reader) {
-            self.jitter
-        } else {
-            self.write
-        }
+            && !self.is_timed
+            && !reader.is_timed
     }
 
     /// The hop from this writer to a reader, over one distance between arrivals.
@@ -100,7 +97,12 @@ impl GroupTiming {
         if self.task == reader.task {
             return i128::from(distance);
         }
-        i128::from(distance) - 1 + i128::from(self.delay_of(reader)) - i128::from(reader.read)
+        let delay = if self.saves(reader) {
+            self.jitter
+        } else {
+            self.write
+        };
+        i128::from(distance) - 1 + i128::from(delay) - i128::from(reader.read)
     }
 
     /// The hop in the forward direction.
@@ -118,6 +120,7 @@ impl GroupTiming {
     {
         self.hop(reader, self.distance)
     }
+
     /// Its greatest distance between arrivals, signed.
     pub(crate) fn distance(&self) -> i128
         ensures number { result ≡ pos self.now.distance }

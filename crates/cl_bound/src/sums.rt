@@ -1,6 +1,6 @@
 //! Sums of hops, one group after the other. Times are in ticks.
 ghost use Rattle.std.specs.Prelude.{◌≡◌, ℕ, ◌+◌, ◌*◌, ◌^◌, [], pos};
-ghost use Rattle.cl_bound.specs.Sums.{IsWithin, IsBound, sums_with, sums_of, reaction_in, age_in, reduced_in};
+ghost use Rattle.cl_bound.specs.Inner.Sums.{IsWithin, IsBound, sums_with, sums_of, reaction_in, age_in, reduced_in};
 
 use crate::bounds::Bounds;
 use crate::group_timing::GroupTiming;

@@ -1,2 +1,2 @@
-pub use Rattle.cl_comm.specs.Lemmas.AccessTimes
+pub use Rattle.cl_comm.specs.Inner.AccessTimes
 pub mod Spots

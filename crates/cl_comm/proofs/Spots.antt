@@ -10,13 +10,14 @@ use Rattle.std.proofs.lemmas.List.Sums.{sum_by-le, sum_by-take-le, sum_by-take-d
 use Rattle.cl_model.specs.declared.limits.TheConstants.{MOST_TICKS, MOST_RUNNABLES}
 use Rattle.cl_model.specs.declared.model.SystemModel.{SystemModel}
 use Rattle.cl_model.specs.declared.task.RunnableDef.{RunnableDef}
-use Rattle.cl_model.specs.OfTask.{no_task, task_at, deadline_of}
+use Rattle.cl_model.specs.ByNumber.{no_task, task_at, deadline_of}
 use Rattle.cl_model.specs.Ranges.{IsRunnableInRange, IsTaskInRange}
 use Rattle.cl_model.specs.Validity.{IsValid}
-use Rattle.cl_runs.specs.TaskTiming.{TimeRange, Timing, timing_at, no_timing}
-use Rattle.cl_runs.specs.SystemOf.{range_of, timing_of, system_of}
+use Rattle.cl_runs.specs.TaskTiming.{TimeRange, Timing, timing_at, no_range}
+use Rattle.cl_runs.specs.SystemOf.{range_of, system_of}
+use Rattle.cl_runs.proofs.ModelSystem.{timing_is}
 use Rattle.cl_comm.specs.declared.spot.Spot.{Spot}
-use Rattle.cl_comm.specs.Windows.{least_times, no_range, spot_at}
+use Rattle.cl_comm.specs.Windows.{least_times, spot_at}
 
 -- the sum of the least times of runnables
 abbrev pub least_sum : List RunnableDef → ℕ
@@ -25,11 +26,6 @@ least_sum runnables = sum_by (λ (runnable : RunnableDef). runnable.least) runna
 least_of_ranges : (runnables : List RunnableDef) → least_times (map range_of runnables) ≡ least_sum runnables
 unfolding least_times
 least_of_ranges runnables = fold-map (λ (a : ℕ) (range : TimeRange). a + range.least) range_of 0 runnables
-
--- the timing of a task of a model
-timing_is : (model : SystemModel) (i : ℕ) → i < length model.tasks → timing_at (system_of model) i ≡ timing_of model (task_at model i)
-unfolding system_of
-timing_is model i h = get_or-map (timing_of model) model.tasks i no_task no_timing h
 
 -- what stands past a place of a list is all that is left of it
 rest_is : (runnables : List RunnableDef) (n : ℕ) → take (length runnables - n) (drop n runnables) ≡ drop n runnables

@@ -1,4 +1,4 @@
 pub mod Windows
 pub mod AccessMoments
 pub mod AccessKinds
-pub mod Lemmas
+pub mod Inner

@@ -1,8 +1,8 @@
 -- The window of a runnable: when it reads and writes, counted from the arrival of its job. Source: this project's profile.
-use Rattle.std.specs.Prelude.{ℕ, suc, ◌+◌, ◌-◌, List, take, drop, sum_by, slice_index_or}
+use Rattle.std.specs.Prelude.{ℕ, suc, ◌+◌, ◌-◌, List, take, drop, sum_by}
 use Rattle.cl_model.specs.declared.task.AccessKind.{AccessKind}
 use Rattle.cl_model.specs.declared.task.AccessKind.TheVariants.{Explicit, Implicit, Timed}
-use Rattle.cl_runs.specs.TaskTiming.{TimeRange, Timing}
+use Rattle.cl_runs.specs.TaskTiming.{TimeRange, Timing, range_at}
 use Rattle.cl_comm.specs.declared.spot.Spot.{Spot}
 use Rattle.cl_comm.specs.declared.spot.Window.{Window}
 
@@ -10,15 +10,11 @@ use Rattle.cl_comm.specs.declared.spot.Window.{Window}
 unfoldable pub least_times : List TimeRange → ℕ
 least_times ranges = sum_by (λ (range : TimeRange). range.least) ranges
 
--- what stands past the last runnable
-unfoldable pub no_range : TimeRange
-no_range = record { least = 0; greatest = 0 }
-
 -- the spot of runnable p of a task: the least times before it, its own, and those after it, with the task's deadline
 unfoldable pub spot_at : Timing → (p : ℕ) → Spot
 spot_at task p = record {
   before = least_times (take p task.ranges);
-  own = (slice_index_or task.ranges p no_range).least;
+  own = (range_at task p).least;
   after = least_times (drop (suc p) task.ranges);
   deadline = task.deadline;
 }

@@ -3,8 +3,8 @@ ghost use Rattle.std.specs.Prelude.{◌≡◌};
 ghost use Rattle.cl_comm.specs.Windows.{window_of};
 ghost use Rattle.cl_comm.specs.AccessKinds.{access_kind_of};
 ghost use Rattle.cl_comm.specs.AccessMoments as moments;
-ghost use Rattle.cl_comm.specs.Lemmas.AccessTimes as times;
-ghost use Rattle.cl_comm.specs.Lemmas.KindLaws as laws;
+ghost use Rattle.cl_comm.specs.Inner.AccessTimes as times;
+ghost use Rattle.cl_comm.specs.Inner.KindLaws as laws;
 
 use crate::access::Access;
 use crate::explicit::Explicit;

@@ -15,6 +15,3 @@ pub use explicit::Explicit;
 pub use implicit::Implicit;
 pub use spot::{Spot, Window, spot_of};
 pub use timed::Timed;
-
-#[cfg(test)]
-mod tests;

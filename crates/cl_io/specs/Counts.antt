@@ -1,5 +1,9 @@
 -- Counts that only rise (this project's profile).
-use Rattle.std.specs.Prelude.{◌≡◌, ◌≢◌, ℕ, ◌-◌, ◌<◌, ◌≤◌, ◌^◌, List}
+use Rattle.std.specs.Prelude.{◌≡◌, ◌≢◌, ℕ, ◌+◌, ◌-◌, ◌<◌, ◌≤◌, ◌^◌, min, List}
+
+-- one more, up to the greatest u64
+abbrev pub counted : ℕ → ℕ
+counted n = min (n + 1) (2 ^ 64 - 1)
 
 -- The count rose, or it stood at the greatest u64 already, where it stays.
 abbrev pub Rose : ℕ → ℕ → Type 0

@@ -6,3 +6,4 @@ pub mod NameNumbers
 pub mod MemSink
 pub mod Files
 pub mod MemShelf
+pub mod Inner

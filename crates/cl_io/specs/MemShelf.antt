@@ -8,6 +8,7 @@ use Rattle.cl_io.specs.declared.fault.FetchFault.TheVariants.{Failed, Long, NoMe
 use Rattle.cl_io.specs.declared.mem_shelf.MemShelf.{MemShelf}
 use Rattle.cl_io.specs.declared.sure_shelf.SureShelf.{SureShelf}
 use Rattle.cl_io.specs.declared.name_numbers.Numbers.{Numbers}
+use Rattle.cl_io.specs.Counts.{counted}
 use Rattle.cl_io.specs.NameNumbers.{numbers_of, longest_of}
 use Rattle.cl_io.specs.Files.{file_of}
 use Rattle.cl_io.specs.Shelf.{Held, Absent, Content}
@@ -46,3 +47,10 @@ FailsExactly fails (Ok bytes) = fails ≡ false
 FailsExactly fails (Err (Long taken)) = fails ≡ false
 FailsExactly fails (Err Failed) = fails ≡ true
 FailsExactly fails (Err NoMemory) = Unit {0}
+
+-- A fetch that fails raises its name's count by one, up to the greatest u64, and no other does.
+abbrev pub CountsFaults : (before after : ℕ) → Result (Vec ℕ Global) FetchFault → Type 0
+CountsFaults before after (Ok bytes) = after ≡ before
+CountsFaults before after (Err (Long taken)) = after ≡ before
+CountsFaults before after (Err Failed) = after ≡ counted before
+CountsFaults before after (Err NoMemory) = after ≡ before

@@ -1,7 +1,8 @@
 -- A sink in memory (this project's profile).
-use Rattle.std.specs.Prelude.{ℕ, ◌+◌, ◌-◌, ◌<◌, ◌≤◌, ◌^◌, min, Bool, ◌||◌, ◌==◌, if◌then◌else◌, List, [], ◌++◌, length, take, Result, Ok, Err}
+use Rattle.std.specs.Prelude.{ℕ, ◌-◌, ◌<◌, ◌≤◌, min, Bool, ◌||◌, ◌==◌, if◌then◌else◌, List, [], ◌++◌, length, take, Result, Ok, Err}
 use Rattle.std.specs.List.{list_any}
 use Rattle.cl_io.specs.declared.fault.SinkFault.{SinkFault}
+use Rattle.cl_io.specs.Counts.{counted}
 use Rattle.cl_io.specs.declared.fault.SinkFault.TheVariants.{Failed}
 
 pub record MemSinkState : Type 0 where
@@ -19,10 +20,6 @@ pub record MemSinkState : Type 0 where
 
 abbrev pub new_sink : (room step : ℕ) → MemSinkState
 new_sink room step = record { written = []; room = room; step = step; failing = []; calls = 0; faults = 0 }
-
--- one more, up to the greatest u64
-abbrev pub counted : ℕ → ℕ
-counted n = min (n + 1) (2 ^ 64 - 1)
 
 -- The next write fails: no room is left, or it is one of those that are to fail.
 abbrev pub fails_next : MemSinkState → Bool

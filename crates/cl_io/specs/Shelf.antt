@@ -2,6 +2,8 @@
 use Rattle.std.specs.Prelude.{◌≡◌, ◌⊎◌, ℕ, ◌<◌, ◌≤◌, max, List, length, Result, Ok, Err, Vec}
 use Rattle.std.specs.declared.alloc.Global.{Global}
 use Rattle.cl_io.specs.declared.fault.FetchFault.{FetchFault}
+use Rattle.cl_io.specs.declared.name_numbers.Numbers.{Numbers}
+use Rattle.cl_io.specs.Counts.{Rose}
 use Rattle.cl_io.specs.declared.fault.FetchFault.TheVariants.{Failed, Long, NoMemory}
 
 -- what a shelf holds under a name
@@ -19,18 +21,19 @@ MayBe Untold bytes = Unit {0}
 MayBe Absent bytes = ⊥
 MayBe (Content content) bytes = bytes ≡ content
 
--- More than `limit` bytes may lie under the name.
-abbrev pub MayExceed : Held → ℕ → Type 0
-MayExceed Untold limit = Unit {0}
-MayExceed Absent limit = ⊥
-MayExceed (Content content) limit = limit < length content
+-- So many bytes may lie under the name, or more.
+abbrev pub MayHave : Held → ℕ → Type 0
+MayHave Untold taken = Unit {0}
+MayHave Absent taken = ⊥
+MayHave (Content content) taken = taken ≤ length content
 
--- What a fetch may answer, by what is held under its name. `rose` says that the name's count of faults rose
--- in this call; `before` and `after` are the most bytes that one fetch of the name took.
-abbrev pub MayAnswer : Held → (limit : ℕ) (rose : Type 0) (before after : ℕ) → Result (Vec ℕ Global) FetchFault → Type 0
-MayAnswer held limit rose before after (Ok bytes) =
-    MayBe held bytes.items × (length bytes.items ≤ limit) × (after ≡ max before (length bytes.items))
-MayAnswer held limit rose before after (Err (Long taken)) =
-    (rose ⊎ MayExceed held limit) × (limit < taken) × (after ≡ max before taken)
-MayAnswer held limit rose before after (Err Failed) = rose × (after ≡ before)
-MayAnswer held limit rose before after (Err NoMemory) = after ≡ before
+-- What a fetch may answer, by what is held under its name and by the two numbers of the name, `before` the call and
+-- `after` it. The count of faults stays where bytes are given, and has risen where the fetch failed, or took more bytes
+-- than lie there.
+abbrev pub MayAnswer : Held → (limit : ℕ) (before after : Numbers) → Result (Vec ℕ Global) FetchFault → Type 0
+MayAnswer held limit before after (Ok bytes) =
+    MayBe held bytes.items × (length bytes.items ≤ limit) × (after.faults ≡ before.faults) × (after.longest ≡ max before.longest (length bytes.items))
+MayAnswer held limit before after (Err (Long taken)) =
+    (Rose before.faults after.faults ⊎ MayHave held taken) × (limit < taken) × (after.longest ≡ max before.longest taken)
+MayAnswer held limit before after (Err Failed) = Rose before.faults after.faults × (after.longest ≡ before.longest)
+MayAnswer held limit before after (Err NoMemory) = after.longest ≡ before.longest

@@ -24,6 +24,3 @@ pub use sink::{Sink, write_all};
 pub use sure_shelf::SureShelf;
 pub use sure_sink::SureSink;
 pub use words::Words;
-
-#[cfg(test)]
-mod tests;

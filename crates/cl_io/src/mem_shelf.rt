@@ -1,9 +1,10 @@
 ghost use Rattle.std.specs.Prelude.{◌≡◌, ◌∷◌, ◌++◌, ◌+◌, ◌-◌, ◌^◌, List, [], ℕ, min, OnOk, OnErr};
-ghost use Rattle.cl_io.specs.Counts.{Rose, RisesAlone};
+ghost use Rattle.cl_io.specs.Counts.{RisesAlone};
 ghost use Rattle.cl_io.specs.Names.{ChangesAlone, SameAtEach};
 ghost use Rattle.cl_io.specs.NameNumbers.{no_numbers, faults_of, longest_of, IsEntered};
 ghost use Rattle.cl_io.specs.Shelf.{Absent, Content, MayAnswer};
-ghost use Rattle.cl_io.specs.MemShelf.{mem_held, mem_numbers, failing_calls, calls_made, fails_next, FailsExactly};
+ghost use Rattle.cl_io.specs.Inner.Giving.{IsGiven};
+ghost use Rattle.cl_io.specs.MemShelf.{mem_held, mem_numbers, failing_calls, calls_made, fails_next, FailsExactly, CountsFaults};
 
 use crate::files::Files;
 use crate::{FetchFault, NameNumbers, Shelf};
@@ -71,11 +72,12 @@ impl Shelf for MemShelf {
         ensures same { SameAtEach (mem_held self.old) (mem_held self.new) }
         ensures faults { RisesAlone name.now (λ n. (mem_numbers self.old n).faults) (λ n. (mem_numbers self.new n).faults) }
         ensures longest { RisesAlone name.now (λ n. (mem_numbers self.old n).longest) (λ n. (mem_numbers self.new n).longest) }
-        ensures answer { let before = mem_numbers self.old name.now in let after = mem_numbers self.new name.now in
-            MayAnswer (mem_held self.old name.now) limit (Rose before.faults after.faults) before.longest after.longest result }
+        ensures answer { MayAnswer (mem_held self.old name.now) limit
+            (mem_numbers self.old name.now) (mem_numbers self.new name.now) result }
 
         // As it was told to, and nothing is forgotten of that.
         ensures scripted { FailsExactly (fails_next self.old name.now) result }
+        ensures counted { CountsFaults (mem_numbers self.old name.now).faults (mem_numbers self.new name.now).faults result }
         ensures failing { failing_calls self.new ≡ failing_calls self.old }
         ensures calls { calls_made self.new ≡ min (calls_made self.old + 1) (2 ^ 64 - 1) }
     {
@@ -107,8 +109,7 @@ pub(crate) fn give(
     requires { IsEntered numbers.old name.now }
     ensures faults { SameAtEach (faults_of numbers.old) (faults_of numbers.new) }
     ensures longest { RisesAlone name.now (longest_of numbers.old) (longest_of numbers.new) }
-    ensures answer { MayAnswer (Content content.now) limit ⊥
-        (longest_of numbers.old name.now) (longest_of numbers.new name.now) result }
+    ensures given { IsGiven content.now limit (longest_of numbers.old name.now) (longest_of numbers.new name.now) result }
 {
     let taken = content.len() as u64;
     if taken > limit {

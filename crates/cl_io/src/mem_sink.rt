@@ -1,5 +1,4 @@
 ghost use Rattle.std.specs.Prelude.{◌≡◌, [], ◌∷◌, ◌++◌, ◌<◌, ◌≤◌, Some, IfOk, OnOk, OnErr};
-ghost use Rattle.cl_io.specs.Counts.{Rose};
 ghost use Rattle.cl_io.specs.Sink.{MayTake};
 ghost use Rattle.cl_io.specs.MemSink.{new_sink, answer_of, after_write};
 
@@ -77,7 +76,7 @@ impl Sink for MemSink {
 
     fn write(&mut self, piece: &[u8]) -> Result<usize, SinkFault>
         ensures faults { self.old.faults ≤ self.new.faults }
-        ensures answer { MayTake piece.now (Rose self.old.faults self.new.faults) (Some self.old.written) (Some self.new.written) result }
+        ensures answer { MayTake piece.now self.old.faults self.new.faults (Some self.old.written) (Some self.new.written) result }
         ensures scripted { result ≡ answer_of self.old piece.now }
         ensures after { self.new ≡ after_write self.old piece.now }
     {

@@ -1,5 +1,5 @@
 ghost use Rattle.std.specs.Prelude.{List, ℕ};
-ghost use Rattle.cl_io.specs.Counts.{Rose, RisesAlone};
+ghost use Rattle.cl_io.specs.Counts.{RisesAlone};
 ghost use Rattle.cl_io.specs.Names.{SameAtEach};
 ghost use Rattle.cl_io.specs.Shelf.{Held, MayAnswer};
 
@@ -21,13 +21,14 @@ pub trait Shelf {
     /// Reads all that lies under a name, where that is at most `limit` bytes.
     ///
     /// `Failed` comes only where the name's count of faults rose in this call, `Long` where more than `limit`
-    /// bytes were taken, and `NoMemory` where memory ran out. Whatever it answers, what the shelf holds stays
-    /// as it was, and so do the two numbers of every other name.
+    /// bytes were taken (where the shelf tells how many there are, no more than these, unless the count rose), and
+    /// `NoMemory` where memory ran out. A fetch that gives bytes leaves the count as it was. Whatever it answers, what
+    /// the shelf holds stays as it was, and so do the two numbers of every other name.
     fn fetch(&mut self, alloc: Global, name: &str, limit: u64) -> Result<Vec<u8>, FetchFault>
         ensures same { SameAtEach (held self.old) (held self.new) }
         ensures faults { RisesAlone name.now (faults self.old) (faults self.new) }
         ensures longest { RisesAlone name.now (longest self.old) (longest self.new) }
         ensures answer { MayAnswer (held self.old name.now) limit
-            (Rose (faults self.old name.now) (faults self.new name.now))
-            (longest self.old name.now) (longest self.new name.now) result };
+            (record { faults = faults self.old name.now; longest = longest self.old name.now })
+            (record { faults = faults self.new name.now; longest = longest self.new name.now }) result };
 }

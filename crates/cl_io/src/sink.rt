@@ -1,5 +1,4 @@
 ghost use Rattle.std.specs.Prelude.{◌≡◌, ℕ, ◌≤◌, List, [], Option};
-ghost use Rattle.cl_io.specs.Counts.{Rose};
 ghost use Rattle.cl_io.specs.Sink.{MayTake, MayWrite};
 
 use crate::{SinkFault, WriteFault};
@@ -14,20 +13,21 @@ pub trait Sink {
 
     /// Takes the first bytes of a piece, and says how many: at least one, where the piece isn't empty.
     ///
-    /// `Failed` comes only where the count of faults rose in this call, and then nothing was taken. Whatever it
-    /// answers, a sink that tells what was written goes on telling it.
+    /// `Failed` comes only where the count of faults rose in this call, and then nothing was taken; where bytes were
+    /// taken, the count is as it was. Whatever it answers, a sink that tells what was written goes on telling it.
     fn write(&mut self, piece: &[u8]) -> Result<usize, SinkFault>
         ensures faults { faults self.old ≤ faults self.new }
-        ensures answer { MayTake piece.now (Rose (faults self.old) (faults self.new)) (written self.old) (written self.new) result };
+        ensures answer { MayTake piece.now (faults self.old) (faults self.new) (written self.old) (written self.new) result };
 }
 
 /// Writes a whole piece, by as many calls as the sink needs. An empty piece needs none. Takes no memory.
 ///
 /// `Failed` comes only where the sink's count of faults rose in this call. The sink has then taken exactly the first
-/// `written` bytes, fewer than the piece has, and isn't called again.
+/// `written` bytes, fewer than the piece has, and isn't called again. Where the piece was written whole no write
+/// failed: the count is as it was.
 pub fn write_all<K: Sink>(sink: &mut K, piece: &[u8]) -> Result<(), WriteFault>
     ensures faults { K.faults sink.old ≤ K.faults sink.new }
-    ensures answer { MayWrite piece.now (Rose (K.faults sink.old) (K.faults sink.new)) (K.written sink.old) (K.written sink.new) result }
+    ensures answer { MayWrite piece.now (K.faults sink.old) (K.faults sink.new) (K.written sink.old) (K.written sink.new) result }
     ensures untouched { piece.now ≡ [] → sink.new ≡ sink.old }
 {
     let mut written = 0;

@@ -1,7 +1,6 @@
-ghost use Rattle.std.specs.Prelude.{◌≡◌, List, [], ℕ, OnOk, OnErr};
-ghost use Rattle.cl_io.specs.Counts.{Rose, RisesAlone};
+ghost use Rattle.std.specs.Prelude.{List, [], ℕ, OnOk, OnErr};
 ghost use Rattle.cl_io.specs.Names.{ChangesAlone, SameAtEach};
-ghost use Rattle.cl_io.specs.Shelf.{Content, MayAnswer};
+ghost use Rattle.cl_io.specs.Shelf.{Content};
 ghost use Rattle.cl_io.specs.MemShelf.{sure_held, sure_longest};
 
 use crate::files::Files;

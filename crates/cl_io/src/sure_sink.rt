@@ -1,5 +1,4 @@
 ghost use Rattle.std.specs.Prelude.{◌≡◌, ◌+◌, ◌-◌, ◌^◌, ◌≤◌, List, ℕ, None, Ok, min, length};
-ghost use Rattle.cl_io.specs.Counts.{Rose};
 ghost use Rattle.cl_io.specs.Sink.{MayTake};
 
 use crate::{Sink, SinkFault};
@@ -40,7 +39,7 @@ impl Sink for SureSink {
 
     fn write(&mut self, piece: &[u8]) -> Result<usize, SinkFault>
         ensures faults { 0 ≤ 0 }
-        ensures answer { MayTake piece.now (Rose 0 0) None None result }
+        ensures answer { MayTake piece.now 0 0 None None result }
         ensures whole { result ≡ Ok (length piece.now) }
         ensures taken { self.new ≡ min (self.old + length piece.now) (2 ^ 64 - 1) }
     {

@@ -1,26 +1,26 @@
 -- The tasks of the cores of a valid model. Times are in ticks.
-use Rattle.std.proofs.Common.{◌≡◌, ◌≢◌, ℕ, zero, suc, ◌+◌, ◌*◌, ◌<◌, ◌≤◌, Bool, true, false, cond, inl, inr, ◌&&◌, ◌||◌, Some, None, List, [], ◌∷◌, ◌++◌, length, get_or, set, take, map, refl, sym, ap, ◌∙◌, arith, nat_lt, nat_eq, replicate}
+use Rattle.std.proofs.Common.{◌≡◌, ◌≢◌, ℕ, zero, suc, ◌+◌, ◌*◌, ◌<◌, ◌≤◌, Bool, true, false, cond, inl, inr, ◌&&◌, ◌||◌, List, [], ◌∷◌, ◌++◌, length, get_or, set, take, map, refl, sym, ap, ◌∙◌, arith, nat_lt, nat_eq, replicate}
 use Rattle.std.specs.Prelude.{unwrap_or, filter, All, ◌==◌}
-use Rattle.std.specs.List.{list_any, position_or_len, range_with_len}
+use Rattle.std.specs.List.{list_any, range_with_len}
 use Rattle.std.specs.Cmp.Lexicographic.{bytes_decides}
 use Rattle.std.proofs.lemmas.Bool.{cases_order, ltb-false, eqb-true, eqb-false, eq-eqb, lt-ltb, cond-true, cond_both, or_right, false≢true, false_from_ne_true}
 use Rattle.std.proofs.lemmas.List.{append-nil, length_push, get_or-map, get_or-take, length-take-le, length-set, get_or-set_same, get_or-set_other, map-id, same_lists}
 use Rattle.std.proofs.lemmas.List.Elements.{All-filter}
 use Rattle.std.proofs.lemmas.List.Filters.{length-filter_more}
 use Rattle.std.proofs.lemmas.List.FromFn.{length-range_with_len, get_or-range_with_len, length-map-range_with_len, get_or-map-range_with_len, filter_of_map_range_with_len_more}
-use Rattle.std.proofs.lemmas.List.Sums.{passes_at_first}
 use Rattle.std.proofs.lemmas.Simd.{splat_is_map}
 use Rattle.cl_model.specs.declared.limits.TheConstants.{MOST_DISTANCES, MOST_TASKS_OF_CORE}
 use Rattle.cl_model.specs.declared.model.SystemModel.{SystemModel}
 use Rattle.cl_model.specs.declared.task.TaskDef.{TaskDef}
-use Rattle.cl_model.specs.Named.{same_name, has_name, place_of, is_some_and, core_names, kind_named, tasks_on}
-use Rattle.cl_model.specs.OfTask.{no_stimulus, no_task, task_at, core_number, core_of, stimulus_of, deadline_of, jitter_of, tasks_of_core_below, tasks_of_core}
+use Rattle.cl_model.specs.Named.{same_name, index_of, is_some_and, core_names, kind_named, tasks_on}
+use Rattle.cl_model.specs.ByNumber.{no_stimulus, no_task, task_at, core_number, core_of, stimulus_of, deadline_of, jitter_of, tasks_of_core_below, tasks_of_core}
 use Rattle.cl_model.specs.Timing.{least_distance, deadline_under}
 use Rattle.cl_model.specs.ValidTasks.{spans_too_many, is_outpaced_by, deadline_check}
 use Rattle.cl_model.specs.Validity.{IsValid}
-use Rattle.cl_model.proofs.Found.{found_within}
+use Rattle.cl_model.proofs.NamePlaces.{known_named}
 use Rattle.cl_model.proofs.Refused.{when_none, each_none}
-use Rattle.cl_model.proofs.ValidFacts.{core_known, stimulus_known, deadlines_pass}
+use Rattle.cl_model.proofs.NamesKnown.{core_known, stimulus_known}
+use Rattle.cl_model.proofs.PassedChecks.{deadlines_pass}
 use Rattle.cl_model.proofs.ValidTasks.{some_fails, other_priorities, room_left}
 
 -- ---- the lists of the tasks of each core
@@ -88,15 +88,6 @@ tasks_kept model lists cores core list kept lt at = at ∙ ap (λ ls. get_or ls 
 
 -- ---- names of cores
 
--- a name stands at its place
-name_at : (name : List ℕ) (names : List (List ℕ)) → has_name name names ≡ true → name ≡ get_or names (unwrap_or (place_of name names) 0) []
-name_at name names known =
-    let within = found_within (same_name name) names known in
-    let place : unwrap_or (place_of name names) 0 ≡ position_or_len (same_name name) names
-    = ap (λ o. unwrap_or o 0) (cond-true (nat_lt (position_or_len (same_name name) names) (length names)) (Some (position_or_len (same_name name) names)) None (lt-ltb _ _ within)) in
-    (bytes_decides name (get_or names (position_or_len (same_name name) names) [])).0 (passes_at_first (same_name name) names [] within)
-    ∙ ap (λ n. get_or names n []) (sym place)
-
 -- what passes one test and another is among those that pass the one
 any_among : {X : Type 0} (p q : X → Bool) (xs : List X) (i : ℕ) (d : X) → i < length xs → q (get_or xs i d) ≡ true → p (get_or xs i d) ≡ true
     → list_any p (filter q xs) ≡ true
@@ -125,15 +116,15 @@ module _ (model : SystemModel) (valid : IsValid model) where
   -- tasks of one core name it alike
   names_same : (i j : ℕ) → i < length model.tasks → j < length model.tasks → core_of model i ≡ core_of model j → (task_at model j).core ≡ (task_at model i).core
   names_same i j hi hj same =
-      name_at _ (core_names model) (core_known model valid j no_task hj) ∙ ap (λ n. get_or (core_names model) n []) (sym same)
-      ∙ sym (name_at _ (core_names model) (core_known model valid i no_task hi))
+      sym (known_named _ (core_names model) (core_known model valid j no_task hj)) ∙ ap (λ n. get_or (core_names model) n []) (sym same)
+      ∙ known_named _ (core_names model) (core_known model valid i no_task hi)
 
   same_core : (i j : ℕ) → i < length model.tasks → j < length model.tasks → (core_of model i == core_of model j) ≡ same_name (task_at model j).core (task_at model i).core
   same_core i j hi hj =
       same_tests (core_of model i == core_of model j) (same_name (task_at model j).core (task_at model i).core)
       (λ e. (bytes_decides (task_at model j).core (task_at model i).core).1 (names_same i j hi hj (eqb-true (core_of model i) (core_of model j) e)))
       (λ e. eq-eqb (core_of model i) (core_of model j)
-      (ap (λ name. unwrap_or (place_of name (core_names model)) 0) (sym ((bytes_decides (task_at model j).core (task_at model i).core).0 e))))
+      (ap (λ name. unwrap_or (index_of name (core_names model)) 0) (sym ((bytes_decides (task_at model j).core (task_at model i).core).0 e))))
 
   -- ---- priorities
 

@@ -1,8 +1,8 @@
 -- The groups of the chains of a valid model.
-use Rattle.std.proofs.Common.{◌≡◌, ℕ, suc, ◌+◌, ◌<◌, ◌≤◌, Bool, true, false, cond, ◌&&◌, ◌==◌, List, [], ◌∷◌, ◌++◌, length, get_or, take, map, refl, sym, ap, ◌∙◌, arith, nat_lt}
-use Rattle.std.specs.Prelude.{All, slice_index_or}
+use Rattle.std.proofs.Common.{◌≡◌, ℕ, suc, ◌+◌, ◌<◌, ◌≤◌, true, false, cond, ◌==◌, List, [], ◌∷◌, ◌++◌, length, get_or, take, map, refl, sym, ap, ◌∙◌, arith, nat_lt}
+use Rattle.std.specs.Prelude.{All}
 use Rattle.std.proofs.lemmas.Bool.{ltb-true, ltb-false, eqb-true}
-use Rattle.std.proofs.lemmas.List.{take_more, map-append, length-map, get_or_past, get_or-map}
+use Rattle.std.proofs.lemmas.List.{take_more, map-append, length-map, get_or_past}
 use Rattle.std.proofs.lemmas.List.Elements.{All-nil, All-cons, All-map, All-same}
 use Rattle.cl_model.specs.declared.chain.ChainDef.{ChainDef}
 use Rattle.cl_model.specs.declared.group.Group.{Group}
@@ -10,13 +10,14 @@ use Rattle.cl_model.specs.declared.group.Step.{Step}
 use Rattle.cl_model.specs.declared.groups.StepTable.{StepTable}
 use Rattle.cl_model.specs.declared.limits.TheConstants.{MOST_STEPS}
 use Rattle.cl_model.specs.declared.model.SystemModel.{SystemModel}
-use Rattle.cl_model.specs.Groups.{step_named, steps_of, is_inner, group_of_step, groups_from, groups, groups_of, no_chain, groups_at, IsGroupOf}
+use Rattle.cl_model.specs.Groups.{step_named, steps_of, is_inner, group_of_step, groups_from, groups, groups_of, groups_at, IsGroupOf, IsStepOf}
 use Rattle.cl_model.specs.Named.{has_name, runnable_names, all_runnables}
-use Rattle.cl_model.specs.OfTask.{task_at}
-use Rattle.cl_model.specs.Steps.{step_in, AreStepsOf}
+use Rattle.cl_model.specs.ByNumber.{no_chain, chain_at}
+use Rattle.cl_model.specs.Inner.StepTable.{step_in, AreStepsOf}
 use Rattle.cl_model.specs.Validity.{IsValid}
-use Rattle.cl_model.proofs.StepFacts.{step_in_is, step_is_known}
-use Rattle.cl_model.proofs.ValidFacts.{chain_lengths, steps_known}
+use Rattle.cl_model.proofs.ListFacts.{both_pass}
+use Rattle.cl_model.proofs.StepFacts.{step_in_is, step_stands_in}
+use Rattle.cl_model.proofs.NamesKnown.{chain_lengths, steps_known}
 
 -- ---- what is kept for a chain
 
@@ -73,15 +74,6 @@ groups_some (step ∷ steps) lt = (groups_from_few steps (group_of_step step)).0
 
 -- ---- what groups are
 
--- a step that is a runnable of a task
-record IsStepOf (model : SystemModel) (step : Step) : Type 0 where
-  known : step.task < length model.tasks
-  place : step.place < length (task_at model step.task).runnables
-
-both : (a b : Bool) → (a && b) ≡ true → (a ≡ true) × (b ≡ true)
-both true b h = (refl, h)
-both false b h = cc
-
 groups_from_are : (model : SystemModel) (steps : List Step) (group : Group) → IsGroupOf model group → All (IsStepOf model) steps → All (IsGroupOf model) (groups_from group steps)
 groups_from_are model [] group is each = All-cons (IsGroupOf model) group [] is (All-nil (IsGroupOf model))
 groups_from_are model (step ∷ steps) group is each =
@@ -90,7 +82,7 @@ groups_from_are model (step ∷ steps) group is each =
     elim (is_inner group step) as (λ b. is_inner group step ≡ b
     → All (IsGroupOf model) (cond b (groups_from (record { task = group.task; first = group.first; last = step.place }) steps) (group ∷ groups_from (group_of_step step) steps))) [
       | true ↦ λ e.
-          let inner = both (group.task == step.task) (nat_lt group.last step.place) e in
+          let inner = both_pass (group.task == step.task) (nat_lt group.last step.place) e in
           let same : group.task ≡ step.task = eqb-true group.task step.task inner.0 in
           let behind = ltb-true group.last step.place inner.1 in
           groups_from_are model steps (record { task = group.task; first = group.first; last = step.place })
@@ -107,9 +99,9 @@ groups_are model (step ∷ steps) each =
     groups_from_are model steps (group_of_step step) (record { known = here.known; ordered = omega arith; within = here.place }) (λ k d lt. each (suc k) d (omega arith))
 
 module _ (model : SystemModel) (valid : IsValid model) where
-  steps_stand : (chain : ℕ) → chain < length model.chains → All (IsStepOf model) (steps_of model (slice_index_or model.chains chain no_chain))
-  steps_stand chain lt = All-map (IsStepOf model) (step_named model) (slice_index_or model.chains chain no_chain).runnables
-      (λ k d k_lt. let known = step_is_known model _ (steps_known model valid chain no_chain lt k d k_lt) in record { known = known.0; place = known.1 })
+  steps_stand : (chain : ℕ) → chain < length model.chains → All (IsStepOf model) (steps_of model (chain_at model chain))
+  steps_stand chain lt = All-map (IsStepOf model) (step_named model) (chain_at model chain).runnables
+      (λ k d k_lt. step_stands_in model _ (steps_known model valid chain no_chain lt k d k_lt))
 
   -- past the last chain there are no groups
   none_past : (chain : ℕ) → length model.chains ≤ chain → groups_at model chain ≡ []
@@ -118,7 +110,7 @@ module _ (model : SystemModel) (valid : IsValid model) where
 
   within : (chain : ℕ) → chain < length model.chains → All (IsGroupOf model) (groups_at model chain)
   unfolding groups_of
-  within chain lt = groups_are model (steps_of model (slice_index_or model.chains chain no_chain)) (steps_stand chain lt)
+  within chain lt = groups_are model (steps_of model (chain_at model chain)) (steps_stand chain lt)
 
   pub groups_at_are : (chain : ℕ) → All (IsGroupOf model) (groups_at model chain)
   groups_at_are chain = elim (nat_lt chain (length model.chains)) as (λ b. nat_lt chain (length model.chains) ≡ b → All (IsGroupOf model) (groups_at model chain)) [
@@ -128,17 +120,12 @@ module _ (model : SystemModel) (valid : IsValid model) where
 
   pub groups_at_some : (chain : ℕ) → chain < length model.chains → 0 < length (groups_at model chain)
   unfolding groups_of
-  groups_at_some chain lt = groups_some (steps_of model (slice_index_or model.chains chain no_chain))
-      (omega (arith, chain_lengths model valid chain no_chain lt, length-map (slice_index_or model.chains chain no_chain).runnables (step_named model)))
+  groups_at_some chain lt = groups_some (steps_of model (chain_at model chain))
+      (omega (arith, chain_lengths model valid chain no_chain lt, length-map (chain_at model chain).runnables (step_named model)))
 
   pub groups_at_few : (chain : ℕ) → chain < length model.chains → length (groups_at model chain) ≤ MOST_STEPS
   unfolding groups_of
   groups_at_few chain lt =
-      let few = groups_few (steps_of model (slice_index_or model.chains chain no_chain)) in
+      let few = groups_few (steps_of model (chain_at model chain)) in
       let steps = (valid.in_range.chains chain no_chain lt).runnables in
-      omega (arith, few, steps, length-map (slice_index_or model.chains chain no_chain).runnables (step_named model))
-
--- ---- what is kept is found
-
-pub groups_kept : (model : SystemModel) (lists : List (List Group)) (i : ℕ) (list : List Group) → lists ≡ map (groups_of model) model.chains → i < length model.chains → list ≡ get_or lists i list → list ≡ groups_at model i
-groups_kept model lists i list kept lt at = at ∙ ap (λ ls. get_or ls i list) kept ∙ get_or-map (groups_of model) model.chains i no_chain list lt
+      omega (arith, few, steps, length-map (chain_at model chain).runnables (step_named model))

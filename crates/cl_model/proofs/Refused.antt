@@ -1,5 +1,5 @@
 -- Lists of refusals, by their first and by their parts.
-use Rattle.std.proofs.Common.{◌≡◌, ℕ, zero, suc, ◌+◌, ◌<◌, Bool, true, false, List, [], ◌∷◌, ◌++◌, length, get_or, take, Some, refl, arith, add-one}
+use Rattle.std.proofs.Common.{◌≡◌, ℕ, zero, suc, ◌+◌, ◌<◌, Bool, true, false, List, [], ◌∷◌, ◌++◌, length, get_or, Some, refl, ap, ◌∙◌, arith}
 use Rattle.cl_model.specs.declared.place.Place.{Place}
 use Rattle.cl_model.specs.declared.refusal.Code.{Code}
 use Rattle.cl_model.specs.declared.refusal.Refusal.{Refusal}
@@ -40,29 +40,7 @@ each_from_none n check (x ∷ items) (suc i) j d at none lt =
 pub each_none : {X : Type 0} (check : ℕ → X → List Refusal) (items : List X) (i : ℕ) (d : X) → each check items ≡ [] → i < length items → check i (get_or items i d) ≡ []
 each_none check items i d none lt = each_from_none 0 check items i i d (omega arith) none lt
 
--- the first refusal of all items is that of the first item that is refused
-each_from_fails : {X : Type 0} (n : ℕ) (check : ℕ → X → List Refusal) (items : List X) (i j : ℕ) (d : X) (r : Refusal) → j ≡ n + i → each_from n check (take i items) ≡ [] → i < length items → first (check j (get_or items i d)) ≡ Some r → first (each_from n check items) ≡ Some r
-each_from_fails n check [] i j d r at none lt fails = absurd (omega arith)
-each_from_fails n check (x ∷ items) zero j d r at none lt fails =
-    let e : j ≡ n = omega arith in
-    first_with_more (check n x) (each_from (n + 1) check items) r (rw e at fails)
-each_from_fails n check (x ∷ items) (suc i) j d r at none lt fails =
-    let here = none_before (check n x) (each_from (n + 1) check (take i items)) none in
-    rw here (each_from_fails (n + 1) check items i j d r (omega arith) (none_behind (check n x) (each_from (n + 1) check (take i items)) none) (omega arith) fails)
-
-pub each_fails : {X : Type 0} (check : ℕ → X → List Refusal) (items : List X) (i : ℕ) (d : X) (r : Refusal) → each check (take i items) ≡ [] → i < length items → first (check i (get_or items i d)) ≡ Some r → first (each check items) ≡ Some r
-each_fails check items i d r none lt fails = each_from_fails 0 check items i i d r (omega arith) none lt fails
-
--- one more item that is refused nothing
-each_from_more : {X : Type 0} (n : ℕ) (check : ℕ → X → List Refusal) (items : List X) (i j : ℕ) (d : X) → j ≡ n + i → each_from n check (take i items) ≡ [] → i < length items → check j (get_or items i d) ≡ [] → each_from n check (take (suc i) items) ≡ []
-each_from_more n check [] i j d at none lt passes = absurd (omega arith)
-each_from_more n check (x ∷ items) zero j d at none lt passes =
-    let e : j ≡ n = omega arith in
-    let here : check n x ≡ [] = rw e at passes in
-    rw here refl
-each_from_more n check (x ∷ items) (suc i) j d at none lt passes =
-    let here = none_before (check n x) (each_from (n + 1) check (take i items)) none in
-    rw here (each_from_more (n + 1) check items i j d (omega arith) (none_behind (check n x) (each_from (n + 1) check (take i items)) none) (omega arith) passes)
-
-pub each_more : {X : Type 0} (check : ℕ → X → List Refusal) (items : List X) (i : ℕ) (d : X) → each check (take i items) ≡ [] → i < length items → check i (get_or items i d) ≡ [] → each check (take (i + 1) items) ≡ []
-each_more check items i d none lt passes = rw add-one (each_from_more 0 check items i i d (omega arith) none lt passes)
+-- checks that refuse the same of each item refuse the same of all
+pub each_same : {X : Type 0} (n : ℕ) (f g : ℕ → X → List Refusal) (items : List X) → ((k : ℕ) (x : X) → f k x ≡ g k x) → each_from n f items ≡ each_from n g items
+each_same n f g [] same = refl
+each_same n f g (x ∷ items) same = ap (λ l. l ++ each_from (n + 1) f items) (same n x) ∙ ap (λ l. g n x ++ l) (each_same (n + 1) f g items same)

@@ -1,17 +1,22 @@
 -- The names of the runnables of tasks, one task after another.
-use Rattle.std.proofs.Common.{◌≡◌, ℕ, ◌+◌, ◌<◌, List, [], ◌∷◌, ◌++◌, length, get_or, take, sym, ap, ◌∙◌}
-use Rattle.std.proofs.lemmas.List.{take_more, append-nil, map-append}
+use Rattle.std.proofs.Common.{◌≡◌, ℕ, zero, suc, ◌+◌, ◌<◌, ◌≤◌, List, [], ◌∷◌, ◌++◌, length, get_or, take, refl, sym, ap, ◌∙◌, subst, arith}
+use Rattle.std.proofs.lemmas.List.{take_more, take_all, get_or_default, append-nil, map-append}
 use Rattle.std.proofs.lemmas.Grind.{flat_map-append}
 use Rattle.cl_model.specs.declared.place.Key.TheVariants as key
 use Rattle.cl_model.specs.declared.place.Part.TheVariants as part
 use Rattle.cl_model.specs.declared.refusal.Code.TheVariants.{M24}
 use Rattle.cl_model.specs.declared.task.TaskDef.{TaskDef}
 use Rattle.cl_model.specs.declared.task.RunnableDef.{RunnableDef}
+use Rattle.cl_model.specs.declared.model.SystemModel.{SystemModel}
+use Rattle.cl_model.specs.ByNumber.{no_task}
 use Rattle.cl_model.specs.Named.{runnable_names, all_runnables}
-use Rattle.cl_model.specs.NameSets.{AreNew}
+use Rattle.cl_model.specs.NameSets.{AreApart, AreNew}
 use Rattle.cl_model.specs.Place.{entry_of, at_key, at_sub}
 use Rattle.cl_model.specs.Refusals.{each}
 use Rattle.cl_model.specs.ValidNames.{repeat_check, runnable_repeats}
+use Rattle.cl_model.specs.Validity.{IsValid}
+use Rattle.cl_model.proofs.NamePlaces.{apart_behind}
+use Rattle.cl_model.proofs.NamesApart.{runnables_pass}
 use Rattle.cl_model.proofs.Refused.{when_none, each_none}
 
 -- the runnables of one more task
@@ -28,7 +33,7 @@ runnable_names_more tasks i task body old new lt is same so_far added =
     ∙ sym (ap runnable_names (runnables_more tasks i task lt is) ∙ map-append (λ r. r.name) (all_runnables (take i tasks)) task.runnables)
 
 -- where M24 passes, the names of a task are new behind those of the tasks before it
-runnables_are_new : (tasks : List TaskDef) → each (runnable_repeats tasks) tasks ≡ [] → (i : ℕ) (d : TaskDef) → i < length tasks → AreNew (runnable_names (all_runnables (take i tasks))) (runnable_names (get_or tasks i d).runnables)
+pub runnables_are_new : (tasks : List TaskDef) → each (runnable_repeats tasks) tasks ≡ [] → (i : ℕ) (d : TaskDef) → i < length tasks → AreNew (runnable_names (all_runnables (take i tasks))) (runnable_names (get_or tasks i d).runnables)
 runnables_are_new tasks none i d lt n n_lt =
     let names = runnable_names (get_or tasks i d).runnables in
     let before = runnable_names (all_runnables (take i tasks)) in
@@ -40,3 +45,20 @@ pub runnables_new : (tasks : List TaskDef) (i : ℕ) (task : TaskDef) (body : Li
 runnables_new tasks i task body before none lt is same so_far =
     let here : body ≡ (get_or tasks i task).runnables = same ∙ ap (λ t. t.runnables) is in
     rw (so_far, here) (runnables_are_new tasks none i task lt)
+
+-- the names of the runnables of the first tasks are apart
+apart_below : (tasks : List TaskDef) → each (runnable_repeats tasks) tasks ≡ [] → (n : ℕ) → n ≤ length tasks → AreApart (runnable_names (all_runnables (take n tasks)))
+apart_below tasks none zero le = λ k within. absurd (omega arith)
+apart_below tasks none (suc n) le =
+    let d : TaskDef = no_task in
+    let task = get_or tasks n d in
+    let more : n + 1 ≡ suc n = omega arith in
+    let behind : AreApart (runnable_names (all_runnables (take n tasks)) ++ runnable_names task.runnables)
+    = apart_behind _ _ (apart_below tasks none n (omega arith)) (runnables_are_new tasks none n d (omega arith)) in
+    let joined = runnable_names_more tasks n (get_or tasks n d) task.runnables (runnable_names (all_runnables (take n tasks))) _ (omega arith) (get_or_default tasks n d task (omega arith)) refl refl refl in
+    subst AreApart (joined ∙ ap (λ m. runnable_names (all_runnables (take m tasks))) more) behind
+
+pub runnables_apart : (model : SystemModel) → IsValid model → AreApart (runnable_names (all_runnables model.tasks))
+runnables_apart model valid =
+    subst (λ tasks. AreApart (runnable_names (all_runnables tasks))) (take_all (length model.tasks) model.tasks (omega arith))
+    (apart_below model.tasks (runnables_pass model valid) (length model.tasks) (omega arith))

@@ -1,19 +1,21 @@
 -- The steps of the runnables of a model, in order and by name.
 use Rattle.std.proofs.Common.{◌≡◌, ℕ, zero, suc, ◌+◌, ◌-◌, ◌<◌, true, false, cond, List, [], ◌∷◌, ◌++◌, length, get_or, take, refl, sym, ap, ◌∙◌, append_assoc, arith, nat_lt}
-use Rattle.std.specs.Prelude.{unwrap_or}
+use Rattle.std.specs.Prelude.{unwrap_or, slice_get, Some}
+use Rattle.std.specs.Option.{option_and_then}
+use Rattle.std.proofs.lemmas.Option.{slice_get-get_or}
 use Rattle.std.proofs.lemmas.Bool.{ltb-false, ltb-true}
-use Rattle.std.proofs.lemmas.List.{append-nil, length-append, length-map, get_or_append_left, get_or-append_right}
+use Rattle.std.proofs.lemmas.List.{append-nil, length-append, length-map, get_or-map, get_or_append_left, get_or-append_right}
 use Rattle.std.proofs.lemmas.List.FromFn.{length-map-range_with_len, get_or-map-range_with_len, map-range_with_len_more}
 use Rattle.cl_model.specs.declared.group.Step.{Step}
 use Rattle.cl_model.specs.declared.groups.StepTable.{StepTable}
 use Rattle.cl_model.specs.declared.model.SystemModel.{SystemModel}
 use Rattle.cl_model.specs.declared.task.RunnableDef.{RunnableDef}
 use Rattle.cl_model.specs.declared.task.TaskDef.{TaskDef}
-use Rattle.cl_model.specs.Groups.{step_from, step_named}
-use Rattle.cl_model.specs.Named.{has_name, place_of, runnable_names, all_runnables}
-use Rattle.cl_model.specs.OfTask.{no_task, task_at}
-use Rattle.cl_model.specs.Steps.{steps_in, steps_from, no_step, step_in, AreStepsOf}
-use Rattle.cl_model.proofs.Found.{place_within}
+use Rattle.cl_model.specs.Groups.{step_from, step_named, no_step, IsStepOf}
+use Rattle.cl_model.specs.Named.{has_name, index_of, runnable_names, all_runnables, runnable_named}
+use Rattle.cl_model.specs.ByNumber.{no_task, no_runnable, task_at, runnable_at}
+use Rattle.cl_model.specs.Inner.StepTable.{steps_in, steps_from, step_in, AreStepsOf}
+use Rattle.cl_model.proofs.NamePlaces.{place_within, known_place, known_named}
 
 -- ---- the steps of all runnables
 
@@ -84,7 +86,7 @@ table_paired tasks table kept =
     ap length kept.steps ∙ length-steps_from tasks 0 ∙ sym (length-map (all_runnables tasks) f) ∙ sym (ap length kept.names)
 
 known_within : (tasks : List TaskDef) (name : List ℕ) → has_name name (runnable_names (all_runnables tasks)) ≡ true
-    → unwrap_or (place_of name (runnable_names (all_runnables tasks))) 0 < length (all_runnables tasks)
+    → unwrap_or (index_of name (runnable_names (all_runnables tasks))) 0 < length (all_runnables tasks)
 known_within tasks name known =
     let f : RunnableDef → List ℕ = λ runnable. runnable.name in
     omega (arith, place_within name (runnable_names (all_runnables tasks)) known, length-map (all_runnables tasks) f)
@@ -93,35 +95,71 @@ known_within tasks name known =
 pub step_in_is : (model : SystemModel) (table : StepTable) (name : List ℕ) → AreStepsOf model.tasks table → has_name name (runnable_names (all_runnables model.tasks)) ≡ true
     → step_in table name ≡ step_named model name
 step_in_is model table name kept known =
-    ap (λ s. get_or s (unwrap_or (place_of name table.names) 0) no_step) kept.steps
-    ∙ ap (λ names. get_or (steps_from 0 model.tasks) (unwrap_or (place_of name names) 0) no_step) kept.names
-    ∙ step_stands model.tasks (unwrap_or (place_of name (runnable_names (all_runnables model.tasks))) 0) 0 no_step (known_within model.tasks name known)
+    ap (λ s. get_or s (unwrap_or (index_of name table.names) 0) no_step) kept.steps
+    ∙ ap (λ names. get_or (steps_from 0 model.tasks) (unwrap_or (index_of name names) 0) no_step) kept.names
+    ∙ step_stands model.tasks (unwrap_or (index_of name (runnable_names (all_runnables model.tasks))) 0) 0 no_step (known_within model.tasks name known)
 
 -- ---- the step that a name stands for
 
--- a step of tasks of which the first has the number j: the task k of them, and a place in it
-record Stands (tasks : List TaskDef) (j : ℕ) (step : Step) : Type 0 where
+-- step n of tasks of which the first has the number j: the task k of them, and a place in it, where runnable n stands
+record Stands (tasks : List TaskDef) (n j : ℕ) (step : Step) : Type 0 where
   k : ℕ
   task : step.task ≡ j + k
   known : k < length tasks
   place : step.place < length (get_or tasks k no_task).runnables
+  is : (d : RunnableDef) → get_or (all_runnables tasks) n d ≡ get_or (get_or tasks k no_task).runnables step.place d
 
-stands : (tasks : List TaskDef) (n j : ℕ) → n < length (all_runnables tasks) → Stands tasks j (step_from j tasks n)
+stands : (tasks : List TaskDef) (n j : ℕ) → n < length (all_runnables tasks) → Stands tasks n j (step_from j tasks n)
 stands [] n j lt = absurd (omega arith)
 stands (task ∷ tasks) n j lt =
     elim (nat_lt n (length task.runnables)) as (λ b. nat_lt n (length task.runnables) ≡ b
-    → Stands (task ∷ tasks) j (cond b (record { task = j; place = n }) (step_from (j + 1) tasks (n - length task.runnables)))) [
-      | true ↦ λ e. record { k = 0; task = omega arith; known = omega arith; place = ltb-true n (length task.runnables) e }
+    → Stands (task ∷ tasks) n j (cond b (record { task = j; place = n }) (step_from (j + 1) tasks (n - length task.runnables)))) [
+      | true ↦ λ e.
+          let within : n < length task.runnables = ltb-true n (length task.runnables) e in
+          record { k = 0; task = omega arith; known = omega arith; place = within; is = λ d. get_or_append_left task.runnables (all_runnables tasks) d n within }
       | false ↦ λ e.
           let past = ltb-false n (length task.runnables) e in
           let rest = stands tasks (n - length task.runnables) (j + 1) (omega (arith, length-append task.runnables (all_runnables tasks))) in
-          record { k = suc rest.k; task = omega (arith, rest.task); known = omega (arith, rest.known); place = rest.place }
+          record {
+            k = suc rest.k;
+            task = omega (arith, rest.task);
+            known = omega (arith, rest.known);
+            place = rest.place;
+            is = λ d. get_or-append_right task.runnables (all_runnables tasks) (length task.runnables) n d refl past ∙ rest.is d;
+          }
     ] refl
 
 -- a known name stands for a runnable of a task
 pub step_is_known : (model : SystemModel) (name : List ℕ) → has_name name (runnable_names (all_runnables model.tasks)) ≡ true
     → ((step_named model name).task < length model.tasks) × ((step_named model name).place < length (task_at model (step_named model name).task).runnables)
 step_is_known model name known =
-    let s = stands model.tasks (unwrap_or (place_of name (runnable_names (all_runnables model.tasks))) 0) 0 (known_within model.tasks name known) in
+    let s = stands model.tasks (unwrap_or (index_of name (runnable_names (all_runnables model.tasks))) 0) 0 (known_within model.tasks name known) in
     let same : (step_named model name).task ≡ s.k = omega (arith, s.task) in
     (omega (arith, same, s.known), rw same s.place)
+
+pub step_stands_in : (model : SystemModel) (name : List ℕ) → has_name name (runnable_names (all_runnables model.tasks)) ≡ true → IsStepOf model (step_named model name)
+step_stands_in model name known = let (task, place) = step_is_known model name known in record { known = task; place = place }
+
+-- the runnable that a known name is the number of
+pub numbered_runnable : (model : SystemModel) (name : List ℕ) → has_name name (runnable_names (all_runnables model.tasks)) ≡ true
+    → get_or (all_runnables model.tasks) (unwrap_or (index_of name (runnable_names (all_runnables model.tasks))) 0) no_runnable ≡ runnable_at model (step_named model name)
+numbered_runnable model name known =
+    let s = stands model.tasks (unwrap_or (index_of name (runnable_names (all_runnables model.tasks))) 0) 0 (known_within model.tasks name known) in
+    let same : (step_named model name).task ≡ s.k = omega (arith, s.task) in
+    s.is no_runnable ∙ ap (λ k. get_or (get_or model.tasks k no_task).runnables (step_named model name).place no_runnable) (sym same)
+
+-- it has the name
+pub step_has_name : (model : SystemModel) (name : List ℕ) → has_name name (runnable_names (all_runnables model.tasks)) ≡ true → (runnable_at model (step_named model name)).name ≡ name
+step_has_name model name known =
+    let n = unwrap_or (index_of name (runnable_names (all_runnables model.tasks))) 0 in
+    let f : RunnableDef → List ℕ = λ runnable. runnable.name in
+    ap f (sym (numbered_runnable model name known)) ∙ sym (get_or-map f (all_runnables model.tasks) n no_runnable [] (known_within model.tasks name known))
+    ∙ known_named name (runnable_names (all_runnables model.tasks)) known
+
+-- and is what is found by it
+pub runnable_found : (model : SystemModel) (name : List ℕ) → has_name name (runnable_names (all_runnables model.tasks)) ≡ true
+    → runnable_named model name ≡ Some (runnable_at model (step_named model name))
+runnable_found model name known =
+    let n = unwrap_or (index_of name (runnable_names (all_runnables model.tasks))) 0 in
+    ap (option_and_then (slice_get (all_runnables model.tasks))) (known_place name (runnable_names (all_runnables model.tasks)) known)
+    ∙ slice_get-get_or (all_runnables model.tasks) n no_runnable (known_within model.tasks name known) ∙ ap (λ r. Some r) (numbered_runnable model name known)

@@ -1,38 +1,71 @@
 -- What holds of the tasks of a valid model. Times are in ticks.
-use Rattle.std.proofs.Common.{◌≡◌, ℕ, zero, suc, ◌*◌, ◌<◌, ◌≤◌, Bool, true, false, Option, Some, None, List, [], ◌∷◌, ◌++◌, length, get_or, take, arith, nat_lt, nat_le}
+use Rattle.std.proofs.Common.{◌≡◌, ℕ, zero, suc, ◌*◌, ◌<◌, ◌≤◌, Bool, true, false, Option, Some, None, List, [], ◌∷◌, ◌++◌, length, get_or, take, refl, sym, ap, ◌∙◌, inl, inr, ◌-◌, ◌+◌, arith, nat_lt, nat_le}
 use Rattle.std.specs.Prelude.{unwrap_or, is_some, slice_get, All, ◌==◌}
 use Rattle.std.specs.List.{list_any}
 use Rattle.std.specs.Option.{option_map, option_and_then}
-use Rattle.std.proofs.lemmas.Bool.{ltb-false, leb-false, eqb-false, false≢true}
+use Rattle.std.proofs.lemmas.Bool.{cases_eq, ltb-false, leb-false, eqb-false, false≢true}
+use Rattle.std.proofs.Math.Nat.{suc-mul}
+use Rattle.std.proofs.lemmas.List.{take_all}
 use Rattle.std.proofs.lemmas.List.Sums.{sum_by-le, get_or-le-sum_by}
-use Rattle.cl_model.specs.declared.limits.TheConstants.{MOST_TICKS, MOST_RUNNABLES, MOST_TASKS_OF_CORE}
+use Rattle.cl_model.specs.declared.limits.TheConstants.{MOST_TICKS, MOST_RUNNABLES, MOST_RUNNABLES_OF_MODEL, MOST_TASKS_OF_CORE}
 use Rattle.cl_model.specs.declared.model.SystemModel.{SystemModel}
 use Rattle.cl_model.specs.declared.place.Part.TheVariants as part
 use Rattle.cl_model.specs.declared.refusal.Refusal.{Refusal}
 use Rattle.cl_model.specs.declared.stimulus.StimulusDef.{StimulusDef}
 use Rattle.cl_model.specs.declared.stimulus.StimulusKind.{StimulusKind}
+use Rattle.cl_model.specs.declared.stimulus.StimulusKind.TheVariants.{Periodic, Sporadic, Burst}
 use Rattle.cl_model.specs.declared.task.RunnableDef.{RunnableDef}
 use Rattle.cl_model.specs.declared.task.TaskDef.{TaskDef}
 use Rattle.cl_model.specs.Named.{is_some_and, core_names, label_names, kind_named, tasks_on, all_runnables, labels_written}
-use Rattle.cl_model.specs.OfTask.{no_stimulus, no_task, task_at, stimulus_of, deadline_of, jitter_of, greatest_time, time_of}
-use Rattle.cl_model.specs.Place.{entry_of, at_sub}
+use Rattle.cl_model.specs.ByNumber.{no_stimulus, no_task, no_runnable, task_at, stimulus_of, deadline_of, jitter_of, greatest_time, time_of}
+use Rattle.cl_model.specs.Place.{entry_of}
 use Rattle.cl_model.specs.Ranges.{IsKindInRange, IsRunnableInRange, IsTaskInRange}
-use Rattle.cl_model.specs.Timing.{least_distance, greatest_jitter, deadline_under}
-use Rattle.cl_model.specs.ValidNames.{has_no_distance, distance_check, stimulus_checks}
-use Rattle.cl_model.specs.ValidTasks.{core_check, stimulus_check, priority_check, late_check, release_check, room_check, empty_check, naming_checks, times_check, runnable_checks, step_check, body_checks, task_check}
-use Rattle.cl_model.specs.Validity.{IsValid, refusals_of}
+use Rattle.cl_model.specs.Refusals.{each}
+use Rattle.cl_model.specs.Timing.{IsKindOrdered, least_distance, greatest_distance, greatest_jitter, deadline_under}
+use Rattle.cl_model.specs.ValidNames.{has_late_offset, has_no_distance, has_long_burst, offset_check, distance_check, burst_check, stimulus_checks}
+use Rattle.cl_model.specs.ValidTasks.{core_check, stimulus_check, priority_check, late_check, release_check, room_check, empty_check, naming_checks, body_checks, count_check, task_check}
+use Rattle.cl_model.specs.Validity.{IsValid}
 use Rattle.cl_model.proofs.Refused.{none_before, none_behind, when_none, each_none}
-use Rattle.cl_model.proofs.ValidFacts.{tasks_pass, naming_passes, stimulus_known}
+use Rattle.cl_model.proofs.PassedChecks.{stimuli_pass, tasks_pass, naming_passes}
+use Rattle.cl_model.proofs.NoRefusals.{all_none}
+use Rattle.cl_model.proofs.NamesKnown.{stimulus_known}
+use Rattle.cl_model.proofs.RunnableChecks.{times_in_order}
 
 -- ---- stimuli
 
--- the least distance of a stimulus doesn't exceed the greatest
-pub distances_pass : (model : SystemModel) → IsValid model → (i : ℕ) (d : StimulusDef) → i < length model.stimuli
-    → has_no_distance (get_or model.stimuli i d).kind ≡ false
-unfolding refusals_of stimulus_checks
-distances_pass model valid i d h =
-    let stimuli = none_before _ _ (none_behind _ _ valid.accepted) in
-    when_none _ _ _ (each_none distance_check model.stimuli i d (none_before _ _ (none_behind _ _ stimuli)) h)
+-- its numbers are in order
+ordered_from : (kind : StimulusKind) → has_late_offset kind ≡ false → has_no_distance kind ≡ false → has_long_burst kind ≡ false → IsKindOrdered kind
+ordered_from (Periodic period offset jitter) early some fits = leb-false period offset early
+ordered_from (Sporadic least greatest) early some fits = ltb-false greatest least some
+ordered_from (Burst period offset count distance) early some fits = (leb-false period offset early, ltb-false period (count * distance) fits)
+
+pub kinds_ordered : (model : SystemModel) → IsValid model → All (λ (s : StimulusDef). IsKindOrdered s.kind) model.stimuli
+unfolding stimulus_checks
+kinds_ordered model valid i d h =
+    let parts = all_none (each offset_check model.stimuli ∷ each distance_check model.stimuli ∷ each burst_check model.stimuli ∷ []) (stimuli_pass model valid) in
+    ordered_from (get_or model.stimuli i d).kind (when_none _ _ _ (each_none offset_check model.stimuli i d parts.0 h))
+    (when_none _ _ _ (each_none distance_check model.stimuli i d parts.1.0 h)) (when_none _ _ _ (each_none burst_check model.stimuli i d parts.1.1.0 h))
+
+-- ---- distances
+
+-- a burst that fits its period ends a distance or more before the next
+burst_ends : (period count distance : ℕ) → 1 ≤ count → count * distance ≤ period → distance ≤ period - (count - 1) * distance
+burst_ends period zero distance some fits = absurd (omega arith)
+burst_ends period (suc count) distance some fits =
+    let last : (suc count - 1) * distance ≡ count * distance = ap (λ n. n * distance) (omega arith) in
+    let all : suc count * distance ≡ count * distance + distance = suc-mul count distance in
+    omega (arith, last, all)
+
+-- the least distance of a kind in order is positive and doesn't exceed the greatest
+kind_distance_positive : (kind : StimulusKind) → IsKindInRange kind → 1 ≤ least_distance kind
+kind_distance_positive (Periodic period offset jitter) in_range = in_range.0.0
+kind_distance_positive (Sporadic least greatest) in_range = in_range.0.0
+kind_distance_positive (Burst period offset count distance) in_range = in_range.3.0
+
+kind_distances_ordered : (kind : StimulusKind) → IsKindInRange kind → IsKindOrdered kind → least_distance kind ≤ greatest_distance kind
+kind_distances_ordered (Periodic period offset jitter) in_range ordered = omega arith
+kind_distances_ordered (Sporadic least greatest) in_range ordered = ordered
+kind_distances_ordered (Burst period offset count distance) in_range ordered = burst_ends period count distance (omega (arith, in_range.2.0)) ordered.1
 
 -- what holds of each stimulus holds of the one that is found
 found_at : (P : StimulusKind → Type 0) (stimuli : List StimulusDef) (n : ℕ) (d : StimulusKind)
@@ -86,6 +119,28 @@ naming model i task none =
     (release_check kind i task) (room_check (length earlier) i) (empty_check i task) none in
     record { priority = parts.0; late = parts.1; release = parts.2; room = parts.3; empty = parts.4 }
 
+-- ---- all tasks
+
+-- all tasks together have few runnables
+pub few_runnables : (model : SystemModel) → IsValid model → length (all_runnables model.tasks) ≤ MOST_RUNNABLES_OF_MODEL
+unfolding task_check
+few_runnables model valid =
+    elim (cases_eq (length model.tasks) 0) [
+      | inl none ↦ rw (empty_list model.tasks none) (omega arith)
+      | inr some ↦
+          let last = length model.tasks - 1 in
+          let i : last < length model.tasks = omega (arith, some) in
+          let task = task_at model last in
+          let parts = all_none (naming_checks model last task ∷ body_checks (label_names model) (labels_written (all_runnables (take last model.tasks))) (entry_of part.Task last) task ∷ count_check model last ∷ [])
+          (each_none (task_check model) model.tasks last no_task (tasks_pass model valid) i) in
+          let all = take_all (last + 1) model.tasks (omega (arith, some)) in
+          ltb-false _ _ (ap (λ tasks. nat_lt MOST_RUNNABLES_OF_MODEL (length (all_runnables tasks))) (sym all) ∙ when_none _ _ _ parts.1.1.0)
+    ]
+  where
+    empty_list : (tasks : List TaskDef) → length tasks ≡ 0 → tasks ≡ []
+    empty_list [] e = refl
+    empty_list (task ∷ tasks) e = absurd (omega arith)
+
 -- ---- a task
 
 -- a task in range takes few ticks
@@ -98,8 +153,17 @@ module _ (model : SystemModel) (valid : IsValid model) (i : ℕ) (h : i < length
   passes : Passes model i (task_at model i)
   passes = naming model i (task_at model i) (naming_passes model (tasks_pass model valid) i no_task h)
 
+  pub kind_ordered : IsKindOrdered (stimulus_of model i)
+  kind_ordered = kind_holds IsKindOrdered model valid (kinds_ordered model valid) i h
+
   pub kind_in_range : IsKindInRange (stimulus_of model i)
   kind_in_range = kind_holds IsKindInRange model valid (λ n e lt. valid.in_range.stimuli n e lt) i h
+
+  pub distance_positive : 1 ≤ least_distance (stimulus_of model i)
+  distance_positive = kind_distance_positive (stimulus_of model i) kind_in_range
+
+  pub distances_ordered : least_distance (stimulus_of model i) ≤ greatest_distance (stimulus_of model i)
+  distances_ordered = kind_distances_ordered (stimulus_of model i) kind_in_range kind_ordered
 
   -- a job is due before the next one arrives
   pub early_enough : deadline_of model i ≤ least_distance (stimulus_of model i)
@@ -130,21 +194,11 @@ module _ (model : SystemModel) (valid : IsValid model) (i : ℕ) (h : i < length
   runnables_in_range = (valid.in_range.tasks i no_task h).runnables
 
   pub times_ordered : All (λ (runnable : RunnableDef). runnable.least ≤ runnable.greatest) (task_at model i).runnables
-  unfolding task_check runnable_checks
-  times_ordered p d lt =
-      let task = task_at model i in
-      let known = label_names model in
-      let written = labels_written (all_runnables (take i model.tasks)) in
-      let place = entry_of part.Task i in
-      let all = each_none (task_check model) model.tasks i no_task (tasks_pass model valid) h in
-      let body = none_before (body_checks known written place task) _ (none_behind (naming_checks model i task) _ all) in
-      let step = each_none (step_check known written place task) task.runnables p d body lt in
-      ltb-false _ _ (when_none _ _ _ (none_before (times_check (at_sub p place) (get_or task.runnables p d)) _ step))
+  times_ordered p d lt = times_in_order model valid i p d h lt
 
   -- a job takes time, and not too much
   pub some_time : 1 ≤ time_of model i
   some_time =
-      let no_runnable : RunnableDef = record { name = []; least = 0; greatest = 0; reads = []; writes = [] } in
       let first = get_or-le-sum_by (λ (runnable : RunnableDef). runnable.greatest) (task_at model i).runnables 0 no_runnable has_runnable in
       omega (arith, first, (runnables_in_range 0 no_runnable has_runnable).greatest.0)
 

@@ -5,20 +5,33 @@ use Rattle.cl_model.specs.declared.task.TaskDef.{TaskDef}
 use Rattle.cl_model.specs.declared.chain.ChainDef.{ChainDef}
 use Rattle.cl_model.specs.declared.group.Group.{Group}
 use Rattle.cl_model.specs.declared.group.Step.{Step}
-use Rattle.cl_model.specs.Named.{place_of, runnable_names, all_runnables}
-use Rattle.cl_model.specs.OfTask.{task_at}
+use Rattle.cl_model.specs.Named.{index_of, runnable_names, all_runnables}
+use Rattle.cl_model.specs.ByNumber.{task_at, chain_at}
 
 -- ---- steps
 
 -- the task and the place of runnable n, counted over all tasks, of which the first has the number i
-abbrev pub step_from : ℕ → List TaskDef → ℕ → Step
+abbrev pub step_from : (i : ℕ) → List TaskDef → (n : ℕ) → Step
 step_from i [] n = record { task = i; place = n }
 step_from i (task ∷ tasks) n =
     if nat_lt n (length task.runnables) then record { task = i; place = n } else step_from (i + 1) tasks (n - length task.runnables)
 
 -- the step that a chain names
 abbrev pub step_named : SystemModel → List ℕ → Step
-step_named model name = step_from 0 model.tasks (unwrap_or (place_of name (runnable_names (all_runnables model.tasks))) 0)
+step_named model name = step_from 0 model.tasks (unwrap_or (index_of name (runnable_names (all_runnables model.tasks))) 0)
+
+-- a step that is a runnable of a task
+pub record IsStepOf (model : SystemModel) (step : Step) : Type 0 where
+  pub known : step.task < length model.tasks
+  pub place : step.place < length (task_at model step.task).runnables
+
+-- what stands past the last step
+unfoldable pub no_step : Step
+no_step = record { task = 0; place = 0 }
+
+-- the step at a place of a list
+abbrev pub step_at : List Step → ℕ → Step
+step_at steps k = slice_index_or steps k no_step
 
 -- the steps of a chain
 abbrev pub steps_of : SystemModel → ChainDef → List Step
@@ -29,6 +42,10 @@ steps_of model chain = map (step_named model) chain.runnables
 -- what stands past the last group
 unfoldable pub no_group : Group
 no_group = record { task = 0; first = 0; last = 0 }
+
+-- the group at a place of a list
+abbrev pub group_at : List Group → ℕ → Group
+group_at groups k = slice_index_or groups k no_group
 
 -- the hop from a group to the next step is inner: both stand in one task, and the writer stands before the reader
 abbrev pub is_inner : Group → Step → Bool
@@ -55,13 +72,9 @@ groups (step ∷ steps) = groups_from (group_of_step step) steps
 unfoldable pub groups_of : SystemModel → ChainDef → List Group
 groups_of model chain = groups (steps_of model chain)
 
--- what stands past the last chain
-unfoldable pub no_chain : ChainDef
-no_chain = record { name = []; runnables = []; labels = [] }
-
 -- the groups of the chain of a number
 abbrev pub groups_at : SystemModel → ℕ → List Group
-groups_at model chain = groups_of model (slice_index_or model.chains chain no_chain)
+groups_at model chain = groups_of model (chain_at model chain)
 
 -- a group that stands in a task: the places of its first and last runnable are in order and in the task
 pub record IsGroupOf (model : SystemModel) (group : Group) : Type 0 where

@@ -2,7 +2,9 @@ pub mod Name
 pub mod Place
 pub mod Refusal
 pub mod Refusals
+pub mod Answers
 pub mod Reading
+pub mod AreNamed
 pub mod Ranges
 pub mod Named
 pub mod NameSets
@@ -10,7 +12,8 @@ pub mod Timing
 pub mod ValidNames
 pub mod ValidTasks
 pub mod Validity
-pub mod OfTask
+pub mod ByNumber
 pub mod Groups
-pub mod Steps
-pub mod ValidModel
+pub mod MaximalRuns
+pub mod KnownNames
+pub mod Inner

@@ -17,12 +17,12 @@ abbrev pub has_name : List ℕ → List (List ℕ) → Bool
 has_name name names = list_any (same_name name) names
 
 -- the place of a name in a list
-abbrev pub place_of : List ℕ → List (List ℕ) → Option ℕ
-place_of name names = position (same_name name) names
+abbrev pub index_of : List ℕ → List (List ℕ) → Option ℕ
+index_of name names = position (same_name name) names
 
 -- the entry whose name has that place
 abbrev pub entry_named : {X : Type 0} → List ℕ → List (List ℕ) → List X → Option X
-entry_named name names entries = option_and_then (slice_get entries) (place_of name names)
+entry_named name names entries = option_and_then (slice_get entries) (index_of name names)
 
 -- whether there is a value, and it passes the test
 abbrev pub is_some_and : {X : Type 0} → Option X → (X → Bool) → Bool

@@ -8,12 +8,12 @@ use Rattle.cl_model.specs.declared.place.Key.TheVariants as key
 use Rattle.cl_model.specs.declared.place.Place.{Place}
 
 -- a part as a whole
-abbrev pub whole : Part → Place
-whole p = record { part = p; item = None; sub = None; key = None; spot = None }
+abbrev pub section_place : Part → Place
+section_place p = record { part = p; item = None; sub = None; key = None; spot = None }
 
 -- the top level of the file
 abbrev pub top : Place
-top = whole part.Top
+top = section_place part.Top
 
 -- an entry of a section
 abbrev pub at_item : ℕ → Place → Place
@@ -21,7 +21,7 @@ at_item n place = record place { item = Some n }
 
 -- entry n of a section
 abbrev pub entry_of : Part → ℕ → Place
-entry_of section n = at_item n (whole section)
+entry_of section n = at_item n (section_place section)
 
 -- a runnable of a task
 abbrev pub at_sub : ℕ → Place → Place
@@ -60,8 +60,11 @@ key_text key.Kind = codes "kind"
 key_text key.Period = codes "period"
 key_text key.Offset = codes "offset"
 key_text key.Jitter = codes "jitter"
+key_text key.Count = codes "count"
+key_text key.Distance = codes "distance"
 key_text key.Least = codes "least"
 key_text key.Greatest = codes "greatest"
+key_text key.Whole = codes "whole"
 key_text key.Priority = codes "priority"
 key_text key.Access = codes "access"
 key_text key.Deadline = codes "deadline"

@@ -1,10 +1,10 @@
 -- The ranges of a model: how many entries each part may have, and which numbers. Times are in ticks.
 -- Source: this project's profile.
 use Rattle.std.specs.Prelude.{ℕ, ◌≤◌, length, All, IfSome}
-use Rattle.cl_model.specs.declared.limits.TheConstants.{MOST_TICKS, MOST_REQUIRED, MOST_PRIORITY, MOST_CORES, MOST_STIMULI, MOST_LABELS, MOST_TASKS, MOST_RUNNABLES, MOST_ACCESSES, MOST_CHAINS, MOST_STEPS, MOST_HOPS, MOST_REQUIREMENTS}
+use Rattle.cl_model.specs.declared.limits.TheConstants.{MOST_TICKS, MOST_REQUIRED, MOST_PRIORITY, MOST_CORES, MOST_STIMULI, MOST_LABELS, MOST_TASKS, MOST_RUNNABLES, MOST_ACCESSES, MOST_CHAINS, MOST_STEPS, MOST_HOPS, MOST_REQUIREMENTS, LEAST_JOBS_OF_BURST, MOST_JOBS_OF_BURST}
 use Rattle.cl_model.specs.declared.model.SystemModel.{SystemModel}
 use Rattle.cl_model.specs.declared.stimulus.StimulusKind.{StimulusKind}
-use Rattle.cl_model.specs.declared.stimulus.StimulusKind.TheVariants.{Periodic, Sporadic}
+use Rattle.cl_model.specs.declared.stimulus.StimulusKind.TheVariants.{Periodic, Sporadic, Burst}
 use Rattle.cl_model.specs.declared.task.RunnableDef.{RunnableDef}
 use Rattle.cl_model.specs.declared.task.TaskDef.{TaskDef}
 use Rattle.cl_model.specs.declared.chain.ChainDef.{ChainDef}
@@ -13,10 +13,15 @@ use Rattle.cl_model.specs.declared.chain.ChainDef.{ChainDef}
 abbrev pub IsTime : ℕ → Type 0
 IsTime n = (1 ≤ n) × (n ≤ MOST_TICKS)
 
+-- how many jobs a burst has
+abbrev pub IsBurstCount : ℕ → Type 0
+IsBurstCount n = (LEAST_JOBS_OF_BURST ≤ n) × (n ≤ MOST_JOBS_OF_BURST)
+
 -- the numbers of a kind of stimulus
 abbrev pub IsKindInRange : StimulusKind → Type 0
 IsKindInRange (Periodic period offset jitter) = IsTime period × (offset ≤ MOST_TICKS) × (jitter ≤ MOST_TICKS)
 IsKindInRange (Sporadic least greatest) = IsTime least × IsTime greatest
+IsKindInRange (Burst period offset count distance) = IsTime period × (offset ≤ MOST_TICKS) × IsBurstCount count × IsTime distance
 
 -- the times of a runnable, and how many labels it reads and writes
 pub record IsRunnableInRange (r : RunnableDef) : Type 0 where

@@ -1,15 +1,15 @@
 -- The checks of the names and of the stimuli of a model. Source: this project's profile.
-use Rattle.std.specs.Prelude.{ℕ, Bool, false, nat_lt, nat_le, List, [], ◌∷◌, ◌++◌, take}
+use Rattle.std.specs.Prelude.{ℕ, ◌*◌, Bool, false, nat_lt, nat_le, List, [], ◌∷◌, ◌++◌, take}
 use Rattle.cl_model.specs.declared.place.Part.{Part}
 use Rattle.cl_model.specs.declared.place.Part.TheVariants as part
 use Rattle.cl_model.specs.declared.place.Key.TheVariants as key
 use Rattle.cl_model.specs.declared.place.Place.{Place}
 use Rattle.cl_model.specs.declared.refusal.Code.{Code}
-use Rattle.cl_model.specs.declared.refusal.Code.TheVariants.{M20, M21, M22, M23, M24, M25, M26, M27, M28}
+use Rattle.cl_model.specs.declared.refusal.Code.TheVariants.{M20, M21, M22, M23, M24, M25, M26, M27, M28, M47}
 use Rattle.cl_model.specs.declared.refusal.Refusal.{Refusal}
 use Rattle.cl_model.specs.declared.stimulus.StimulusDef.{StimulusDef}
 use Rattle.cl_model.specs.declared.stimulus.StimulusKind.{StimulusKind}
-use Rattle.cl_model.specs.declared.stimulus.StimulusKind.TheVariants.{Periodic, Sporadic}
+use Rattle.cl_model.specs.declared.stimulus.StimulusKind.TheVariants.{Periodic, Sporadic, Burst}
 use Rattle.cl_model.specs.declared.task.TaskDef.{TaskDef}
 use Rattle.cl_model.specs.declared.model.SystemModel.{SystemModel}
 use Rattle.cl_model.specs.Named.{has_name, core_names, stimulus_names, label_names, task_names, chain_names, requirement_names, runnable_names, all_runnables}
@@ -53,11 +53,19 @@ name_checks model =
 abbrev pub has_late_offset : StimulusKind → Bool
 has_late_offset (Periodic period offset jitter) = nat_le period offset
 has_late_offset (Sporadic least greatest) = false
+has_late_offset (Burst period offset count distance) = nat_le period offset
 
 -- whether the least distance exceeds the greatest
 abbrev pub has_no_distance : StimulusKind → Bool
 has_no_distance (Periodic period offset jitter) = false
 has_no_distance (Sporadic least greatest) = nat_lt greatest least
+has_no_distance (Burst period offset count distance) = false
+
+-- whether a burst doesn't fit its period
+abbrev pub has_long_burst : StimulusKind → Bool
+has_long_burst (Periodic period offset jitter) = false
+has_long_burst (Sporadic least greatest) = false
+has_long_burst (Burst period offset count distance) = nat_lt period (count * distance)
 
 -- M27, for stimulus i
 abbrev pub offset_check : ℕ → StimulusDef → List Refusal
@@ -67,6 +75,10 @@ offset_check i stimulus = when (has_late_offset stimulus.kind) M27 (at_key key.O
 abbrev pub distance_check : ℕ → StimulusDef → List Refusal
 distance_check i stimulus = when (has_no_distance stimulus.kind) M28 (at_key key.Greatest (entry_of part.Stimulus i))
 
--- M27 for each stimulus, and then M28 for each
+-- M47, for stimulus i
+abbrev pub burst_check : ℕ → StimulusDef → List Refusal
+burst_check i stimulus = when (has_long_burst stimulus.kind) M47 (at_key key.Distance (entry_of part.Stimulus i))
+
+-- M27 for each stimulus, then M28 for each, and then M47 for each
 unfoldable pub stimulus_checks : SystemModel → List Refusal
-stimulus_checks model = in_order (each offset_check model.stimuli ∷ each distance_check model.stimuli ∷ [])
+stimulus_checks model = in_order (each offset_check model.stimuli ∷ each distance_check model.stimuli ∷ each burst_check model.stimuli ∷ [])

@@ -46,7 +46,7 @@ abbrev pub release_check : Option StimulusKind → ℕ → TaskDef → List Refu
 release_check kind i task = when (is_some_and kind (λ kind. nat_le (deadline_under kind task) (greatest_jitter kind))) M33 (task_key i key.Stimulus)
 
 -- M34: its core isn't full before it
-abbrev pub room_check : ℕ → ℕ → List Refusal
+abbrev pub room_check : (earlier i : ℕ) → List Refusal
 room_check earlier i = when (earlier == MOST_TASKS_OF_CORE) M34 (task_key i key.Core)
 
 -- M35: it has a runnable
@@ -109,13 +109,13 @@ runnable_checks known written place runnable =
     ∷ [])
 
 -- the checks of runnable p of a task
-abbrev pub step_check : List (List ℕ) → List (List ℕ) → Place → TaskDef → ℕ → RunnableDef → List Refusal
-step_check known written place task p runnable =
+abbrev pub body_check : List (List ℕ) → List (List ℕ) → Place → TaskDef → ℕ → RunnableDef → List Refusal
+body_check known written place task p runnable =
     runnable_checks known (written ++ labels_written (take p task.runnables)) (at_sub p place) runnable
 
 -- the checks of each runnable of a task
 abbrev pub body_checks : List (List ℕ) → List (List ℕ) → Place → TaskDef → List Refusal
-body_checks known written place task = each (step_check known written place task) task.runnables
+body_checks known written place task = each (body_check known written place task) task.runnables
 
 -- ---- all tasks
 
@@ -136,7 +136,7 @@ abbrev pub task_checks : SystemModel → List Refusal
 task_checks model = each (task_check model) model.tasks
 
 -- whether a deadline, with the jitter of a task of higher priority, spans too many least distances of that task
-abbrev pub spans_too_many : ℕ → StimulusKind → Bool
+abbrev pub spans_too_many : (deadline : ℕ) → StimulusKind → Bool
 spans_too_many deadline above = nat_lt (MOST_DISTANCES * least_distance above) (deadline + greatest_jitter above)
 
 -- whether that holds of a task and another one, which has a higher priority

@@ -4,7 +4,7 @@ ghost use Rattle.cl_model.specs.Groups.{groups, groups_of};
 ghost use Rattle.cl_model.specs.Named.{has_name, runnable_names, all_runnables};
 ghost use Rattle.cl_model.specs.Ranges.{IsTaskInRange};
 ghost use Rattle.cl_model.specs.Refusals.{each};
-ghost use Rattle.cl_model.specs.Steps.{steps_in, steps_from, step_in, AreStepsOf};
+ghost use Rattle.cl_model.specs.Inner.StepTable.{steps_in, steps_from, step_in, AreStepsOf};
 ghost use Rattle.cl_model.specs.ValidNames.{runnable_repeats};
 ghost use Rattle.cl_model.specs.Validity.{IsValid};
 

@@ -15,6 +15,12 @@ pub const MOST_CORES: usize = 64;
 /// The most stimuli.
 pub const MOST_STIMULI: usize = 1_024;
 
+/// The fewest jobs of one burst.
+pub const LEAST_JOBS_OF_BURST: u64 = 2;
+
+/// The most jobs of one burst.
+pub const MOST_JOBS_OF_BURST: u64 = 1_000_000;
+
 /// The most labels.
 pub const MOST_LABELS: usize = 8_192;
 

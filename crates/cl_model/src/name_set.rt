@@ -1,6 +1,6 @@
 //! Names that are numbered and found by their bytes.
 ghost use Rattle.std.specs.Prelude.{◌≡◌, ◌<◌, [], ◌∷◌, ◌++◌, not, length, IfOk, OnOk, OnErr, IfSome, is_some};
-ghost use Rattle.cl_model.specs.Named.{has_name, place_of};
+ghost use Rattle.cl_model.specs.Named.{has_name, index_of};
 ghost use Rattle.cl_model.specs.NameSets.{names_with};
 
 use crate::name::Name;
@@ -58,7 +58,7 @@ impl NameSet {
 
     /// The number of a name, counted from 0. There is none exactly where the name isn't there.
     pub fn number_of(&self, name: &Name) -> Option<usize>
-        ensures number { result ≡ place_of name.now self.now }
+        ensures number { result ≡ index_of name.now self.now }
         ensures found { is_some result ≡ has_name name.now self.now }
         ensures within { IfSome result (λ number. number < length self.now) }
     {

@@ -1,6 +1,6 @@
 //! Places in a model file.
 ghost use Rattle.std.specs.Prelude.{◌≡◌, Some};
-ghost use Rattle.cl_model.specs.Place.{whole, top, at_item, at_sub, at_key, at_spot, part_text, key_text, index_text, sub_text, dotted_text, place_text};
+ghost use Rattle.cl_model.specs.Place.{section_place, top, at_item, at_sub, at_key, at_spot, part_text, key_text, index_text, sub_text, dotted_text, place_text};
 
 use std::fmt;
 
@@ -32,8 +32,11 @@ pub enum Key {
     Period,
     Offset,
     Jitter,
+    Count,
+    Distance,
     Least,
     Greatest,
+    Whole,
     Priority,
     Access,
     Deadline,
@@ -60,8 +63,8 @@ pub struct Place {
 
 impl Part {
     /// The part as a whole.
-    pub fn whole(self) -> Place
-        ensures { result ≡ whole self }
+    pub fn section_place(self) -> Place
+        ensures { result ≡ section_place self }
     {
         Place {
             part: self,
@@ -107,8 +110,11 @@ impl Key {
             Key::Period => "period",
             Key::Offset => "offset",
             Key::Jitter => "jitter",
+            Key::Count => "count",
+            Key::Distance => "distance",
             Key::Least => "least",
             Key::Greatest => "greatest",
+            Key::Whole => "whole",
             Key::Priority => "priority",
             Key::Access => "access",
             Key::Deadline => "deadline",
@@ -127,7 +133,7 @@ impl Place {
     pub fn top() -> Place
         ensures { result ≡ top }
     {
-        Part::Top.whole()
+        Part::Top.section_place()
     }
 
     /// An entry of this section.

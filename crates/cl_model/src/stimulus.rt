@@ -1,4 +1,7 @@
 //! Stimuli: the patterns by which jobs of tasks arrive. Times are in ticks.
+ghost use Rattle.std.specs.Prelude.{◌≡◌};
+ghost use Rattle.cl_model.specs.Timing.{least_distance, greatest_distance, greatest_jitter};
+
 use crate::copying::TryCopy;
 use crate::name::Name;
 use cl_time::NoMemory;
@@ -18,6 +21,14 @@ pub enum StimulusKind {
         least: u64,
         greatest: u64,
     },
+    /// Jobs arrive in bursts of `count`: job `q * count + r`, where `r < count`, arrives at
+    /// `offset + q * period + r * distance`, and each is released as it arrives.
+    Burst {
+        period: u64,
+        offset: u64,
+        count: u64,
+        distance: u64,
+    },
 }
 
 /// A stimulus, which tasks name.
@@ -25,6 +36,45 @@ pub enum StimulusKind {
 pub struct StimulusDef {
     pub name: Name,
     pub kind: StimulusKind,
+}
+
+impl StimulusKind {
+    /// The least distance between two arrivals.
+    pub fn least_distance(self) -> u64
+        ensures { result ≡ least_distance self }
+    {
+        match self {
+            StimulusKind::Periodic { period, .. } => period,
+            StimulusKind::Sporadic { least, .. } => least,
+            StimulusKind::Burst { distance, .. } => distance,
+        }
+    }
+
+    /// The greatest distance between two arrivals.
+    pub fn greatest_distance(self) -> u64
+        ensures { result ≡ greatest_distance self }
+    {
+        match self {
+            StimulusKind::Periodic { period, .. } => period,
+            StimulusKind::Sporadic { greatest, .. } => greatest,
+            StimulusKind::Burst {
+                period,
+                count,
+                distance,
+                ..
+            } => period.saturating_sub(count.saturating_sub(1).saturating_mul(distance)),
+        }
+    }
+
+    /// How long after its arrival a job is released at most.
+    pub fn greatest_jitter(self) -> u64
+        ensures { result ≡ greatest_jitter self }
+    {
+        match self {
+            StimulusKind::Periodic { jitter, .. } => jitter,
+            StimulusKind::Sporadic { .. } | StimulusKind::Burst { .. } => 0,
+        }
+    }
 }
 
 impl TryCopy for StimulusDef {

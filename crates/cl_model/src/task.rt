@@ -1,7 +1,11 @@
 //! Tasks and the runnables that a job of a task executes. Times are in ticks.
+ghost use Rattle.std.specs.Prelude.{◌≡◌};
+ghost use Rattle.cl_model.specs.Timing.{deadline_under};
+
 use crate::copying::TryCopy;
 use crate::list::List;
 use crate::name::Name;
+use crate::stimulus::StimulusKind;
 use cl_time::NoMemory;
 use std::alloc::Global;
 
@@ -24,6 +28,8 @@ pub struct RunnableDef {
     pub least: u64,
     /// The greatest execution time.
     pub greatest: u64,
+    /// Whether it runs to its end without a break once it has started.
+    pub whole: bool,
     pub reads: List<Name>,
     pub writes: List<Name>,
 }
@@ -43,12 +49,22 @@ pub struct TaskDef {
     pub runnables: List<RunnableDef>,
 }
 
+impl TaskDef {
+    /// The deadline that is given, or else the least distance of the task's stimulus.
+    pub fn deadline_under(&self, kind: StimulusKind) -> u64
+        ensures { result ≡ deadline_under kind self.now }
+    {
+        self.deadline.unwrap_or(kind.least_distance())
+    }
+}
+
 impl TryCopy for RunnableDef {
     fn try_copy(&self, alloc: Global) -> Result<RunnableDef, NoMemory> {
         Ok(RunnableDef {
             name: self.name.copy(),
             least: self.least,
             greatest: self.greatest,
+            whole: self.whole,
             reads: self.reads.try_copy(alloc)?,
             writes: self.writes.try_copy(alloc)?,
         })

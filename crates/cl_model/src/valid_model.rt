@@ -1,11 +1,11 @@
 //! Valid models, which answer in constant time.
 ghost use Rattle.std.specs.Prelude.{◌≡◌, ◌<◌, length, slice_index_or, IfOk, IfErr, IfSome, All};
 ghost use Rattle.cl_model.specs.Groups.{no_group, groups_at, IsGroupOf};
-ghost use Rattle.cl_model.specs.OfTask.{core_of, stimulus_of, deadline_of, jitter_of, time_of, tasks_of_core, task_named};
+ghost use Rattle.cl_model.specs.ByNumber.{core_of, stimulus_of, deadline_of, jitter_of, time_of, tasks_of_core, task_named, chain_named};
 ghost use Rattle.cl_model.specs.Validity.{IsValid};
 
 use crate::group::Group;
-use crate::kept::{Kept, keep_beside};
+use crate::look_ups::{LookUps, look_ups_of};
 use crate::model::SystemModel;
 use crate::name::Name;
 use crate::stimulus::StimulusKind;
@@ -17,7 +17,7 @@ use std::marker::Model;
 #[derive(Drop)]
 pub struct ValidModel {
     model: SystemModel,
-    kept: Kept,
+    look_ups: LookUps,
 }
 
 impl Model for ValidModel {
@@ -25,11 +25,11 @@ impl Model for ValidModel {
 
     ghost Value = { SystemModel };
 
-    ghost use Rattle.cl_model.specs.ValidModel.{IsKept};
+    ghost use Rattle.cl_model.specs.Inner.LookUps.{HasItsLookUps};
 
     ghost view = { λ a. a.model };
 
-    ghost invariant = { IsKept };
+    ghost invariant = { HasItsLookUps };
 }
 
 impl ValidModel {
@@ -40,8 +40,8 @@ impl ValidModel {
         ensures ok { IfOk result (λ valid. valid ≡ model) }
         ensures err { IfErr result (λ error. error.0 ≡ model) }
     {
-        match keep_beside(alloc, &model) {
-            Ok(kept) => Ok(ValidModel { model, kept }),
+        match look_ups_of(alloc, &model) {
+            Ok(look_ups) => Ok(ValidModel { model, look_ups }),
             Err(no_memory) => Err((model, no_memory)),
         }
     }
@@ -81,7 +81,7 @@ impl ValidModel {
         ensures core { result ≡ core_of self.now task }
         ensures within { result < length self.now.cores }
     {
-        self.kept.cores[task as usize]
+        self.look_ups.cores[task as usize]
     }
 
     /// The kind of the stimulus of a task.
@@ -89,7 +89,7 @@ impl ValidModel {
         requires { task < length self.now.tasks }
         ensures { result ≡ stimulus_of self.now task }
     {
-        self.kept.stimuli[task as usize]
+        self.look_ups.stimuli[task as usize]
     }
 
     /// The deadline of a task in ticks from its arrival: the one that is given, or the least distance between arrivals.
@@ -113,7 +113,7 @@ impl ValidModel {
         requires { task < length self.now.tasks }
         ensures { result ≡ time_of self.now task }
     {
-        self.kept.times[task as usize]
+        self.look_ups.times[task as usize]
     }
 
     /// The numbers of the tasks of a core, in file order.
@@ -122,7 +122,7 @@ impl ValidModel {
         ensures tasks { result.now ≡ tasks_of_core self.now core }
         ensures within { All (λ task. task < length self.now.tasks) result.now }
     {
-        self.kept.on_cores[core as usize].as_slice()
+        self.look_ups.on_cores[core as usize].as_slice()
     }
 
     /// How many groups the steps of a chain make: one or more.
@@ -131,7 +131,7 @@ impl ValidModel {
         ensures count { result ≡ length (groups_at self.now chain) }
         ensures some { 0 < result }
     {
-        self.kept.groups[chain as usize].len() as u32
+        self.look_ups.groups[chain as usize].len() as u32
     }
 
     /// The group of a chain at a place, counted from 0.
@@ -141,7 +141,7 @@ impl ValidModel {
         ensures group { result ≡ slice_index_or (groups_at self.now chain) place no_group }
         ensures of_task { IsGroupOf self.now result }
     {
-        self.kept.groups[chain as usize].as_slice()[place as usize]
+        self.look_ups.groups[chain as usize].as_slice()[place as usize]
     }
 
     /// The number of the task of that name. There is none exactly where no task has it.
@@ -149,7 +149,16 @@ impl ValidModel {
         ensures number { result ≡ task_named self.now name.now }
         ensures within { IfSome result (λ task. task < length self.now.tasks) }
     {
-        let number = self.kept.tasks.number_of(name)?;
+        let number = self.look_ups.tasks.number_of(name)?;
+        Some(number as u32)
+    }
+
+    /// The number of the chain of that name. There is none exactly where no chain has it.
+    pub fn chain_named(&self, name: &Name) -> Option<u32>
+        ensures number { result ≡ chain_named self.now name.now }
+        ensures within { IfSome result (λ chain. chain < length self.now.chains) }
+    {
+        let number = self.look_ups.chains.number_of(name)?;
         Some(number as u32)
     }
 

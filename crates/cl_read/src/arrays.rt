@@ -7,20 +7,19 @@ ghost use Rattle.cl_model.specs.declared.refusal.Refusal.{Refusal};
 ghost use Rattle.cl_model.specs.Reading.Checks.{an_array, found_or};
 ghost use Rattle.cl_model.specs.Refusals.{each_from};
 ghost use Rattle.cl_model.specs.Reading.Meanings.{list_of};
-ghost use Rattle.cl_read.specs.Answers.{Answers};
+ghost use Rattle.cl_model.specs.Answers.{Answers};
 
-use crate::fault::{ReadFault, refused};
-use cl_model::{Code, List, Place};
+use cl_model::{Code, List, ModelFault, Place};
 use std::alloc::Global;
 use toml::Value;
 
 /// What an array of a document may hold.
 pub(crate) trait Member: Drop {
-    /// The checks of a member at its place.
-    ghost checks: { Spot → Data → Items Refusal };
+    /// The checks of a member at its place, by the version of the file.
+    ghost checks: { ℕ → Spot → Data → Items Refusal };
 
-    /// What a member means where nothing is refused.
-    ghost meaning: { Data → Self };
+    /// What a member means where nothing is refused, by the version of the file.
+    ghost meaning: { ℕ → Data → Self };
 
     /// The place of the member of a number in the array at a place.
     ghost place_in: { ℕ → Spot → Spot };
@@ -28,20 +27,26 @@ pub(crate) trait Member: Drop {
     fn place_in(array: Place, number: u32) -> Place
         ensures { result ≡ place_in number array };
 
-    fn read(alloc: Global, place: Place, value: &Value) -> Result<Self, ReadFault>
+    fn read(alloc: Global, version: u64, place: Place, value: &Value) -> Result<Self, ModelFault>
         ensures { let d = view value.now in
-            Answers result (checks place d) (meaning d) };
+            Answers result (checks version place d) (meaning version d) };
 }
 
 /// The members of an array, numbered from 0.
-fn members<T: Member>(alloc: Global, place: Place, values: &[Value]) -> Result<List<T>, ReadFault>
+fn members<T: Member>(
+    alloc: Global,
+    version: u64,
+    place: Place,
+    values: &[Value],
+) -> Result<List<T>, ModelFault>
     requires { length values.now ≤ u32.MAX }
     ensures { let ds = map view values.now in
-        Answers result (each_from 0 (λ n. T.checks (T.place_in n place)) ds) (map T.meaning ds) }
+        Answers result (each_from 0 (λ n. T.checks version (T.place_in n place)) ds) (map (T.meaning version) ds) }
 {
     let mut members = List::new(alloc);
     for (i, value) in values.iter().enumerate() {
-        members.push(T::read(alloc, T::place_in(place, i as u32), value)?)?;
+        let member = T::read(alloc, version, T::place_in(place, i as u32), value)?;
+        members.push(member)?;
     }
     Ok(members)
 }
@@ -49,40 +54,42 @@ fn members<T: Member>(alloc: Global, place: Place, values: &[Value]) -> Result<L
 /// An array of at most `limit` members.
 pub(crate) fn array<T: Member>(
     alloc: Global,
+    version: u64,
     place: Place,
     limit: usize,
     value: &Value,
-) -> Result<List<T>, ReadFault>
+) -> Result<List<T>, ModelFault>
     requires { limit ≤ u32.MAX }
     ensures { let d = view value.now in
-        Answers result (an_array limit T.place_in T.checks place d) (map T.meaning (list_of d)) }
+        Answers result (an_array limit T.place_in (T.checks version) place d) (map (T.meaning version) (list_of d)) }
 {
     match value {
         Value::Array(values) => {
             if values.len() > limit {
-                return Err(refused(Code::M10, place));
+                return Err(ModelFault::refused(Code::M10, place));
             }
-            members(alloc, place, values.as_slice())
+            members(alloc, version, place, values.as_slice())
         }
-        _ => Err(refused(Code::M6, place)),
+        _ => Err(ModelFault::refused(Code::M6, place)),
     }
 }
 
 /// The array at a place, none where it is absent.
 pub(crate) fn array_or_none<T: Member>(
     alloc: Global,
+    version: u64,
     place: Place,
     limit: usize,
     found: Option<&Value>,
-) -> Result<List<T>, ReadFault>
+) -> Result<List<T>, ModelFault>
     requires { limit ≤ u32.MAX }
     ensures { let value = option_map (λ value. view value.now) found.entry in
         Answers result
-        (found_or [] (an_array limit T.place_in T.checks place) value)
-        (found_or [] (λ d. map T.meaning (list_of d)) value) }
+        (found_or [] (an_array limit T.place_in (T.checks version) place) value)
+        (found_or [] (λ d. map (T.meaning version) (list_of d)) value) }
 {
     match found {
-        Some(value) => array(alloc, place, limit, value),
+        Some(value) => array(alloc, version, place, limit, value),
         None => Ok(List::new(alloc)),
     }
 }

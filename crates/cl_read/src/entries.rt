@@ -7,24 +7,23 @@ ghost use Rattle.cl_model.specs.Place.{at_item, at_sub, at_spot};
 ghost use Rattle.cl_model.specs.Reading.Checks.{a_name, a_table_of, fields_checks, field_checks, optional, names};
 ghost use Rattle.cl_model.specs.Reading.Meanings.{text_of, table_of, names_at, tables_at};
 ghost use Rattle.cl_model.specs.Reading.Tables.{core_fields, core_meaning, label_fields, label_meaning, runnable_fields, runnables, runnable_meaning, task_fields, task_meaning, chain_fields, chain_meaning, requirement_fields, requirement_meaning};
-ghost use Rattle.cl_read.specs.Answers.{Answers};
+ghost use Rattle.cl_model.specs.Answers.{Answers};
 
 use crate::arrays::{Member, array_or_none};
-use crate::fault::{ReadFault, refused};
 use crate::keys::{has_only, value_at};
 use crate::{fields, values};
 use cl_model::{
     ChainDef, Code, CoreDef, Key, LabelDef, List, MOST_ACCESSES, MOST_HOPS, MOST_PRIORITY,
-    MOST_REQUIRED, MOST_RUNNABLES, MOST_STEPS, MOST_TICKS, Name, Place, RequirementDef,
+    MOST_REQUIRED, MOST_RUNNABLES, MOST_STEPS, MOST_TICKS, ModelFault, Name, Place, RequirementDef,
     RunnableDef, TaskDef,
 };
 use std::alloc::Global;
 use toml::{Table, Value};
 
 impl Member for Name {
-    ghost checks = { a_name };
+    ghost checks = { λ version. a_name };
 
-    ghost meaning = { text_of };
+    ghost meaning = { λ version. text_of };
 
     ghost place_in = { at_spot };
 
@@ -32,15 +31,20 @@ impl Member for Name {
         array.at_spot(number)
     }
 
-    fn read(_alloc: Global, place: Place, value: &Value) -> Result<Name, ReadFault> {
+    fn read(
+        _alloc: Global,
+        _version: u64,
+        place: Place,
+        value: &Value,
+    ) -> Result<Name, ModelFault> {
         values::name(place, value)
     }
 }
 
 impl Member for CoreDef {
-    ghost checks = { a_table_of core_fields };
+    ghost checks = { λ version. a_table_of core_fields };
 
-    ghost meaning = { λ entry. core_meaning (table_of entry) };
+    ghost meaning = { λ version entry. core_meaning (table_of entry) };
 
     ghost place_in = { at_item };
 
@@ -48,18 +52,23 @@ impl Member for CoreDef {
         section.at_item(number)
     }
 
-    fn read(_alloc: Global, place: Place, value: &Value) -> Result<CoreDef, ReadFault> {
+    fn read(
+        _alloc: Global,
+        _version: u64,
+        place: Place,
+        value: &Value,
+    ) -> Result<CoreDef, ModelFault> {
         match value {
             Value::Table(table) => core(place, table),
-            _ => Err(refused(Code::M6, place)),
+            _ => Err(ModelFault::refused(Code::M6, place)),
         }
     }
 }
 
 impl Member for LabelDef {
-    ghost checks = { a_table_of label_fields };
+    ghost checks = { λ version. a_table_of label_fields };
 
-    ghost meaning = { λ entry. label_meaning (table_of entry) };
+    ghost meaning = { λ version entry. label_meaning (table_of entry) };
 
     ghost place_in = { at_item };
 
@@ -67,18 +76,23 @@ impl Member for LabelDef {
         section.at_item(number)
     }
 
-    fn read(_alloc: Global, place: Place, value: &Value) -> Result<LabelDef, ReadFault> {
+    fn read(
+        _alloc: Global,
+        _version: u64,
+        place: Place,
+        value: &Value,
+    ) -> Result<LabelDef, ModelFault> {
         match value {
             Value::Table(table) => label(place, table),
-            _ => Err(refused(Code::M6, place)),
+            _ => Err(ModelFault::refused(Code::M6, place)),
         }
     }
 }
 
 impl Member for RunnableDef {
-    ghost checks = { a_table_of runnable_fields };
+    ghost checks = { λ version. a_table_of runnable_fields };
 
-    ghost meaning = { λ entry. runnable_meaning (table_of entry) };
+    ghost meaning = { λ version entry. runnable_meaning (table_of entry) };
 
     ghost place_in = { at_sub };
 
@@ -86,18 +100,23 @@ impl Member for RunnableDef {
         section.at_sub(number)
     }
 
-    fn read(alloc: Global, place: Place, value: &Value) -> Result<RunnableDef, ReadFault> {
+    fn read(
+        alloc: Global,
+        version: u64,
+        place: Place,
+        value: &Value,
+    ) -> Result<RunnableDef, ModelFault> {
         match value {
-            Value::Table(table) => runnable(alloc, place, table),
-            _ => Err(refused(Code::M6, place)),
+            Value::Table(table) => runnable(alloc, version, place, table),
+            _ => Err(ModelFault::refused(Code::M6, place)),
         }
     }
 }
 
 impl Member for TaskDef {
-    ghost checks = { a_table_of task_fields };
+    ghost checks = { λ version. a_table_of task_fields };
 
-    ghost meaning = { λ entry. task_meaning (table_of entry) };
+    ghost meaning = { λ version entry. task_meaning (table_of entry) };
 
     ghost place_in = { at_item };
 
@@ -105,18 +124,23 @@ impl Member for TaskDef {
         section.at_item(number)
     }
 
-    fn read(alloc: Global, place: Place, value: &Value) -> Result<TaskDef, ReadFault> {
+    fn read(
+        alloc: Global,
+        version: u64,
+        place: Place,
+        value: &Value,
+    ) -> Result<TaskDef, ModelFault> {
         match value {
-            Value::Table(table) => task(alloc, place, table),
-            _ => Err(refused(Code::M6, place)),
+            Value::Table(table) => task(alloc, version, place, table),
+            _ => Err(ModelFault::refused(Code::M6, place)),
         }
     }
 }
 
 impl Member for ChainDef {
-    ghost checks = { a_table_of chain_fields };
+    ghost checks = { λ version. a_table_of chain_fields };
 
-    ghost meaning = { λ entry. chain_meaning (table_of entry) };
+    ghost meaning = { λ version entry. chain_meaning (table_of entry) };
 
     ghost place_in = { at_item };
 
@@ -124,18 +148,23 @@ impl Member for ChainDef {
         section.at_item(number)
     }
 
-    fn read(alloc: Global, place: Place, value: &Value) -> Result<ChainDef, ReadFault> {
+    fn read(
+        alloc: Global,
+        version: u64,
+        place: Place,
+        value: &Value,
+    ) -> Result<ChainDef, ModelFault> {
         match value {
-            Value::Table(table) => chain(alloc, place, table),
-            _ => Err(refused(Code::M6, place)),
+            Value::Table(table) => chain(alloc, version, place, table),
+            _ => Err(ModelFault::refused(Code::M6, place)),
         }
     }
 }
 
 impl Member for RequirementDef {
-    ghost checks = { a_table_of requirement_fields };
+    ghost checks = { λ version. a_table_of requirement_fields };
 
-    ghost meaning = { λ entry. requirement_meaning (table_of entry) };
+    ghost meaning = { λ version entry. requirement_meaning (table_of entry) };
 
     ghost place_in = { at_item };
 
@@ -143,15 +172,20 @@ impl Member for RequirementDef {
         section.at_item(number)
     }
 
-    fn read(_alloc: Global, place: Place, value: &Value) -> Result<RequirementDef, ReadFault> {
+    fn read(
+        _alloc: Global,
+        _version: u64,
+        place: Place,
+        value: &Value,
+    ) -> Result<RequirementDef, ModelFault> {
         match value {
             Value::Table(table) => requirement(place, table),
-            _ => Err(refused(Code::M6, place)),
+            _ => Err(ModelFault::refused(Code::M6, place)),
         }
     }
 }
 
-fn core(place: Place, table: &Table) -> Result<CoreDef, ReadFault>
+fn core(place: Place, table: &Table) -> Result<CoreDef, ModelFault>
     ensures { let ms = table_view table.now in
         Answers result (fields_checks core_fields place ms) (core_meaning ms) }
 {
@@ -161,7 +195,7 @@ fn core(place: Place, table: &Table) -> Result<CoreDef, ReadFault>
     })
 }
 
-fn label(place: Place, table: &Table) -> Result<LabelDef, ReadFault>
+fn label(place: Place, table: &Table) -> Result<LabelDef, ModelFault>
     ensures { let ms = table_view table.now in
         Answers result (fields_checks label_fields place ms) (label_meaning ms) }
 {
@@ -174,20 +208,32 @@ fn label(place: Place, table: &Table) -> Result<LabelDef, ReadFault>
 /// The names in an array of at most `limit` members, none where it is absent.
 fn names(
     alloc: Global,
+    version: u64,
     place: Place,
     table: &Table,
     key: Key,
     limit: usize,
-) -> Result<List<Name>, ReadFault>
+) -> Result<List<Name>, ModelFault>
     requires { limit ≤ u32.MAX }
     ensures { let ms = table_view table.now in
         Answers result (field_checks place ms (optional key (names limit))) (names_at key ms) }
 {
-    array_or_none(alloc, place.at_key(key), limit, value_at(table, key))
+    array_or_none(
+        alloc,
+        version,
+        place.at_key(key),
+        limit,
+        value_at(table, key),
+    )
 }
 
-#[tactic(auto, using(crate::proofs::Faults::faults), unfolding(cl_model::specs::Reading::Tables::runnable_meaning))]
-fn runnable(alloc: Global, place: Place, table: &Table) -> Result<RunnableDef, ReadFault>
+#[tactic(auto, using(cl_model::proofs::FirstRefusals::faults), unfolding(cl_model::specs::Reading::Tables::runnable_meaning))]
+fn runnable(
+    alloc: Global,
+    version: u64,
+    place: Place,
+    table: &Table,
+) -> Result<RunnableDef, ModelFault>
     ensures { let ms = table_view table.now in
         Answers result (fields_checks runnable_fields place ms) (runnable_meaning ms) }
 {
@@ -195,6 +241,7 @@ fn runnable(alloc: Global, place: Place, table: &Table) -> Result<RunnableDef, R
         Key::Name,
         Key::Least,
         Key::Greatest,
+        Key::Whole,
         Key::Reads,
         Key::Writes,
     ];
@@ -203,24 +250,36 @@ fn runnable(alloc: Global, place: Place, table: &Table) -> Result<RunnableDef, R
         name: fields::name(place, table, Key::Name)?,
         least: fields::number(place, table, Key::Least, 1, MOST_TICKS)?,
         greatest: fields::number(place, table, Key::Greatest, 1, MOST_TICKS)?,
-        reads: names(alloc, place, table, Key::Reads, MOST_ACCESSES)?,
-        writes: names(alloc, place, table, Key::Writes, MOST_ACCESSES)?,
+        whole: fields::is_set(place, table, Key::Whole)?,
+        reads: names(alloc, version, place, table, Key::Reads, MOST_ACCESSES)?,
+        writes: names(alloc, version, place, table, Key::Writes, MOST_ACCESSES)?,
     })
 }
 
 /// The runnables of a task, none where they are absent.
-fn runnables(alloc: Global, place: Place, table: &Table) -> Result<List<RunnableDef>, ReadFault>
+fn runnables(
+    alloc: Global,
+    version: u64,
+    place: Place,
+    table: &Table,
+) -> Result<List<RunnableDef>, ModelFault>
     ensures { let ms = table_view table.now in
         Answers result
         (field_checks place ms (optional key.Runnable runnables))
         (tables_at runnable_meaning key.Runnable ms) }
 {
     let place = place.at_key(Key::Runnable);
-    array_or_none(alloc, place, MOST_RUNNABLES, value_at(table, Key::Runnable))
+    array_or_none(
+        alloc,
+        version,
+        place,
+        MOST_RUNNABLES,
+        value_at(table, Key::Runnable),
+    )
 }
 
-#[tactic(auto, using(crate::proofs::Faults::faults), unfolding(cl_model::specs::Reading::Tables::task_meaning))]
-fn task(alloc: Global, place: Place, table: &Table) -> Result<TaskDef, ReadFault>
+#[tactic(auto, using(cl_model::proofs::FirstRefusals::faults), unfolding(cl_model::specs::Reading::Tables::task_meaning))]
+fn task(alloc: Global, version: u64, place: Place, table: &Table) -> Result<TaskDef, ModelFault>
     ensures { let ms = table_view table.now in
         Answers result (fields_checks task_fields place ms) (task_meaning ms) }
 {
@@ -241,25 +300,25 @@ fn task(alloc: Global, place: Place, table: &Table) -> Result<TaskDef, ReadFault
         priority: fields::number(place, table, Key::Priority, 0, MOST_PRIORITY)?,
         access: fields::access(place, table, Key::Access)?,
         deadline: fields::number_if(place, table, Key::Deadline, 1, MOST_TICKS)?,
-        runnables: runnables(alloc, place, table)?,
+        runnables: runnables(alloc, version, place, table)?,
     })
 }
 
-#[tactic(auto, using(crate::proofs::Faults::faults), unfolding(cl_model::specs::Reading::Tables::chain_meaning))]
-fn chain(alloc: Global, place: Place, table: &Table) -> Result<ChainDef, ReadFault>
+#[tactic(auto, using(cl_model::proofs::FirstRefusals::faults), unfolding(cl_model::specs::Reading::Tables::chain_meaning))]
+fn chain(alloc: Global, version: u64, place: Place, table: &Table) -> Result<ChainDef, ModelFault>
     ensures { let ms = table_view table.now in
         Answers result (fields_checks chain_fields place ms) (chain_meaning ms) }
 {
     has_only(place, table, &[Key::Name, Key::Runnables, Key::Labels])?;
     Ok(ChainDef {
         name: fields::name(place, table, Key::Name)?,
-        runnables: names(alloc, place, table, Key::Runnables, MOST_STEPS)?,
-        labels: names(alloc, place, table, Key::Labels, MOST_HOPS)?,
+        runnables: names(alloc, version, place, table, Key::Runnables, MOST_STEPS)?,
+        labels: names(alloc, version, place, table, Key::Labels, MOST_HOPS)?,
     })
 }
 
-#[tactic(auto, using(crate::proofs::Faults::faults), unfolding(cl_model::specs::Reading::Tables::requirement_meaning))]
-fn requirement(place: Place, table: &Table) -> Result<RequirementDef, ReadFault>
+#[tactic(auto, using(cl_model::proofs::FirstRefusals::faults), unfolding(cl_model::specs::Reading::Tables::requirement_meaning))]
+fn requirement(place: Place, table: &Table) -> Result<RequirementDef, ModelFault>
     ensures { let ms = table_view table.now in
         Answers result (fields_checks requirement_fields place ms) (requirement_meaning ms) }
 {

@@ -2,25 +2,24 @@
 ghost use Rattle.toml.specs.View.{table_view};
 ghost use Rattle.cl_model.specs.declared.task.AccessKind.TheVariants.{Explicit};
 ghost use Rattle.cl_model.specs.declared.chain.LengthKind.TheVariants.{Reaction};
-ghost use Rattle.cl_model.specs.Reading.Checks.{a_name, a_number, a_word, required, optional, field_checks};
-ghost use Rattle.cl_model.specs.Reading.Meanings.{text_at, number_at, number_or, number_if, word_at};
+ghost use Rattle.cl_model.specs.Reading.Checks.{a_name, a_number, a_boolean, a_word, required, optional, field_checks};
+ghost use Rattle.cl_model.specs.Reading.Meanings.{text_at, number_at, number_or, number_if, is_set, word_at};
 ghost use Rattle.cl_model.specs.Reading.Tables.{access_words, length_words};
-ghost use Rattle.cl_read.specs.Answers.{Answers};
+ghost use Rattle.cl_model.specs.Answers.{Answers};
 
-use crate::fault::{ReadFault, refused};
 use crate::keys::value_at;
 use crate::values;
-use cl_model::{AccessKind, Code, Key, LengthKind, Name, Place};
+use cl_model::{AccessKind, Code, Key, LengthKind, ModelFault, Name, Place};
 use toml::Table;
 
-pub(crate) fn name(place: Place, table: &Table, key: Key) -> Result<Name, ReadFault>
+pub(crate) fn name(place: Place, table: &Table, key: Key) -> Result<Name, ModelFault>
     ensures { let ms = table_view table.now in
         Answers result (field_checks place ms (required key a_name)) (text_at key ms) }
 {
     let place = place.at_key(key);
     match value_at(table, key) {
         Some(value) => values::name(place, value),
-        None => Err(refused(Code::M5, place)),
+        None => Err(ModelFault::refused(Code::M5, place)),
     }
 }
 
@@ -30,14 +29,14 @@ pub(crate) fn number(
     key: Key,
     low: u64,
     high: u64,
-) -> Result<u64, ReadFault>
+) -> Result<u64, ModelFault>
     ensures { let ms = table_view table.now in
         Answers result (field_checks place ms (required key (a_number low high))) (number_at key ms) }
 {
     let place = place.at_key(key);
     match value_at(table, key) {
         Some(value) => values::number(place, low, high, value),
-        None => Err(refused(Code::M5, place)),
+        None => Err(ModelFault::refused(Code::M5, place)),
     }
 }
 
@@ -47,7 +46,7 @@ pub(crate) fn number_or_zero(
     table: &Table,
     key: Key,
     high: u64,
-) -> Result<u64, ReadFault>
+) -> Result<u64, ModelFault>
     ensures { let ms = table_view table.now in
         Answers result (field_checks place ms (optional key (a_number 0 high))) (number_or 0 key ms) }
 {
@@ -64,7 +63,7 @@ pub(crate) fn number_if(
     key: Key,
     low: u64,
     high: u64,
-) -> Result<Option<u64>, ReadFault>
+) -> Result<Option<u64>, ModelFault>
     ensures { let ms = table_view table.now in
         Answers result (field_checks place ms (optional key (a_number low high))) (number_if key ms) }
 {
@@ -74,7 +73,18 @@ pub(crate) fn number_if(
     }
 }
 
-pub(crate) fn access(place: Place, table: &Table, key: Key) -> Result<AccessKind, ReadFault>
+/// Whether true stands at a key, false where the key is absent.
+pub(crate) fn is_set(place: Place, table: &Table, key: Key) -> Result<bool, ModelFault>
+    ensures { let ms = table_view table.now in
+        Answers result (field_checks place ms (optional key a_boolean)) (is_set key ms) }
+{
+    match value_at(table, key) {
+        Some(value) => values::boolean(place.at_key(key), value),
+        None => Ok(false),
+    }
+}
+
+pub(crate) fn access(place: Place, table: &Table, key: Key) -> Result<AccessKind, ModelFault>
     ensures { let ms = table_view table.now in
         Answers result
         (field_checks place ms (required key (a_word access_words)))
@@ -83,11 +93,11 @@ pub(crate) fn access(place: Place, table: &Table, key: Key) -> Result<AccessKind
     let place = place.at_key(key);
     match value_at(table, key) {
         Some(value) => values::access(place, value),
-        None => Err(refused(Code::M5, place)),
+        None => Err(ModelFault::refused(Code::M5, place)),
     }
 }
 
-pub(crate) fn length(place: Place, table: &Table, key: Key) -> Result<LengthKind, ReadFault>
+pub(crate) fn length(place: Place, table: &Table, key: Key) -> Result<LengthKind, ModelFault>
     ensures { let ms = table_view table.now in
         Answers result
         (field_checks place ms (required key (a_word length_words)))
@@ -96,6 +106,6 @@ pub(crate) fn length(place: Place, table: &Table, key: Key) -> Result<LengthKind
     let place = place.at_key(key);
     match value_at(table, key) {
         Some(value) => values::length(place, value),
-        None => Err(refused(Code::M5, place)),
+        None => Err(ModelFault::refused(Code::M5, place)),
     }
 }

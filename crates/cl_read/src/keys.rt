@@ -8,10 +8,9 @@ ghost use Rattle.cl_model.specs.declared.refusal.Code.TheVariants.{M4};
 ghost use Rattle.cl_model.specs.Place.{key_text};
 ghost use Rattle.cl_model.specs.Refusals.{unless};
 ghost use Rattle.cl_model.specs.Reading.Checks.{value_at, has_only};
-ghost use Rattle.cl_read.specs.Answers.{Answers};
+ghost use Rattle.cl_model.specs.Answers.{Answers};
 
-use crate::fault::{ReadFault, refused};
-use cl_model::{Code, Key, Place};
+use cl_model::{Code, Key, ModelFault, Place, refuse_unless};
 use toml::{Table, Value};
 
 /// The value at a key, if the key is there.
@@ -34,12 +33,8 @@ fn are_all_among(keys: &[Key], table: &Table) -> bool
 }
 
 /// Refuses a table that has another key.
-pub(crate) fn has_only(place: Place, table: &Table, keys: &[Key]) -> Result<(), ReadFault>
+pub(crate) fn has_only(place: Place, table: &Table, keys: &[Key]) -> Result<(), ModelFault>
     ensures { Answers result (unless (has_only keys.now (table_view table.now)) M4 place) tt }
 {
-    if are_all_among(keys, table) {
-        Ok(())
-    } else {
-        Err(refused(Code::M4, place))
-    }
+    refuse_unless(are_all_among(keys, table), Code::M4, place)
 }

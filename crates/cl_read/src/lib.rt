@@ -1,17 +1,17 @@
 //! Reads a model file: the model that its bytes write, or the first refusal.
 #![tactic(auto)]
 
+use cl_model::ModelFault;
+
 mod arrays;
 mod document;
 mod entries;
-mod fault;
 mod fields;
 mod keys;
 mod stimuli;
 mod values;
 
 pub use document::read_model;
-pub use fault::ReadFault;
 
-#[cfg(test)]
-mod tests;
+/// Why a model file isn't read: its first refusal, or want of memory.
+pub type ReadFault = ModelFault;

@@ -1,4 +1,4 @@
-//! Stimuli: what one is asked depends on its kind.
+//! Stimuli: what one is asked depends on its kind, and which kinds there are on the version of the file.
 ghost use Rattle.std.specs.Prelude.{Some, [], ◌∷◌, unwrap_or};
 ghost use Rattle.toml.specs.Data.{string};
 ghost use Rattle.toml.specs.View.{table_view};
@@ -7,21 +7,23 @@ ghost use Rattle.cl_model.specs.Place.{at_key, at_item};
 ghost use Rattle.cl_model.specs.Refusals.{in_order};
 ghost use Rattle.cl_model.specs.Reading.Checks.{a_word, a_table, required, field_checks, meaning_of};
 ghost use Rattle.cl_model.specs.Reading.Meanings.{table_of, word_if, word_at};
-ghost use Rattle.cl_model.specs.Reading.Tables.{stimulus_forms, periodic_form, sporadic_form, form_checks, stimulus_checks, stimulus_meaning};
-ghost use Rattle.cl_read.specs.Answers.{Answers};
+ghost use Rattle.cl_model.specs.Reading.Tables.{stimulus_forms, periodic_form, sporadic_form, burst_form, form_checks, stimulus_entry_checks, stimulus_meaning};
+ghost use Rattle.cl_model.specs.Answers.{Answers};
 
 use crate::arrays::Member;
-use crate::fault::{ReadFault, refused};
 use crate::fields;
 use crate::keys::{has_only, value_at};
-use cl_model::{Code, Key, MOST_TICKS, Place, StimulusDef, StimulusKind};
+use cl_model::{
+    Code, Key, LEAST_JOBS_OF_BURST, MOST_JOBS_OF_BURST, MOST_TICKS, ModelFault, Place, StimulusDef,
+    StimulusKind,
+};
 use std::alloc::Global;
 use toml::{Table, Value};
 
 impl Member for StimulusDef {
-    ghost checks = { a_table stimulus_checks };
+    ghost checks = { λ version. a_table (stimulus_entry_checks version) };
 
-    ghost meaning = { λ entry. stimulus_meaning (table_of entry) };
+    ghost meaning = { λ version entry. stimulus_meaning version (table_of entry) };
 
     ghost place_in = { at_item };
 
@@ -29,56 +31,69 @@ impl Member for StimulusDef {
         section.at_item(number)
     }
 
-    fn read(_alloc: Global, place: Place, value: &Value) -> Result<StimulusDef, ReadFault> {
+    fn read(
+        _alloc: Global,
+        version: u64,
+        place: Place,
+        value: &Value,
+    ) -> Result<StimulusDef, ModelFault> {
         match value {
-            Value::Table(table) => stimulus(place, table),
-            _ => Err(refused(Code::M6, place)),
+            Value::Table(table) => stimulus(version, place, table),
+            _ => Err(ModelFault::refused(Code::M6, place)),
         }
     }
 }
 
-#[tactic(auto, using(crate::proofs::Faults::faults), unfolding(cl_model::specs::Reading::Tables::stimulus_checks, cl_model::specs::Reading::Tables::stimulus_meaning))]
-fn stimulus(place: Place, table: &Table) -> Result<StimulusDef, ReadFault>
+#[tactic(auto, using(cl_model::proofs::FirstRefusals::faults), unfolding(cl_model::specs::Reading::Tables::stimulus_entry_checks, cl_model::specs::Reading::Tables::stimulus_meaning))]
+fn stimulus(version: u64, place: Place, table: &Table) -> Result<StimulusDef, ModelFault>
     ensures { let ms = table_view table.now in
-        Answers result (stimulus_checks place ms) (stimulus_meaning ms) }
+        Answers result (stimulus_entry_checks version place ms) (stimulus_meaning version ms) }
 {
     Ok(StimulusDef {
         name: fields::name(place, table, Key::Name)?,
-        kind: kind(place, table)?,
+        kind: kind(version, place, table)?,
     })
 }
 
 /// The kind, with the keys that it asks for.
-fn kind(place: Place, table: &Table) -> Result<StimulusKind, ReadFault>
+fn kind(version: u64, place: Place, table: &Table) -> Result<StimulusKind, ModelFault>
     ensures { let ms = table_view table.now in
+        let forms = stimulus_forms version in
         Answers result
-        (in_order (field_checks place ms (required key.Kind (a_word stimulus_forms)) ∷ form_checks place ms (word_if stimulus_forms key.Kind ms) ∷ []))
-        ((word_at stimulus_forms periodic_form key.Kind ms).meaning ms) }
+        (in_order (field_checks place ms (required key.Kind (a_word forms)) ∷ form_checks place ms (word_if forms key.Kind ms) ∷ []))
+        ((word_at forms periodic_form key.Kind ms).meaning ms) }
 {
     let kind = place.at_key(Key::Kind);
     match value_at(table, Key::Kind) {
-        Some(Value::String(word)) => of_kind(place, table, word.as_str()),
-        Some(_) => Err(refused(Code::M6, kind)),
-        None => Err(refused(Code::M5, kind)),
+        Some(Value::String(word)) => of_kind(version, place, table, word.as_str()),
+        Some(_) => Err(ModelFault::refused(Code::M6, kind)),
+        None => Err(ModelFault::refused(Code::M5, kind)),
     }
 }
 
 /// The kind that a word stands for.
-fn of_kind(place: Place, table: &Table, word: &str) -> Result<StimulusKind, ReadFault>
+fn of_kind(
+    version: u64,
+    place: Place,
+    table: &Table,
+    word: &str,
+) -> Result<StimulusKind, ModelFault>
     ensures { let ms = table_view table.now in
+        let forms = stimulus_forms version in
         Answers result
-        (in_order (a_word stimulus_forms (at_key key.Kind place) (string word.now) ∷ form_checks place ms (meaning_of stimulus_forms word.now) ∷ []))
-        ((unwrap_or (meaning_of stimulus_forms word.now) periodic_form).meaning ms) }
+        (in_order (a_word forms (at_key key.Kind place) (string word.now) ∷ form_checks place ms (meaning_of forms word.now) ∷ []))
+        ((unwrap_or (meaning_of forms word.now) periodic_form).meaning ms) }
 {
     match word {
         "periodic" => periodic(place, table),
         "sporadic" => sporadic(place, table),
-        _ => Err(refused(Code::M9, place.at_key(Key::Kind))),
+        "burst" if version == 2 => burst(place, table),
+        _ => Err(ModelFault::refused(Code::M9, place.at_key(Key::Kind))),
     }
 }
 
-#[tactic(auto, using(crate::proofs::Faults::faults))]
-fn periodic(place: Place, table: &Table) -> Result<StimulusKind, ReadFault>
+#[tactic(auto, using(cl_model::proofs::FirstRefusals::faults))]
+fn periodic(place: Place, table: &Table) -> Result<StimulusKind, ModelFault>
     ensures { let ms = table_view table.now in
         Answers result (form_checks place ms (Some periodic_form)) (periodic_form.meaning ms) }
 {
@@ -91,8 +106,8 @@ fn periodic(place: Place, table: &Table) -> Result<StimulusKind, ReadFault>
     })
 }
 
-#[tactic(auto, using(crate::proofs::Faults::faults))]
-fn sporadic(place: Place, table: &Table) -> Result<StimulusKind, ReadFault>
+#[tactic(auto, using(cl_model::proofs::FirstRefusals::faults))]
+fn sporadic(place: Place, table: &Table) -> Result<StimulusKind, ModelFault>
     ensures { let ms = table_view table.now in
         Answers result (form_checks place ms (Some sporadic_form)) (sporadic_form.meaning ms) }
 {
@@ -104,5 +119,33 @@ fn sporadic(place: Place, table: &Table) -> Result<StimulusKind, ReadFault>
     Ok(StimulusKind::Sporadic {
         least: fields::number(place, table, Key::Least, 1, MOST_TICKS)?,
         greatest: fields::number(place, table, Key::Greatest, 1, MOST_TICKS)?,
+    })
+}
+
+#[tactic(auto, using(cl_model::proofs::FirstRefusals::faults))]
+fn burst(place: Place, table: &Table) -> Result<StimulusKind, ModelFault>
+    ensures { let ms = table_view table.now in
+        Answers result (form_checks place ms (Some burst_form)) (burst_form.meaning ms) }
+{
+    let keys = [
+        Key::Name,
+        Key::Kind,
+        Key::Period,
+        Key::Offset,
+        Key::Count,
+        Key::Distance,
+    ];
+    has_only(place, table, &keys)?;
+    Ok(StimulusKind::Burst {
+        period: fields::number(place, table, Key::Period, 1, MOST_TICKS)?,
+        offset: fields::number_or_zero(place, table, Key::Offset, MOST_TICKS)?,
+        count: fields::number(
+            place,
+            table,
+            Key::Count,
+            LEAST_JOBS_OF_BURST,
+            MOST_JOBS_OF_BURST,
+        )?,
+        distance: fields::number(place, table, Key::Distance, 1, MOST_TICKS)?,
     })
 }

@@ -1,10 +1,9 @@
 -- The report of a model: a title, a line for each task, and a line for each chain. Source: this project's profile.
-use Rattle.std.specs.Prelude.{ℕ, List, ◌++◌, length, slice_index_or, codes, decimal}
+use Rattle.std.specs.Prelude.{ℕ, List, ◌++◌, length, codes, decimal}
 use Rattle.std.specs.List.{flat_map, range_with_len}
 use Rattle.cl_text.specs.Line.{line}
 use Rattle.cl_model.specs.declared.model.SystemModel.{SystemModel}
-use Rattle.cl_model.specs.Groups.{no_chain}
-use Rattle.cl_model.specs.OfTask.{task_at, deadline_of}
+use Rattle.cl_model.specs.ByNumber.{task_at, deadline_of, chain_at}
 use Rattle.cl_bound.specs.declared.answer.TaskAnswer.{TaskAnswer}
 use Rattle.cl_bound.specs.declared.answer.TaskAnswer.TheVariants as task
 use Rattle.cl_bound.specs.Answers.{answer_at}
@@ -36,7 +35,7 @@ chain_words model (chain.Late i) = codes " late " ++ (task_at model i).name
 -- the line of chain i
 unfoldable pub chain_line : SystemModel → Findings → ℕ → List ℕ
 chain_line model findings i =
-    line (codes "chain " ++ (slice_index_or model.chains i no_chain).name ++ chain_words model (chain_answer_at findings i))
+    line (codes "chain " ++ (chain_at model i).name ++ chain_words model (chain_answer_at findings i))
 
 -- the report of a model with these findings
 unfoldable pub report_text : SystemModel → Findings → List ℕ

@@ -1,8 +1,9 @@
 //! The report of a model, as text.
-ghost use Rattle.std.specs.Prelude.{◌≡◌, ◌<◌, ◌++◌, length, OnOk, IfOk};
+ghost use Rattle.std.specs.Prelude.{◌≡◌, ℕ, ◌<◌, ◌++◌, length, OnOk, IfOk};
 ghost use Rattle.std.specs.List.{flat_map, range_with_len};
-ghost use Rattle.cl_model.specs.OfTask.{task_at};
-ghost use Rattle.cl_analyse.specs.Findings.{findings_of, IsOfTask};
+ghost use Rattle.cl_model.specs.ByNumber.{task_at};
+ghost use Rattle.cl_analyse.specs.declared.findings.ChainAnswer.TheVariants.{Late};
+ghost use Rattle.cl_analyse.specs.Findings.{findings_of};
 ghost use Rattle.cl_report.specs.Report.{task_words, task_line, bounds_words, chain_words, chain_line, report_text};
 
 use cl_analyse::{ChainAnswer, Findings};
@@ -120,7 +121,7 @@ fn put_chain_answer(
     model: &ValidModel,
     answer: &ChainAnswer,
 ) -> Result<(), NoMemory>
-    requires { IsOfTask (length model.now.tasks) answer.now }
+    requires { (late : ℕ) → answer.now ≡ Late late → late < length model.now.tasks }
     ensures { OnOk result (text.new ≡ text.old ++ chain_words model.now answer.now) }
 {
     match answer {

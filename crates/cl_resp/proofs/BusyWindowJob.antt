@@ -1,27 +1,28 @@
--- A job of a task finishes within the busy window: otherwise the window would be full of the work of the job and of the
--- tasks above, and its demand larger than it is.
-use Rattle.std.proofs.Common.{◌≡◌, ℕ, zero, suc, ◌+◌, ◌-◌, ◌*◌, ◌<◌, ◌≤◌, inl, inr, length, take, refl, ap, sym, ◌∙◌, arith, mul-le-mul_right}
+-- A job of a task finishes within the busy window: otherwise the window, but for what blocks the task at its beginning,
+-- would be full of the work of the job and of the tasks above, and its demand larger than it is.
+use Rattle.std.proofs.Common.{◌≡◌, ℕ, zero, suc, ◌+◌, ◌-◌, ◌*◌, ◌<◌, ◌≤◌, ◌⊎◌, inl, inr, Some, length, take, ap, ◌∙◌, arith, mul-le-mul_right}
 use Rattle.std.specs.Prelude.{sum, sum_by}
 use Rattle.std.proofs.Math.Numerals.{add-one}
-use Rattle.std.proofs.lemmas.Bool.{cases_lt}
+use Rattle.std.proofs.lemmas.Bool.{cases_lt, cases_eq}
 use Rattle.std.proofs.lemmas.List.Sums.{sum_by_more}
 use Rattle.cl_model.specs.Timing.{greatest_jitter}
 use Rattle.cl_runs.specs.TaskTiming.{System, timing_at, IsSound}
 use Rattle.cl_runs.specs.declared.job.Job.{Job}
 use Rattle.cl_runs.specs.Table.{job_at, no_job}
-use Rattle.cl_runs.specs.Run.{Run, jobs_of, executed}
+use Rattle.cl_runs.specs.Run.{Run, jobs_of, entry_at, executed}
 use Rattle.cl_runs.specs.Legal.{IsLegal}
 use Rattle.cl_runs.proofs.Climbing.{climb_mono}
 use Rattle.cl_runs.proofs.Executed.{executed_climbs}
-use Rattle.cl_runs.proofs.LegalFacts.{lawful_job}
+use Rattle.cl_runs.proofs.LegalFacts.{job_times}
+use Rattle.cl_runs.proofs.RunArrivals.{follow_pattern, released_within, releases_in_order}
 use Rattle.cl_stim.specs.Releases.{releases_in, most_releases}
 use Rattle.cl_stim.proofs.Releases.{few_releases}
-use Rattle.cl_resp.specs.Question.{greatest_time}
-use Rattle.cl_resp.proofs.BusyWindowTotals.{total, total_within}
+use Rattle.cl_resp.specs.Question.{greatest_execution, block_of}
+use Rattle.cl_resp.proofs.BusyWindowTotals.{total, total_within, total_rises}
 use Rattle.cl_resp.proofs.BusyWindowStart.{IsBusyFrom, busy_from, grows_by_width}
 use Rattle.cl_resp.proofs.BusyWindowWork.{released_before, before_zero, work_added, first_released, job_within}
-use Rattle.cl_resp.proofs.BusyWindowJobs.{releases_in_order, release_within}
-use Rattle.cl_resp.proofs.BusyWindowTicks.{above, executed_above, executed_before, executed_rises, runs_above, runs_here, task_waits, grows_above, grows_here}
+use Rattle.cl_resp.proofs.BusyWindowTicks.{above, executed_above, RunsAbove, executed_before, executed_rises, runs_above, runs_here, task_waits, grows_above, grows_here}
+use Rattle.cl_resp.proofs.BusyWindowHeld.{held_early}
 use Rattle.cl_resp.proofs.BusyWindowDemand.{most_taken, HoldsDemand}
 
 -- the time of the first n jobs of task i
@@ -50,14 +51,14 @@ module _ (system : System) (sound : IsSound system) (run : Run) (legal : IsLegal
       (executed system run j (start + width))
       (releases_in (jobs_of run j) start width)
       (most_releases (timing_at system j).pattern width)
-      (greatest_time (timing_at system j))
+      (greatest_execution (timing_at system j))
       clear
-      (few_releases (timing_at system j).pattern ((sound.tasks j is).gaps_rise 0) run.table.ticks (jobs_of run j)
-      (record { task = timing_at system j; pattern = refl; lawful = legal.lawful.jobs j is }) start width)
+      (few_releases (timing_at system j).pattern (sound.tasks j is).pattern run.table.ticks (jobs_of run j)
+      (follow_pattern system sound run legal j is) start width)
       (omega (
         arith,
         executed_before system sound run legal j is (start + width) h,
-        work_added (timing_at system j) run.table.ticks start width (jobs_of run j) 0 _ _ (legal.lawful.jobs j is),
+        work_added (timing_at system j) start width (jobs_of run j) (legal.lawful.jobs j is).times,
       ))
 
 module _ (system : System) (sound : IsSound system) (run : Run) (legal : IsLegal system run) (i : ℕ) (is : i < length system.tasks) where
@@ -69,53 +70,111 @@ module _ (system : System) (sound : IsSound system) (run : Run) (legal : IsLegal
       (most_taken system width) (length system.tasks)
       (λ j is_j passes. task_bounded system sound run legal j is_j s width h (from.clear j is_j passes))
 
+  -- and no fewer by a later moment
+  above_further : (s t : ℕ) → s ≤ t → executed_above system run i s ≤ executed_above system run i t
+  above_further s t h = total_rises (above system i) (λ j. executed system run j s) (λ j. executed system run j t) (length system.tasks)
+      (λ j. climb_mono (executed system run j) (executed_climbs system run j) s t h)
+
   -- a job takes no more than the greatest time of its task
-  job_bounded : (k : ℕ) → k < length (jobs_of run i) → work_of_first run i (suc k) ≤ work_of_first run i k + greatest_time (timing_at system i)
-  job_bounded k below =
-      let job = lawful_job system sound run legal i is k below in
-      omega (
-        arith,
-        rw add-one at (sum_by_more (λ (j : Job). sum j.times) (jobs_of run i) k no_job below),
-        job_within (timing_at system i) run.table.ticks job.low job.high _ job.lawful,
-      )
+  job_bounded : (k : ℕ) → k < length (jobs_of run i) → work_of_first run i (suc k) ≤ work_of_first run i k + greatest_execution (timing_at system i)
+  job_bounded k below = omega (
+    arith,
+    rw add-one at (sum_by_more (λ (j : Job). sum j.times) (jobs_of run i) k no_job below),
+    job_within (timing_at system i) (job_at (jobs_of run i) k) (job_times system sound run legal i is k below),
+  )
 
-  -- while it is busy above, the task waits
-  waits_by : (r s : ℕ) → r ≤ run.table.ticks → BusyFrom system run i r s → (d : ℕ) → s + d ≤ r
-      → executed system run i (s + d) ≡ executed system run i s
-  waits_by r s h from zero within = let here : s + 0 ≡ s = omega arith in ap (executed system run i) here
-  waits_by r s h from (suc d) within =
-      let next : s + suc d ≡ suc (s + d) = omega arith in
-      ap (executed system run i) next
-      ∙ task_waits system sound run legal i is (s + d)
-      (runs_above system sound run legal i is (s + d) (omega arith) (from.busy (s + d) (omega arith) (omega arith)))
-      ∙ waits_by r s h from d (omega arith)
-
-  waits : (r s : ℕ) → r ≤ run.table.ticks → BusyFrom system run i r s → executed system run i r ≡ executed system run i s
-  waits r s h from =
-      let begins : s ≤ r = from.within in
-      let there : s + (r - s) ≡ r = omega arith in
-      sym (ap (executed system run i) there) ∙ waits_by r s h from (r - s) (omega arith)
-
-  -- each tick of the window runs the task or one above, where a job that is released in it by r isn't done at its end
-  tick_runs : (k s width : ℕ) → k < length (jobs_of run i) → BusyFrom system run i (job_at (jobs_of run i) k).release s
-      → s + width ≤ run.table.ticks → executed system run i (s + width) < work_of_first run i (suc k)
-      → (t : ℕ) → s ≤ t → t < s + width
-      → executed system run i t + executed_above system run i t < executed system run i (suc t) + executed_above system run i (suc t)
-  tick_runs k s width below from h unfinished t since until = elim (cases_lt t (job_at (jobs_of run i) k).release) [
-    | inl early ↦ grows_above system sound run legal i is t (omega arith)
-        (runs_above system sound run legal i is t (omega arith) (from.busy t since early))
-    | inr late ↦
-        let left : executed system run i t < released_before (jobs_of run i) (suc t) = omega (
+  -- while it is busy above, nothing but tasks above runs from what blocks the task on
+  above_runs : (r s t : ℕ) → BusyFrom system run i r s → t < run.table.ticks → s + block_of system (timing_at system i) ≤ t → t < r
+      → RunsAbove system run i t
+  above_runs r s t from h since until =
+      elim (runs_above system sound run legal i is t h (from.busy t (omega (arith, since)) until)) [
+        | inl one ↦ one
+        | inr held ↦ absurd (omega (
           arith,
-          climb_mono (executed system run i) (executed_climbs system run i) t (s + width) (omega arith),
-          first_released (jobs_of run i) (suc k) t
-              (λ l l_below. omega (arith, late, releases_in_order system sound run legal i is k below l l_below)),
-        ) in
-        elim (runs_here system sound run legal i is t (omega arith) left) [
-          | inl one ↦ grows_above system sound run legal i is t (omega arith) one
-          | inr itself ↦ grows_here system sound run legal i is t (omega arith) itself
-        ]
+          since,
+          held_early system sound run legal i is s t (omega (arith, h)) held (λ u after before. inl (from.busy u after (omega (arith, before, until)))),
+        ))
+      ]
+
+  -- so the task waits
+  waits_by : (r s b : ℕ) → r ≤ run.table.ticks → BusyFrom system run i r s → s + block_of system (timing_at system i) ≤ b
+      → (d : ℕ) → b + d ≤ r → executed system run i (b + d) ≡ executed system run i b
+  waits_by r s b h from since zero within = let here : b + 0 ≡ b = omega arith in ap (executed system run i) here
+  waits_by r s b h from since (suc d) within =
+      let next : b + suc d ≡ suc (b + d) = omega arith in
+      ap (executed system run i) next
+      ∙ task_waits system sound run legal i is (b + d) (above_runs r s (b + d) from (omega arith) (omega (arith, since)) (omega arith))
+      ∙ waits_by r s b h from since d (omega arith)
+
+  -- what of it is executed by r is executed by then
+  waits : (r s b : ℕ) → r ≤ run.table.ticks → BusyFrom system run i r s → s + block_of system (timing_at system i) ≤ b
+      → executed system run i r ≤ executed system run i b
+  waits r s b h from since = elim (cases_lt b r) [
+    | inl before ↦
+        let there : b + (r - b) ≡ r = omega arith in
+        omega (arith, waits_by r s b h from since (r - b) (omega arith), ap (executed system run i) there)
+    | inr after ↦ climb_mono (executed system run i) (executed_climbs system run i) r b after
   ]
+
+  -- a job that isn't done at the end of the window has work left from its release on
+  work_left : (k end t : ℕ) → k < length (jobs_of run i) → executed system run i end < work_of_first run i (suc k)
+      → (job_at (jobs_of run i) k).release ≤ t → t ≤ end → executed system run i t < released_before (jobs_of run i) (suc t)
+  work_left k end t below unfinished late within = omega (
+    arith,
+    unfinished,
+    climb_mono (executed system run i) (executed_climbs system run i) t end within,
+    first_released (jobs_of run i) (suc k) t
+        (λ l l_below. omega (arith, late, releases_in_order system sound run legal i is l k (omega arith) below)),
+  )
+
+  module _ (k s width : ℕ) (below : k < length (jobs_of run i)) (from : BusyFrom system run i (job_at (jobs_of run i) k).release s)
+      (h : s + width ≤ run.table.ticks) (unfinished : executed system run i (s + width) < work_of_first run i (suc k)) where
+    -- from its release on the job has work left, so that a held task that isn't above is the task itself
+    late_runs : (t : ℕ) → s + block_of system (timing_at system i) ≤ t → t < s + width → (job_at (jobs_of run i) k).release ≤ t
+        → RunsAbove system run i t ⊎ (entry_at run (timing_at system i).core t ≡ Some i)
+    late_runs t since until late =
+        elim (runs_here system sound run legal i is t (omega arith) (work_left k (s + width) t below unfinished late (omega arith))) [
+          | inl (inl one) ↦ inl one
+          | inl (inr held) ↦ elim (cases_eq held.task i) [
+            | inl same ↦ inr (held.runs ∙ ap Some same)
+            | inr other ↦ absurd (omega (
+              arith,
+              since,
+              held_early system sound run legal i is s t (omega arith) held (λ u after before. elim (cases_lt u (job_at (jobs_of run i) k).release) [
+                | inl earlier ↦ inl (from.busy u after earlier)
+                | inr later ↦ inr (other, work_left k (s + width) u below unfinished later (omega arith))
+              ]),
+            ))
+          ]
+          | inr itself ↦ inr itself
+        ]
+
+    -- so each tick of the window from what blocks the task on runs the task or one above
+    tick_runs : (t : ℕ) → s + block_of system (timing_at system i) ≤ t → t < s + width
+        → executed system run i t + executed_above system run i t < executed system run i (suc t) + executed_above system run i (suc t)
+    tick_runs t since until = elim (cases_lt t (job_at (jobs_of run i) k).release) [
+      | inl early ↦ grows_above system sound run legal i is t (omega arith)
+          (above_runs (job_at (jobs_of run i) k).release s t from (omega arith) since early)
+      | inr late ↦ elim (late_runs t since until late) [
+        | inl one ↦ grows_above system sound run legal i is t (omega arith) one
+        | inr itself ↦ grows_here system sound run legal i is t (omega arith) itself
+      ]
+    ]
+
+    -- and what the task and those above execute grows by the width without what blocks the task
+    window_grows : block_of system (timing_at system i) ≤ width
+        → executed system run i (s + block_of system (timing_at system i))
+        + executed_above system run i (s + block_of system (timing_at system i)) + (width - block_of system (timing_at system i))
+        ≤ executed system run i (s + width) + executed_above system run i (s + width)
+    window_grows holds =
+        let block = block_of system (timing_at system i) in
+        let end : s + block + (width - block) ≡ s + width = omega (arith, holds) in
+        omega (
+          arith,
+          grows_by_width (λ t. executed system run i t + executed_above system run i t) (s + block) (width - block)
+              (λ t since until. tick_runs t since (omega (arith, until, end))),
+          ap (λ t. executed system run i t + executed_above system run i t) end,
+        )
 
   -- so the job is done by the end of a window that holds the demand
   done_in_window : (k s width : ℕ) → k < length (jobs_of run i) → HoldsDemand system i width
@@ -130,10 +189,10 @@ module _ (system : System) (sound : IsSound system) (run : Run) (legal : IsLegal
           holds.enough,
           earlier,
           job_bounded k below,
-          waits (job_at (jobs_of run i) k).release s released from,
+          waits (job_at (jobs_of run i) k).release s (s + block_of system (timing_at system i)) released from (omega arith),
           above_bounded (job_at (jobs_of run i) k).release s width from h,
-          grows_by_width (λ t. executed system run i t + executed_above system run i t) s width
-              (tick_runs k s width below from h unfinished),
+          above_further s (s + block_of system (timing_at system i)) (omega arith),
+          window_grows k s width below from h unfinished (omega (arith, holds.enough)),
         ))
         | inr done ↦ done
       ]
@@ -145,7 +204,7 @@ module _ (system : System) (sound : IsSound system) (run : Run) (legal : IsLegal
       → work_of_first run i (suc k)
       ≤ executed system run i ((job_at (jobs_of run i) k).arrival + (greatest_jitter (timing_at system i).pattern + width))
   done_in_response k width below holds lasts earlier =
-      let release = release_within system sound run legal i is k below in
+      let release = released_within system sound run legal i is k below in
       let (s, from) = busy_from (above system i) (executed system run) (λ j. released_before (jobs_of run j)) (length system.tasks)
       (λ j. before_zero (jobs_of run j)) (executed_rises system run) (job_at (jobs_of run i) k).release in
       let end : s + width ≤ (job_at (jobs_of run i) k).arrival + (greatest_jitter (timing_at system i).pattern + width)

@@ -10,14 +10,15 @@ use Rattle.cl_runs.specs.Moments.{JobFinishes}
 use Rattle.cl_runs.proofs.Climbing.{climb_mono}
 use Rattle.cl_runs.proofs.Executed.{executed_climbs}
 use Rattle.cl_runs.proofs.LegalFacts.{job_places}
+use Rattle.cl_runs.proofs.RunArrivals.{arrives_after_deadline, released_late}
 use Rattle.cl_runs.proofs.StartsFinishes.{finishes_by}
 use Rattle.cl_runs.proofs.Work.{through_job}
 use Rattle.cl_resp.specs.declared.question.Question.{Question}
-use Rattle.cl_resp.specs.Response.{window_of, response_to}
-use Rattle.cl_resp.specs.Finishing.{IsSettled, AlwaysFinishesWithin, AnswersFor}
-use Rattle.cl_resp.proofs.BusyWindowJobs.{arrives_after_deadline, release_after}
-use Rattle.cl_resp.proofs.BusyWindowDemand.{HoldsDemand, settled_response, settled_holds}
+use Rattle.cl_resp.specs.Promises.{AlwaysFinishesWithin, AnswersFor}
+use Rattle.cl_resp.specs.Response.{busy_window, response_to, IsSettled}
+use Rattle.cl_resp.proofs.BusyWindowDemand.{HoldsDemand, settled_holds}
 use Rattle.cl_resp.proofs.BusyWindowJob.{work_of_first, done_in_response}
+use Rattle.cl_resp.proofs.SettledTasks.{settled_response}
 
 module _ (system : System) (sound : IsSound system) (run : Run) (legal : IsLegal system run) (i : ℕ) (is : i < length system.tasks)
     (width : ℕ) (holds : HoldsDemand system i width) where
@@ -31,7 +32,7 @@ module _ (system : System) (sound : IsSound system) (run : Run) (legal : IsLegal
       let apart : (job_at (jobs_of run i) k).arrival + (timing_at system i).deadline ≤ (job_at (jobs_of run i) (suc k)).arrival
       = arrives_after_deadline system sound run legal i is k (suc k) (omega arith) below in
       let released : (job_at (jobs_of run i) (suc k)).arrival ≤ (job_at (jobs_of run i) (suc k)).release
-      = release_after system sound run legal i is (suc k) below in
+      = released_late system sound run legal i is (suc k) below in
       let earlier : (job_at (jobs_of run i) k).arrival + (greatest_jitter (timing_at system i).pattern + width)
       ≤ (job_at (jobs_of run i) (suc k)).release = omega (arith, apart, released, holds.within) in
       done_in_response system sound run legal i is (suc k) width below holds lasts (omega (
@@ -59,13 +60,13 @@ pub settled_finish : (system : System) → IsSound system → (i response : ℕ)
 settled_finish system sound i response settled run legal = record {
   each = λ k below lasts.
       let (t, within, finishes) = finishes_by_response system sound run legal i settled.is_task settled.window
-      (settled_holds system i response settled (sound.tasks i settled.is_task).above_jitter) k below
+      (settled_holds system sound i response settled) k below
       (omega (arith, lasts, settled_response system i response settled)) in
       (t, finishes, omega (arith, within, settled_response system i response settled));
 }
 
 -- so it is for each task whose question has this window
-pub answers_for : (question : Question) (window : ℕ) → window_of question ≡ Some window → AnswersFor question (question.jitter + window)
+pub answers_for : (question : Question) (window : ℕ) → busy_window question ≡ Some window → AnswersFor question (question.jitter + window)
 answers_for question window found system sound i is_task is =
     let answered : response_to question ≡ Some (record { window = window; response = question.jitter + window })
     = ap (option_map (λ (w : ℕ). record { window = w; response = question.jitter + w })) found in

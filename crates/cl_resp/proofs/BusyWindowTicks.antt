@@ -1,9 +1,11 @@
--- What a core runs in a tick while a task waits: a task above it, and where none is pending and it is, the task itself.
+-- What a core runs in a tick while a task waits: a task above it, or where none is pending and it is, the task itself; or
+-- a held task that isn't above.
 use Rattle.std.proofs.Common.{◌≡◌, ℕ, zero, suc, ◌+◌, ◌<◌, ◌≤◌, ◌⊎◌, inl, inr, Option, Some, None, Bool, true, length, refl, ap, ◌∙◌, arith}
 use Rattle.std.proofs.lemmas.Bool.{cases_lt, and_parts, and_from, eqb-true, eq-eqb, ltb-true, lt-ltb}
 use Rattle.cl_runs.specs.TaskTiming.{System, timing_at, IsSound}
 use Rattle.cl_runs.specs.Run.{Run, jobs_of, entry_at, executed}
 use Rattle.cl_runs.specs.Legal.{released, IsLegal, IsScheduled}
+use Rattle.cl_runs.specs.Moments.{IsHeldAt}
 use Rattle.cl_runs.proofs.Climbing.{climb_mono}
 use Rattle.cl_runs.proofs.Executed.{executed_zero, executed_climbs, executed_grew, executed_more}
 use Rattle.cl_runs.proofs.LegalFacts.{core_ticks, executed_released, running_pending}
@@ -27,11 +29,20 @@ pub record RunsAbove (system : System) (run : Run) (i t : ℕ) : Type 0 where
   pub above : above system i task ≡ true
   pub runs : entry_at run (timing_at system i).core t ≡ Some task
 
+-- in tick t a held task runs that isn't above task i
+pub record RunsHeld (system : System) (run : Run) (i t : ℕ) : Type 0 where
+  pub task : ℕ
+  pub is_task : task < length system.tasks
+  pub on_core : (timing_at system task).core ≡ (timing_at system i).core
+  pub lower : (timing_at system task).priority ≤ (timing_at system i).priority
+  pub held : IsHeldAt system run task t
+  pub runs : entry_at run (timing_at system i).core t ≡ Some task
+
 -- a task above is on the same core, and its priority is higher
-above_core : (system : System) (i j : ℕ) → above system i j ≡ true → (timing_at system j).core ≡ (timing_at system i).core
+pub above_core : (system : System) (i j : ℕ) → above system i j ≡ true → (timing_at system j).core ≡ (timing_at system i).core
 above_core system i j is = eqb-true _ _ (and_parts _ _ is).0
 
-above_priority : (system : System) (i j : ℕ) → above system i j ≡ true → (timing_at system i).priority < (timing_at system j).priority
+pub above_priority : (system : System) (i j : ℕ) → above system i j ≡ true → (timing_at system i).priority < (timing_at system j).priority
 above_priority system i j is = ltb-true _ _ (and_parts _ _ is).1
 
 above_from : (system : System) (i j : ℕ) → (timing_at system j).core ≡ (timing_at system i).core
@@ -57,51 +68,57 @@ module _ (system : System) (sound : IsSound system) (run : Run) (legal : IsLegal
       omega (arith, executed_next j is t h (executed_climbs system run j t), released_is (jobs_of run j) t)
 
 module _ (system : System) (sound : IsSound system) (run : Run) (legal : IsLegal system run) (i : ℕ) (is : i < length system.tasks) where
-  -- where a task above has work left, one above is scheduled
-  scheduled_above : (t : ℕ) (e : Option ℕ)
+  -- where a held task is scheduled, it is above or it isn't
+  scheduled_held : (t m : ℕ) → m < length system.tasks → (timing_at system m).core ≡ (timing_at system i).core → IsHeldAt system run m t
+      → entry_at run (timing_at system i).core t ≡ Some m → RunsAbove system run i t ⊎ RunsHeld system run i t
+  scheduled_held t m is_m core held runs = elim (cases_lt (timing_at system i).priority (timing_at system m).priority) [
+    | inl higher ↦ inl (record { task = m; is_task = is_m; above = above_from system i m core higher; runs = runs })
+    | inr lower ↦ inr (record { task = m; is_task = is_m; on_core = core; lower = lower; held = held; runs = runs })
+  ]
+
+  -- where a task above has work left, one above is scheduled, or a held task
+  scheduled_above : (t : ℕ) (e : Option ℕ) → entry_at run (timing_at system i).core t ≡ e
       → IsScheduled system run.table (λ j. executed system run j t) t (timing_at system i).core e
       → HasLess (above system i) (λ j. executed system run j t) (λ j. released_before (jobs_of run j) (suc t)) (length system.tasks)
-      → (m : ℕ) × (m < length system.tasks) × (above system i m ≡ true) × (e ≡ Some m)
-  scheduled_above t None idle less = absurd (idle.none less.at less.below (above_core system i less.at less.passes)
+      → RunsAbove system run i t ⊎ RunsHeld system run i t
+  scheduled_above t None runs idle less = absurd (idle.1.none less.at less.below (above_core system i less.at less.passes)
       (omega (arith, less.less, released_is (jobs_of run less.at) t)))
-  scheduled_above t (Some m) first less =
+  scheduled_above t (Some m) runs (inl first) less = scheduled_held t m first.is_task first.on_core first.held runs
+  scheduled_above t (Some m) runs (inr first) less =
       let no_lower : (timing_at system less.at).priority ≤ (timing_at system m).priority
-      = first.highest less.at less.below (above_core system i less.at less.passes) (omega (arith, less.less, released_is (jobs_of run less.at) t)) in (
-        m,
-        first.is_task,
-        above_from system i m first.on_core (omega (arith, above_priority system i less.at less.passes, no_lower)),
-        refl,
-      )
+      = first.1.highest less.at less.below (above_core system i less.at less.passes) (omega (arith, less.less, released_is (jobs_of run less.at) t)) in
+      inl (record {
+        task = m;
+        is_task = first.1.is_task;
+        above = above_from system i m first.1.on_core (omega (arith, above_priority system i less.at less.passes, no_lower));
+        runs = runs;
+      })
 
-  -- where the task itself has, it is scheduled or one above
-  scheduled_here : (t : ℕ) (e : Option ℕ)
+  -- where the task itself has, one above is scheduled, or the task, or another held task
+  scheduled_here : (t : ℕ) (e : Option ℕ) → entry_at run (timing_at system i).core t ≡ e
       → IsScheduled system run.table (λ j. executed system run j t) t (timing_at system i).core e
       → executed system run i t < released_before (jobs_of run i) (suc t)
-      → ((m : ℕ) × (m < length system.tasks) × (above system i m ≡ true) × (e ≡ Some m)) ⊎ (e ≡ Some i)
-  scheduled_here t None idle less = absurd (idle.none i is refl (omega (arith, less, released_is (jobs_of run i) t)))
-  scheduled_here t (Some m) first less =
+      → (RunsAbove system run i t ⊎ RunsHeld system run i t) ⊎ (e ≡ Some i)
+  scheduled_here t None runs idle less = absurd (idle.1.none i is refl (omega (arith, less, released_is (jobs_of run i) t)))
+  scheduled_here t (Some m) runs (inl first) less = inl (scheduled_held t m first.is_task first.on_core first.held runs)
+  scheduled_here t (Some m) runs (inr first) less =
       let no_lower : (timing_at system i).priority ≤ (timing_at system m).priority
-      = first.highest i is refl (omega (arith, less, released_is (jobs_of run i) t)) in
+      = first.1.highest i is refl (omega (arith, less, released_is (jobs_of run i) t)) in
       elim (cases_lt (timing_at system i).priority (timing_at system m).priority) [
-        | inl higher ↦ inl (m, first.is_task, above_from system i m first.on_core higher, refl)
-        | inr no_higher ↦ inr (ap Some (sound.distinct m i first.is_task is first.on_core (omega arith)))
+        | inl higher ↦ inl (inl (record { task = m; is_task = first.1.is_task; above = above_from system i m first.1.on_core higher; runs = runs }))
+        | inr no_higher ↦ inr (ap Some (sound.distinct m i first.1.is_task is first.1.on_core (omega arith)))
       ]
 
-  -- where one above has work left, one above runs
+  -- where one above has work left, one above runs, or a held task
   pub runs_above : (t : ℕ) → t < run.table.ticks
       → HasLess (above system i) (λ j. executed system run j t) (λ j. released_before (jobs_of run j) (suc t)) (length system.tasks)
-      → RunsAbove system run i t
-  runs_above t h less =
-      let (m, is_m, above_m, runs) = scheduled_above t _ (legal.scheduled (timing_at system i).core t (sound.tasks i is).on_core h) less in
-      record { task = m; is_task = is_m; above = above_m; runs = runs }
+      → RunsAbove system run i t ⊎ RunsHeld system run i t
+  runs_above t h less = scheduled_above t _ refl (legal.scheduled (timing_at system i).core t (sound.tasks i is).on_core h) less
 
-  -- where the task itself has, it runs or one above
+  -- where the task itself has, one above runs, or a held task, or the task
   pub runs_here : (t : ℕ) → t < run.table.ticks → executed system run i t < released_before (jobs_of run i) (suc t)
-      → RunsAbove system run i t ⊎ (entry_at run (timing_at system i).core t ≡ Some i)
-  runs_here t h less = elim (scheduled_here t _ (legal.scheduled (timing_at system i).core t (sound.tasks i is).on_core h) less) [
-    | inl higher ↦ let (m, is_m, above_m, runs) = higher in inl (record { task = m; is_task = is_m; above = above_m; runs = runs })
-    | inr itself ↦ inr itself
-  ]
+      → (RunsAbove system run i t ⊎ RunsHeld system run i t) ⊎ (entry_at run (timing_at system i).core t ≡ Some i)
+  runs_here t h less = scheduled_here t _ refl (legal.scheduled (timing_at system i).core t (sound.tasks i is).on_core h) less
 
   -- where one above runs, the executed ticks of those above grow
   above_grows : (t : ℕ) → t < run.table.ticks → RunsAbove system run i t → executed_above system run i t < executed_above system run i (suc t)

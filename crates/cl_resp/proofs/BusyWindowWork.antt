@@ -1,15 +1,16 @@
 -- The work of a task that is released before a moment, and how much of it a window of ticks can add.
 use Rattle.std.proofs.Common.{◌≡◌, ℕ, zero, suc, ◌+◌, ◌*◌, ◌<◌, ◌≤◌, Bool, true, false, ◌&&◌, cond, nat_le, nat_lt, List, [], ◌∷◌, take, refl, ap, arith, add-mul}
-use Rattle.std.specs.Prelude.{sum, sum_by}
+use Rattle.std.specs.Prelude.{sum, sum_by, All}
 use Rattle.std.specs.List.{AllZip}
 use Rattle.std.proofs.lemmas.Bool.Decides.{nat_tests}
+use Rattle.std.proofs.lemmas.List.Elements.{All-head, All-tail}
 use Rattle.std.proofs.lemmas.List.Sums.{sum_by-cons, sum_by-le-sum_by}
 use Rattle.cl_runs.specs.TaskTiming.{TimeRange, Timing}
 use Rattle.cl_runs.specs.declared.job.Job.{Job}
-use Rattle.cl_runs.specs.Table.{job_at, IsInRange, IsLawfulJob, AreLawfulFrom}
+use Rattle.cl_runs.specs.Table.{job_at, LiesIn, HasTimes}
 use Rattle.cl_runs.specs.Legal.{released}
 use Rattle.cl_stim.specs.Releases.{releases_in}
-use Rattle.cl_resp.specs.Question.{greatest_time}
+use Rattle.cl_resp.specs.Question.{greatest_execution}
 
 -- the total time of the jobs that are released before t
 unfoldable pub released_before : List Job → ℕ → ℕ
@@ -58,7 +59,7 @@ pub before_zero : (jobs : List Job) → released_before jobs 0 ≡ 0
 before_zero [] = before_nil 0
 before_zero (job ∷ jobs) = omega (arith, before_cons job jobs 0, none_at_zero job.release (sum job.times), before_zero jobs)
 
-within_greatest : (ranges : List TimeRange) (times : List ℕ) → AllZip IsInRange ranges times → sum times ≤ sum_by (λ (range : TimeRange). range.greatest) ranges
+within_greatest : (ranges : List TimeRange) (times : List ℕ) → AllZip LiesIn ranges times → sum times ≤ sum_by (λ (range : TimeRange). range.greatest) ranges
 within_greatest [] [] zipped = omega arith
 within_greatest [] (time ∷ times) zipped = absurd zipped
 within_greatest (range ∷ ranges) [] zipped = absurd zipped
@@ -70,10 +71,10 @@ within_greatest (range ∷ ranges) (time ∷ times) zipped = omega (
   sum_by-cons (λ (r : TimeRange). r.greatest) range ranges,
 )
 
--- a lawful job takes no more than the greatest time of its task
-pub job_within : (task : Timing) (ticks low high : ℕ) (job : Job) → IsLawfulJob task ticks low high job → sum job.times ≤ greatest_time task
-unfolding greatest_time
-job_within task ticks low high job lawful = within_greatest task.ranges job.times lawful.times
+-- a job takes no more than the greatest execution time of its task
+pub job_within : (task : Timing) (job : Job) → HasTimes task job → sum job.times ≤ greatest_execution task
+unfolding greatest_execution
+job_within task job times = within_greatest task.ranges job.times times
 
 -- a job adds its time to the work of a window only if it is released there
 part_added : (r start width v most : ℕ) → v ≤ most
@@ -84,18 +85,18 @@ one_or_none : (b : Bool) (most count : ℕ) → cond b most 0 + count * most ≡
 one_or_none true most count = omega (arith, add-mul 1 count most)
 one_or_none false most count = omega (arith, add-mul 0 count most)
 
--- the work that a window adds is at most the greatest time for each release in it
-pub work_added : (task : Timing) (ticks start width : ℕ) (jobs : List Job) (k low high : ℕ) → AreLawfulFrom task ticks k low high jobs
-    → released_before jobs (start + width) ≤ released_before jobs start + releases_in jobs start width * greatest_time task
-work_added task ticks start width [] k low high lawful = omega (arith, before_nil (start + width))
-work_added task ticks start width (job ∷ jobs) k low high lawful = omega (
+-- the work that a window adds is at most the greatest execution time for each release in it
+pub work_added : (task : Timing) (start width : ℕ) (jobs : List Job) → All (HasTimes task) jobs
+    → released_before jobs (start + width) ≤ released_before jobs start + releases_in jobs start width * greatest_execution task
+work_added task start width [] times = omega (arith, before_nil (start + width))
+work_added task start width (job ∷ jobs) times = omega (
   arith,
   before_cons job jobs start,
   before_cons job jobs (start + width),
-  part_added job.release start width (sum job.times) (greatest_time task) (job_within task ticks low high job lawful.0),
-  one_or_none (nat_le start job.release && nat_lt job.release (start + width)) (greatest_time task) (releases_in jobs start width),
-  ap (λ (count : ℕ). count * greatest_time task) (releases_cons job jobs start width),
-  work_added task ticks start width jobs (suc k) _ _ lawful.1,
+  part_added job.release start width (sum job.times) (greatest_execution task) (job_within task job (All-head (HasTimes task) job jobs times)),
+  one_or_none (nat_le start job.release && nat_lt job.release (start + width)) (greatest_execution task) (releases_in jobs start width),
+  ap (λ (count : ℕ). count * greatest_execution task) (releases_cons job jobs start width),
+  work_added task start width jobs (All-tail (HasTimes task) job jobs times),
 )
 
 part_there : (r t v : ℕ) → r ≤ t → cond (nat_lt r (suc t)) v 0 ≡ v

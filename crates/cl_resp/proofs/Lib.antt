@@ -1,9 +1,13 @@
+pub mod FirstFound
+pub mod StimulusKinds
 pub mod Windows
+pub mod SettledTasks
 pub mod BusyWindowTotals
 pub mod BusyWindowStart
 pub mod BusyWindowWork
-pub mod BusyWindowJobs
+pub mod Greatest
 pub mod BusyWindowTicks
+pub mod BusyWindowHeld
 pub mod BusyWindowDemand
 pub mod BusyWindowJob
 pub mod BusyWindowTask

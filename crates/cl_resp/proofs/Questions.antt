@@ -1,9 +1,9 @@
 -- The question of a task of a valid model: what it is by the numbers of the tasks of its core, and that it is in range.
-use Rattle.std.proofs.Common.{◌≡◌, ℕ, ◌+◌, ◌*◌, ◌<◌, ◌≤◌, Bool, true, false, nat_lt, List, length, get_or, map, refl, sym, ap, ◌∙◌, subst, arith}
+use Rattle.std.proofs.Common.{◌≡◌, ℕ, ◌+◌, ◌-◌, ◌*◌, ◌<◌, ◌≤◌, Bool, true, false, cond, nat_le, nat_lt, List, length, get_or, map, sym, ap, ◌∙◌, subst, arith}
 use Rattle.std.specs.Prelude.{All, ◌==◌}
 use Rattle.std.specs.List.{filter, range_with_len}
 use Rattle.std.proofs.lemmas.Bool.{ltb-true, eqb-true, eq-eqb, le-ltb}
-use Rattle.std.proofs.lemmas.List.{get_or-map, length-map}
+use Rattle.std.proofs.lemmas.List.{length-map}
 use Rattle.std.proofs.lemmas.List.Elements.{All-map, All-filter, filter_passes}
 use Rattle.std.proofs.lemmas.List.Folds.{fold-map}
 use Rattle.std.proofs.lemmas.List.FromFn.{length-range_with_len, get_or-range_with_len}
@@ -11,21 +11,23 @@ use Rattle.std.proofs.lemmas.Simd.{map-map}
 use Rattle.cl_model.specs.declared.limits.TheConstants.{MOST_TICKS, MOST_DISTANCES, MOST_TASKS_OF_CORE}
 use Rattle.cl_model.specs.declared.model.SystemModel.{SystemModel}
 use Rattle.cl_model.specs.declared.stimulus.StimulusKind.{StimulusKind}
-use Rattle.cl_model.specs.declared.stimulus.StimulusKind.TheVariants.{Periodic, Sporadic}
-use Rattle.cl_model.specs.OfTask as tasks
-use Rattle.cl_model.specs.OfTask.{no_task, task_at, core_of, deadline_of, jitter_of, time_of, tasks_of_core}
-use Rattle.cl_model.specs.Ranges.{IsKindInRange}
+use Rattle.cl_model.specs.declared.task.RunnableDef.{RunnableDef}
+use Rattle.cl_model.specs.ByNumber as tasks
+use Rattle.cl_model.specs.ByNumber.{no_task, task_at, core_of, deadline_of, jitter_of, time_of, tasks_of_core}
 use Rattle.cl_model.specs.Timing.{least_distance, greatest_jitter}
 use Rattle.cl_model.specs.Validity.{IsValid}
-use Rattle.cl_model.proofs.ValidTasks.{kind_in_range, early_enough, released_before, some_time, little_time}
+use Rattle.cl_model.proofs.ValidTasks.{kind_in_range, early_enough, released_before, some_time, little_time, runnables_in_range}
 use Rattle.cl_model.proofs.CoreTasks.{below_known, few_tasks, few_distances}
-use Rattle.cl_runs.specs.TaskTiming.{TimeRange, Timing, timing_at, no_timing}
+use Rattle.cl_runs.specs.TaskTiming.{TimeRange, Timing, timing_at}
 use Rattle.cl_runs.specs.SystemOf.{range_of, timing_of, system_of}
-use Rattle.cl_stim.specs.AnyStimulus.{kind_of, stimulus_of}
+use Rattle.cl_runs.proofs.ModelSystem.{timing_is}
+use Rattle.cl_stim.specs.AnyStimulus.{as_stimulus}
 use Rattle.cl_resp.specs.declared.question.Above.{Above}
 use Rattle.cl_resp.specs.declared.question.Question.{Question}
-use Rattle.cl_resp.specs.Question.{greatest_time, is_above, taken_by, question_of, IsAboveInRange, IsQuestionInRange}
+use Rattle.cl_resp.specs.Question.{greatest_execution, is_above, may_block, greatest_by, hold_of, longest_hold, block_of, taken_by, question_of, IsAboveInRange, IsQuestionInRange}
+use Rattle.cl_resp.proofs.StimulusKinds.{kind_of-as_stimulus, least_few}
 use Rattle.cl_resp.proofs.Filters.{by_number, maps_agree, filter-map, filter-both, fewer}
+use Rattle.cl_resp.proofs.Greatest.{greatest_within, greatest_agrees, greatest_mapped}
 
 -- whether another task has a higher priority, by number
 abbrev pub is_higher : SystemModel → (task other : ℕ) → Bool
@@ -33,17 +35,29 @@ is_higher model task other = nat_lt (task_at model task).priority (task_at model
 
 -- what a task takes of its core, by number
 abbrev pub above_at : SystemModel → (other : ℕ) → Above
-above_at model other = record { stimulus = stimulus_of (tasks.stimulus_of model other); time = time_of model other }
+above_at model other = record { stimulus = as_stimulus (tasks.stimulus_of model other); time = time_of model other }
 
 -- the numbers of the tasks above a task
 abbrev pub numbers_above : SystemModel → (task : ℕ) → List ℕ
 numbers_above model task = filter (is_higher model task) (tasks_of_core model (core_of model task))
 
+-- how long a runnable of a task may hold its core, by number
+abbrev pub hold_at : SystemModel → (other : ℕ) → ℕ
+hold_at model other = greatest_by (λ (runnable : RunnableDef). hold_of (range_of runnable)) (task_at model other).runnables
+
+-- whether another task has no higher priority, by number
+abbrev pub is_no_higher : SystemModel → (task other : ℕ) → Bool
+is_no_higher model task other = nat_le (task_at model other).priority (task_at model task).priority
+
+-- how long a runnable of such a task on the core of a task may
+abbrev pub longest_no_higher : SystemModel → (task : ℕ) → ℕ
+longest_no_higher model task = greatest_by (hold_at model) (filter (is_no_higher model task) (tasks_of_core model (core_of model task)))
+
 -- the question of a task, by number
-abbrev pub question_at : SystemModel → (task : ℕ) → Question
-question_at model task = record {
+abbrev pub question_by_number : SystemModel → (task : ℕ) → Question
+question_by_number model task = record {
   time = time_of model task;
-  block = 0;
+  block = longest_no_higher model task;
   jitter = jitter_of model task;
   deadline = deadline_of model task;
   above = map (above_at model) (numbers_above model task);
@@ -52,57 +66,69 @@ question_at model task = record {
 -- ---- the question by number is the question
 
 module _ (model : SystemModel) where
-  timing_is : (i : ℕ) → i < length model.tasks → timing_at (system_of model) i ≡ timing_of model (task_at model i)
-  unfolding system_of
-  timing_is i h = get_or-map (timing_of model) model.tasks i no_task no_timing h
-
-  time_is : (i : ℕ) → greatest_time (timing_of model (task_at model i)) ≡ time_of model i
-  unfolding greatest_time
+  time_is : (i : ℕ) → greatest_execution (timing_of model (task_at model i)) ≡ time_of model i
+  unfolding greatest_execution
   time_is i = fold-map (λ (a : ℕ) (range : TimeRange). a + range.greatest) range_of 0 (task_at model i).runnables
 
   taken_is : (i : ℕ) → taken_by (timing_of model (task_at model i)) ≡ above_at model i
-  taken_is i = ap (λ time. record { stimulus = stimulus_of (tasks.stimulus_of model i); time = time }) (time_is i)
+  taken_is i = ap (λ time. record { stimulus = as_stimulus (tasks.stimulus_of model i); time = time }) (time_is i)
+
+  hold_is : (i : ℕ) → longest_hold (timing_of model (task_at model i)) ≡ hold_at model i
+  unfolding longest_hold
+  hold_is i = greatest_mapped hold_of range_of (task_at model i).runnables
+
+  -- the timings that pass a test are those of the numbers that do
+  timings_passing : (test : Timing → Bool) → filter test (system_of model).tasks
+      ≡ map (λ j. timing_of model (task_at model j)) (filter (λ j. test (timing_of model (task_at model j))) (range_with_len 0 (length model.tasks)))
+  unfolding system_of
+  timings_passing test =
+      let all = range_with_len 0 (length model.tasks) in
+      ap (λ tasks. filter test (map (timing_of model) tasks)) (sym (by_number model.tasks no_task))
+      ∙ ap (filter test) (map-map (timing_of model) (task_at model) all)
+      ∙ filter-map test (λ j. timing_of model (task_at model j)) all
 
   pub above_is : (i : ℕ) → map taken_by (filter (is_above (timing_of model (task_at model i))) (system_of model).tasks) ≡ map (above_at model) (numbers_above model i)
-  unfolding system_of
   above_is i =
       let task = timing_of model (task_at model i) in
       let timing : ℕ → Timing = λ j. timing_of model (task_at model j) in
       let all = range_with_len 0 (length model.tasks) in
-      let numbered : map (timing_of model) model.tasks ≡ map timing all
-      = ap (map (timing_of model)) (sym (by_number model.tasks no_task)) ∙ map-map (timing_of model) (task_at model) all in
-      ap (λ ts. map taken_by (filter (is_above task) ts)) numbered
-      ∙ ap (map taken_by) (filter-map (is_above task) timing all)
+      ap (map taken_by) (timings_passing (is_above task))
       ∙ map-map taken_by timing (filter (λ j. is_above task (timing j)) all)
       ∙ ap (map (λ j. taken_by (timing j))) (filter-both (λ j. core_of model j == core_of model i) (is_higher model i) all)
       ∙ maps_agree (λ j. taken_by (timing j)) (above_at model) taken_is (numbers_above model i)
 
+  pub block_is : (i : ℕ) → block_of (system_of model) (timing_of model (task_at model i)) ≡ longest_no_higher model i
+  unfolding block_of
+  block_is i =
+      let task = timing_of model (task_at model i) in
+      let timing : ℕ → Timing = λ j. timing_of model (task_at model j) in
+      let all = range_with_len 0 (length model.tasks) in
+      ap (greatest_by longest_hold) (timings_passing (may_block task))
+      ∙ greatest_mapped longest_hold timing (filter (λ j. may_block task (timing j)) all)
+      ∙ ap (greatest_by (λ j. longest_hold (timing j))) (filter-both (λ j. core_of model j == core_of model i) (is_no_higher model i) all)
+      ∙ greatest_agrees (λ j. longest_hold (timing j)) (hold_at model) hold_is (filter (is_no_higher model i) (tasks_of_core model (core_of model i)))
+
   -- with the timing of the task
-  with_timing : (i : ℕ) → question_of (system_of model) (timing_of model (task_at model i)) ≡ question_at model i
+  with_timing : (i : ℕ) → question_of (system_of model) (timing_of model (task_at model i)) ≡ question_by_number model i
   unfolding question_of
   with_timing i =
-      let above = map taken_by (filter (is_above (timing_of model (task_at model i))) (system_of model).tasks) in
-      let asked : ℕ → List Above → Question = λ time above. record {
+      let task = timing_of model (task_at model i) in
+      let above = map taken_by (filter (is_above task) (system_of model).tasks) in
+      let asked : (time block : ℕ) → List Above → Question = λ time block above. record {
         time = time;
-        block = 0;
+        block = block;
         jitter = jitter_of model i;
         deadline = deadline_of model i;
         above = above;
       } in
-      ap (λ time. asked time above) (time_is i) ∙ ap (asked (time_of model i)) (above_is i)
+      ap (λ time. asked time (block_of (system_of model) task) above) (time_is i)
+      ∙ ap (λ block. asked (time_of model i) block above) (block_is i)
+      ∙ ap (asked (time_of model i) (longest_no_higher model i)) (above_is i)
 
-  pub question_is : (i : ℕ) → i < length model.tasks → question_of (system_of model) (timing_at (system_of model) i) ≡ question_at model i
-  question_is i h = ap (question_of (system_of model)) (timing_is i h) ∙ with_timing i
+  pub question_is : (i : ℕ) → i < length model.tasks → question_of (system_of model) (timing_at (system_of model) i) ≡ question_by_number model i
+  question_is i h = ap (question_of (system_of model)) (timing_is model i h) ∙ with_timing i
 
 -- ---- the question is in range
-
-least_few : (kind : StimulusKind) → IsKindInRange kind → least_distance kind ≤ MOST_TICKS
-least_few (Periodic period offset jitter) in_range = in_range.0.1
-least_few (Sporadic least greatest) in_range = in_range.0.1
-
-kind_same : (kind : StimulusKind) → kind_of (stimulus_of kind) ≡ kind
-kind_same (Periodic period offset jitter) = refl
-kind_same (Sporadic least greatest) = refl
 
 module _ (model : SystemModel) (valid : IsValid model) (i : ℕ) (h : i < length model.tasks) where
   one_above : (j : ℕ) → j < length model.tasks → core_of model j ≡ core_of model i → (task_at model i).priority < (task_at model j).priority
@@ -111,7 +137,7 @@ module _ (model : SystemModel) (valid : IsValid model) (i : ℕ) (h : i < length
       let kind = tasks.stimulus_of model j in
       record {
         time = little_time model valid j known;
-        distances = subst (λ (k : StimulusKind). deadline_of model i + greatest_jitter k ≤ MOST_DISTANCES * least_distance k) (sym (kind_same kind))
+        distances = subst (λ (k : StimulusKind). deadline_of model i + greatest_jitter k ≤ MOST_DISTANCES * least_distance k) (sym (kind_of-as_stimulus kind))
             (few_distances model valid i j h known (sym cores) higher);
       }
 
@@ -136,30 +162,52 @@ module _ (model : SystemModel) (valid : IsValid model) (i : ℕ) (h : i < length
       let less = fewer on_core (is_higher model i) all i 0 (omega (arith, h, length-range_with_len 0 (length model.tasks))) itself not_above in
       omega (arith, less, length-map (numbers_above model i) (above_at model), few_tasks model valid (core_of model i))
 
-  pub question_in_range : IsQuestionInRange (question_at model i)
+  -- no runnable in range holds its core for longer than the greatest time
+  hold_few : (j : ℕ) → j < length model.tasks → hold_at model j ≤ MOST_TICKS
+  hold_few j known = greatest_within (λ (runnable : RunnableDef). hold_of (range_of runnable)) (task_at model j).runnables MOST_TICKS
+      (λ p d lt. part_few (get_or (task_at model j).runnables p d).whole (get_or (task_at model j).runnables p d).greatest
+      (runnables_in_range model valid j known p d lt).greatest.1)
+    where
+      part_few : (whole : Bool) (greatest : ℕ) → greatest ≤ MOST_TICKS → cond whole (greatest - 1) 0 ≤ MOST_TICKS
+      part_few true greatest few = omega (arith, few)
+      part_few false greatest few = omega arith
+
+  block_few : longest_no_higher model i ≤ MOST_TICKS
+  block_few =
+      let on_core : ℕ → Bool = λ j. core_of model j == core_of model i in
+      let all = range_with_len 0 (length model.tasks) in
+      greatest_within (hold_at model) (filter (is_no_higher model i) (filter on_core all)) MOST_TICKS
+      (λ k d lt. hold_few _ (All-filter (is_no_higher model i) (λ j. j < length model.tasks) (filter on_core all)
+      (below_known model (length model.tasks) (core_of model i)) k d lt))
+
+  pub question_in_range : IsQuestionInRange (question_by_number model i)
   question_in_range = record {
     released_before = released_before model valid i h;
     deadline = omega (arith, early_enough model valid i h, least_few (tasks.stimulus_of model i) (kind_in_range model valid i h));
     some_time = some_time model valid i h;
     time = little_time model valid i h;
-    block = omega arith;
+    block = block_few;
     few_above = few_above;
     above = all_above;
   }
 
 -- ---- the question that is put together
 
-module _ (model : SystemModel) (i : ℕ) (h : i < length model.tasks) (time jitter deadline : ℕ) (above : List Above) (is_time : time ≡ time_of model i)
+module _ (model : SystemModel) (i : ℕ) (h : i < length model.tasks) (time block jitter deadline : ℕ) (above : List Above) (is_time : time ≡ time_of model i)
+    (is_block : block ≡ block_of (system_of model) (timing_of model (task_at model i)))
     (is_jitter : jitter ≡ jitter_of model i) (is_deadline : deadline ≡ deadline_of model i)
     (is_list : above ≡ map taken_by (filter (is_above (timing_of model (task_at model i))) (system_of model).tasks)) where
-  put_together : record { time = time; block = 0; jitter = jitter; deadline = deadline; above = above } ≡ question_at model i
-  put_together = let by_number = is_list ∙ above_is model i in cc
+  put_together : record { time = time; block = block; jitter = jitter; deadline = deadline; above = above } ≡ question_by_number model i
+  put_together =
+      let above_by_number = is_list ∙ above_is model i in
+      let block_by_number = is_block ∙ block_is model i in
+      cc
 
-  pub is_question : record { time = time; block = 0; jitter = jitter; deadline = deadline; above = above }
+  pub is_question : record { time = time; block = block; jitter = jitter; deadline = deadline; above = above }
       ≡ question_of (system_of model) (timing_at (system_of model) i)
   is_question = put_together ∙ sym (question_is model i h)
 
-  pub is_in_range : IsValid model → IsQuestionInRange (record { time = time; block = 0; jitter = jitter; deadline = deadline; above = above })
+  pub is_in_range : IsValid model → IsQuestionInRange (record { time = time; block = block; jitter = jitter; deadline = deadline; above = above })
   is_in_range valid = subst (λ (q : Question). IsQuestionInRange q) (sym put_together) (question_in_range model valid i h)
 
 -- the question of each task is in range

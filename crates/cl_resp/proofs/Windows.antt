@@ -1,7 +1,9 @@
--- The window of a task: the least width that holds its own demand, which never falls as the width grows.
-use Rattle.std.proofs.Common.{◌≡◌, ℕ, zero, suc, ◌+◌, ◌-◌, ◌*◌, ◌<◌, ◌≤◌, ◌⊎◌, inl, inr, Bool, true, false, nat_le, Option, Some, None, refl, sym, ap, ◌∙◌, subst, arith}
-use Rattle.std.specs.List.{find, range_with_len}
-use Rattle.std.proofs.lemmas.Bool.{cases_Bool, cases_lt, cond-true, cond-false, leb-true, leb-false, le-leb, true≢false}
+-- The window of a task: the least width that holds its own demand, which never falls as the width grows, and so the least
+-- fixpoint of the demand.
+use Rattle.std.proofs.Common.{◌≡◌, ℕ, ◌+◌, ◌-◌, ◌*◌, ◌<◌, ◌≤◌, ◌⊎◌, inl, inr, Bool, false, nat_le, Option, Some, None, List, get_or, refl, sym, ap, ◌∙◌, subst, arith}
+use Rattle.std.specs.List.{range_with_len}
+use Rattle.std.proofs.lemmas.Bool.{cases_lt, leb-true, leb-false, le-leb, true≢false}
+use Rattle.std.proofs.lemmas.List.FromFn.{get_or-range_with_len, length-range_with_len}
 use Rattle.std.proofs.lemmas.List.Sums.{sum_by-le-sum_by}
 use Rattle.std.proofs.Math.Nat.{mul-le-mul_right}
 use Rattle.cl_stim.proofs.Releases.{most_rises}
@@ -9,64 +11,8 @@ use Rattle.cl_stim.specs.AnyStimulus.{kind_of}
 use Rattle.cl_stim.specs.Releases.{most_releases}
 use Rattle.cl_resp.specs.declared.question.Above.{Above}
 use Rattle.cl_resp.specs.declared.question.Question.{Question}
-use Rattle.cl_resp.specs.Response.{demand, window_of, IsWindow}
-
--- ---- the first number that passes a test
-
--- what is found passes, and no lesser number from the start on does
-record IsFirst (test : ℕ → Bool) (start count n : ℕ) : Type 0 where
-  from : start ≤ n
-  below : n < start + count
-  passes : test n ≡ true
-  first : (lesser : ℕ) → start ≤ lesser → lesser < n → test lesser ≡ false
-
--- one step of the search
-found_here : (test : ℕ → Bool) (start count : ℕ) → test start ≡ true → find test (range_with_len start (suc count)) ≡ Some start
-found_here test start count passes = cond-true (test start) (Some start) (find test (range_with_len (start + 1) count)) passes
-
-found_later : (test : ℕ → Bool) (start count : ℕ) → test start ≡ false
-    → find test (range_with_len start (suc count)) ≡ find test (range_with_len (start + 1) count)
-found_later test start count fails = cond-false (test start) (Some start) (find test (range_with_len (start + 1) count)) fails
-
--- below the next number, and at this one
-fails_from : (test : ℕ → Bool) (start : ℕ) → test start ≡ false → (n : ℕ) → start ≤ n → (start + 1 ≤ n → test n ≡ false) → test n ≡ false
-fails_from test start fails n from later = elim (cases_lt start n) [
-  | inl above ↦ later (omega (arith, above))
-  | inr below ↦
-      let same : start ≡ n = omega (arith, from, below) in
-      subst (λ m. test m ≡ false) same fails
-]
-
-first_found : (test : ℕ → Bool) (start count n : ℕ) → find test (range_with_len start count) ≡ Some n → IsFirst test start count n
-first_found test start zero n is = cc
-first_found test start (suc count) n is = elim (cases_Bool (test start)) [
-  | inl passes ↦
-      let here = found_here test start count passes in
-      let same : start ≡ n = cc in
-      record {
-        from = omega (arith, same);
-        below = omega (arith, same);
-        passes = subst (λ m. test m ≡ true) same passes;
-        first = λ lesser from below. absurd (omega (arith, same, from, below));
-      }
-  | inr fails ↦
-      let rest = first_found test (start + 1) count n (sym (found_later test start count fails) ∙ is) in
-      record {
-        from = omega (arith, rest.from);
-        below = omega (arith, rest.below);
-        passes = rest.passes;
-        first = λ lesser from below. fails_from test start fails lesser from (λ later. rest.first lesser later below);
-      }
-]
-
-none_found : (test : ℕ → Bool) (start count : ℕ) → find test (range_with_len start count) ≡ None
-    → (n : ℕ) → start ≤ n → n < start + count → test n ≡ false
-none_found test start zero is n from below = absurd (omega arith)
-none_found test start (suc count) is n from below = elim (cases_Bool (test start)) [
-  | inl passes ↦ let here = found_here test start count passes in cc
-  | inr fails ↦ fails_from test start fails n from
-      (λ later. none_found test (start + 1) count (sym (found_later test start count fails) ∙ is) n later (omega (arith, below)))
-]
+use Rattle.cl_resp.specs.Response.{demand, busy_window, IsWindow, IsLeastFixpoint, HasNoFixpoint}
+use Rattle.cl_resp.proofs.FirstFound.{first_found, none_passes}
 
 -- ---- the demand never falls
 
@@ -85,33 +31,47 @@ module _ (question : Question) where
   abbrev holds : ℕ → Bool
   holds width = nat_le (demand question width) width
 
-  pub window_is_least : (width : ℕ) → window_of question ≡ Some width → IsWindow question width
-  unfolding window_of
+  -- the widths that are tried, and the one at a place
+  abbrev widths : List ℕ
+  widths = range_with_len 1 (question.deadline - question.jitter)
+
+  fails_at : (width place : ℕ) → 1 + place ≡ width → place < question.deadline - question.jitter → holds (get_or widths place 0) ≡ false → holds width ≡ false
+  fails_at width place is within fails =
+      subst (λ w. holds w ≡ false) (get_or-range_with_len 1 (question.deadline - question.jitter) place 0 within ∙ is) fails
+
+  pub window_is_least : (width : ℕ) → busy_window question ≡ Some width → IsWindow question width
+  unfolding busy_window
   window_is_least width is =
-      let found = first_found holds 1 (question.deadline - question.jitter) width is in
+      let found = first_found holds widths width is in
+      let within : found.place < question.deadline - question.jitter = omega (arith, found.within, length-range_with_len 1 (question.deadline - question.jitter)) in
+      let at : 1 + found.place ≡ width = sym (get_or-range_with_len 1 (question.deadline - question.jitter) found.place 0 within) ∙ found.is 0 in
       record {
-        some = found.from;
-        within = omega (arith, found.below);
+        some = omega (arith, at);
+        within = omega (arith, at, within);
         enough = leb-true (demand question width) width found.passes;
         least = λ lesser some enough. elim (cases_lt lesser width) [
-          | inl below ↦ absurd (true≢false (sym (le-leb (demand question lesser) lesser enough) ∙ found.first lesser some below))
+          | inl below ↦
+              let fails = fails_at lesser (lesser - 1) (omega (arith, some)) (omega (arith, at, within, below))
+              (found.fails_before (lesser - 1) 0 (omega (arith, at, some, below))) in
+              absurd (true≢false (sym (le-leb (demand question lesser) lesser enough) ∙ fails))
           | inr above ↦ above
         ];
       }
 
-  pub no_window_holds : window_of question ≡ None → (width : ℕ) → 1 ≤ width → width ≤ question.deadline - question.jitter → width < demand question width
-  unfolding window_of
+  pub no_window_holds : busy_window question ≡ None → (width : ℕ) → 1 ≤ width → width ≤ question.deadline - question.jitter → width < demand question width
+  unfolding busy_window
   no_window_holds is width some within =
-      leb-false (demand question width) width (none_found holds 1 (question.deadline - question.jitter) is width some (omega (arith, within)))
+      leb-false (demand question width) width (fails_at width (width - 1) (omega (arith, some)) (omega (arith, some, within))
+      (none_passes holds widths is (width - 1) 0 (omega (arith, some, within, length-range_with_len 1 (question.deadline - question.jitter)))))
 
-  some_or_none : (window_of question ≡ None) ⊎ ((width : ℕ) × (window_of question ≡ Some width))
-  some_or_none = go (window_of question) refl
+  some_or_none : (busy_window question ≡ None) ⊎ ((width : ℕ) × (busy_window question ≡ Some width))
+  some_or_none = go (busy_window question) refl
     where
-      go : (found : Option ℕ) → window_of question ≡ found → (window_of question ≡ None) ⊎ ((width : ℕ) × (window_of question ≡ Some width))
+      go : (found : Option ℕ) → busy_window question ≡ found → (busy_window question ≡ None) ⊎ ((width : ℕ) × (busy_window question ≡ Some width))
       go None is = inl is
       go (Some width) is = inr (width, is)
 
-  pub least_is_window : (width : ℕ) → IsWindow question width → window_of question ≡ Some width
+  pub least_is_window : (width : ℕ) → IsWindow question width → busy_window question ≡ Some width
   least_is_window width window = elim some_or_none [
     | inl none ↦
         let short = no_window_holds none width window.some window.within in
@@ -122,12 +82,53 @@ module _ (question : Question) where
         found.1 ∙ ap (λ n. Some n) same
   ]
 
-  pub none_where_none_holds : ((width : ℕ) → 1 ≤ width → width ≤ question.deadline - question.jitter → width < demand question width) → window_of question ≡ None
+  pub none_where_none_holds : ((width : ℕ) → 1 ≤ width → width ≤ question.deadline - question.jitter → width < demand question width) → busy_window question ≡ None
   none_where_none_holds short = elim some_or_none [
     | inl none ↦ none
     | inr found ↦
         let other = window_is_least found.0 found.1 in
         absurd (omega (arith, short found.0 other.some other.within, other.enough))
+  ]
+
+  -- ---- fixpoints
+
+  -- where the task takes some time, so does the demand of each width
+  demand_some : (width : ℕ) → question.time ≤ demand question width
+  unfolding demand
+  demand_some width = omega arith
+
+  -- the least width that holds its own demand is a fixpoint: the demand holds its own demand too, and is no greater
+  pub window_is_fixpoint : 1 ≤ question.time → (width : ℕ) → busy_window question ≡ Some width → IsLeastFixpoint question width
+  window_is_fixpoint some width is =
+      let window = window_is_least width is in
+      let needed : width ≤ demand question width = window.least (demand question width) (omega (arith, some, demand_some width))
+      (demand_rises question (demand question width) width window.enough) in
+      record {
+        some = window.some;
+        within = window.within;
+        fixpoint = omega (arith, needed, window.enough);
+        least = λ other other_some fixpoint. window.least other other_some (omega (arith, fixpoint));
+      }
+
+  pub no_window_no_fixpoint : busy_window question ≡ None → HasNoFixpoint question
+  no_window_no_fixpoint is width some within fixpoint =
+      let short = no_window_holds is width some within in omega (arith, short, fixpoint)
+
+  pub fixpoint_is_window : 1 ≤ question.time → (width : ℕ) → IsLeastFixpoint question width → busy_window question ≡ Some width
+  fixpoint_is_window some width least = elim some_or_none [
+    | inl none ↦ absurd (no_window_no_fixpoint none width least.some least.within least.fixpoint)
+    | inr found ↦
+        let other = window_is_fixpoint some found.0 found.1 in
+        let same : found.0 ≡ width = omega (arith, other.least width least.some least.fixpoint, least.least found.0 other.some other.fixpoint) in
+        found.1 ∙ ap (λ n. Some n) same
+  ]
+
+  pub no_fixpoint_no_window : 1 ≤ question.time → HasNoFixpoint question → busy_window question ≡ None
+  no_fixpoint_no_window some no_fixpoint = elim some_or_none [
+    | inl none ↦ none
+    | inr found ↦
+        let is = window_is_fixpoint some found.0 found.1 in
+        absurd (no_fixpoint found.0 is.some is.within is.fixpoint)
   ]
 
   -- ---- the search for it
@@ -147,7 +148,7 @@ module _ (question : Question) where
 
   -- the first width that holds its own demand is the window, where it is within the end
   pub found_at : (width : ℕ) → 1 ≤ width → width ≤ question.deadline - question.jitter → demand question width ≤ width
-      → ((lesser : ℕ) → lesser < width → lesser < demand question lesser) → window_of question ≡ Some width
+      → ((lesser : ℕ) → lesser < width → lesser < demand question lesser) → busy_window question ≡ Some width
   found_at width some within enough less = least_is_window width (record {
     some = some;
     within = within;
@@ -160,5 +161,5 @@ module _ (question : Question) where
 
   -- there is no window where no width up to the end holds its own demand
   pub none_up_to : (width : ℕ) → question.deadline - question.jitter < width
-      → ((lesser : ℕ) → lesser < width → lesser < demand question lesser) → window_of question ≡ None
+      → ((lesser : ℕ) → lesser < width → lesser < demand question lesser) → busy_window question ≡ None
   none_up_to width past less = none_where_none_holds (λ lesser some within. less lesser (omega (arith, past, within)))

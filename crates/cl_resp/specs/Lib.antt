@@ -1,3 +1,3 @@
 pub mod Question
 pub mod Response
-pub mod Finishing
+pub mod Promises

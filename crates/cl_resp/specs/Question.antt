@@ -1,29 +1,51 @@
--- The question of a task: what its response depends on. Source: Audsley et al. 1993, with release jitter.
-use Rattle.std.specs.Prelude.{ℕ, ◌<◌, ◌≤◌, ◌*◌, ◌+◌, Bool, ◌==◌, ◌&&◌, nat_lt, map, filter, length, sum_by, All}
+-- The question of a task: what its response depends on.
+-- Source: Audsley et al. 1993, with release jitter, and with blocking by non-preemptive regions.
+use Rattle.std.specs.Prelude.{ℕ, ◌<◌, ◌≤◌, ◌*◌, ◌+◌, ◌-◌, Bool, ◌==◌, ◌&&◌, cond, nat_le, nat_lt, max, List, fold, map, filter, length, sum_by, All}
 use Rattle.cl_model.specs.declared.limits.TheConstants.{MOST_TICKS, MOST_RUNNABLES, MOST_DISTANCES, MOST_TASKS_OF_CORE}
 use Rattle.cl_model.specs.Timing.{least_distance, greatest_jitter}
 use Rattle.cl_runs.specs.TaskTiming.{TimeRange, Timing, System}
-use Rattle.cl_stim.specs.AnyStimulus.{kind_of, stimulus_of}
+use Rattle.cl_stim.specs.AnyStimulus.{kind_of, as_stimulus}
 use Rattle.cl_resp.specs.declared.question.Above.{Above}
 use Rattle.cl_resp.specs.declared.question.Question.{Question}
 
 -- the greatest execution time of a job of a task
-unfoldable pub greatest_time : Timing → ℕ
-greatest_time task = sum_by (λ (range : TimeRange). range.greatest) task.ranges
+unfoldable pub greatest_execution : Timing → ℕ
+greatest_execution task = sum_by (λ (range : TimeRange). range.greatest) task.ranges
 
 -- whether the other task has a higher priority on the core of the task
 abbrev pub is_above : Timing → (other : Timing) → Bool
 is_above task other = (other.core == task.core) && nat_lt task.priority other.priority
 
+-- whether the other task may hold the core of the task while that waits: it is the task itself, or one of lower priority
+abbrev pub may_block : Timing → (other : Timing) → Bool
+may_block task other = (other.core == task.core) && nat_le other.priority task.priority
+
+-- the greatest of a list by a number of each, 0 where there is none
+abbrev pub greatest_by : {X : Type 0} → (X → ℕ) → List X → ℕ
+greatest_by number xs = fold (λ greatest x. max greatest (number x)) 0 xs
+
+-- how long a runnable that has begun may hold its core: its greatest time without its first tick, where it is whole
+abbrev pub hold_of : TimeRange → ℕ
+hold_of range = cond range.whole (range.greatest - 1) 0
+
+-- how long a runnable of a task may
+unfoldable pub longest_hold : Timing → ℕ
+longest_hold task = greatest_by hold_of task.ranges
+
+-- how long a runnable of the task itself, or of one of lower priority on its core, may
+unfoldable pub block_of : System → Timing → ℕ
+block_of system task = greatest_by longest_hold (filter (may_block task) system.tasks)
+
 -- what a task of higher priority takes
 abbrev pub taken_by : Timing → Above
-taken_by other = record { stimulus = stimulus_of other.pattern; time = greatest_time other }
+taken_by other = record { stimulus = as_stimulus other.pattern; time = greatest_execution other }
 
--- the question of a task: nothing blocks it, and above it stand the tasks of higher priority on its core, in file order
+-- the question of a task: whole runnables of its core block it, but for those of higher priority, and above it stand the
+-- tasks of higher priority on its core, in file order
 unfoldable pub question_of : System → Timing → Question
 question_of system task = record {
-  time = greatest_time task;
-  block = 0;
+  time = greatest_execution task;
+  block = block_of system task;
   jitter = greatest_jitter task.pattern;
   deadline = task.deadline;
   above = map taken_by (filter (is_above task) system.tasks);

@@ -3,8 +3,8 @@ ghost use Rattle.std.specs.Prelude.{◌≡◌, ◌+◌, ◌*◌, ◌^◌, ◌≤
 ghost use Rattle.cl_stim.specs.AnyStimulus.{kind_of};
 ghost use Rattle.cl_stim.specs.Releases.{most_releases};
 ghost use Rattle.cl_resp.specs.Question.{IsQuestionInRange};
-ghost use Rattle.cl_resp.specs.Finishing.{AnswersFor};
-ghost use Rattle.cl_resp.specs.Response.{demand, window_of, response_to};
+ghost use Rattle.cl_resp.specs.Promises.{AnswersFor};
+ghost use Rattle.cl_resp.specs.Response.{demand, busy_window, response_to};
 
 use crate::question::{Above, Question};
 use crate::settled::{Late, Settled};
@@ -40,7 +40,7 @@ fn demand(question: &Question, width: u64) -> u128
 /// does, and goes on to what is needed, as long as that is more.
 fn window(question: &Question) -> Option<u64>
     requires { IsQuestionInRange question.now }
-    ensures { result ≡ window_of question.now }
+    ensures { result ≡ busy_window question.now }
 {
     let end = question.deadline - question.jitter;
     let mut width = question.block + question.time;

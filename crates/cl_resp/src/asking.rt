@@ -1,13 +1,14 @@
 //! The question of a task of a valid model. Times are in ticks.
 ghost use Rattle.std.specs.Prelude.{◌≡◌, ◌<◌, ◌↔◌, IsTrue, length, map, filter, IfOk};
-ghost use Rattle.cl_model.specs.OfTask.{task_at};
+ghost use Rattle.cl_model.specs.declared.task.RunnableDef.{RunnableDef};
+ghost use Rattle.cl_model.specs.ByNumber.{task_at};
 ghost use Rattle.cl_model.specs.Validity.{IsValid};
-ghost use Rattle.cl_runs.specs.SystemOf.{timing_of, system_of};
+ghost use Rattle.cl_runs.specs.SystemOf.{range_of, timing_of, system_of};
 ghost use Rattle.cl_runs.specs.TaskTiming.{timing_at};
-ghost use Rattle.cl_resp.specs.Question.{is_above, taken_by, question_of, IsQuestionInRange};
+ghost use Rattle.cl_resp.specs.Question.{is_above, greatest_by, hold_of, block_of, taken_by, question_of, IsQuestionInRange};
 
 use crate::question::{Above, Question};
-use cl_model::{List, ValidModel};
+use cl_model::{List, RunnableDef, TaskDef, ValidModel};
 use cl_stim::AnyStimulus;
 use cl_time::NoMemory;
 use std::alloc::Global;
@@ -40,8 +41,54 @@ fn all_above(alloc: Global, model: &ValidModel, task: u32) -> Result<List<Above>
     Ok(above)
 }
 
-/// The question of a task, given by its number. Nothing blocks the task, and above it stand the tasks of higher
-/// priority on its core, in file order. The only error is that there is no memory for those.
+/// How long a runnable that has begun may hold its core: its greatest time without its first tick, where it is whole.
+fn hold_of(runnable: &RunnableDef) -> u64
+    ensures { result ≡ hold_of (range_of runnable.now) }
+{
+    if runnable.whole {
+        runnable.greatest.saturating_sub(1)
+    } else {
+        0
+    }
+}
+
+/// How long a runnable of a task may.
+fn hold_of_task(task: &TaskDef) -> u64
+    ensures { result ≡ greatest_by (λ (runnable : RunnableDef). hold_of (range_of runnable)) task.now.runnables }
+{
+    let mut longest = 0;
+    for runnable in task.runnables.as_slice() {
+        longest = longest.max(hold_of(runnable));
+    }
+    longest
+}
+
+/// How long a runnable of a task may, given by its number.
+fn longest_hold(model: &ValidModel, task: u32) -> u64
+    requires { task < length model.now.tasks }
+    ensures { result ≡ greatest_by (λ (runnable : RunnableDef). hold_of (range_of runnable)) (task_at model.now task).runnables }
+{
+    hold_of_task(&model.plain().tasks.as_slice()[task as usize])
+}
+
+/// How long a runnable of the task itself, or of one of lower priority on its core, may.
+#[tactic(auto, using(crate::proofs::Greatest::greatest_more))]
+fn block_of(model: &ValidModel, task: u32) -> u64
+    requires { task < length model.now.tasks }
+    ensures { result ≡ block_of (system_of model.now) (timing_of model.now (task_at model.now task)) }
+{
+    let mut block = 0;
+    for other in model.tasks_of_core(model.core_of(task)) {
+        if !is_higher(model, task, *other) {
+            block = block.max(longest_hold(model, *other));
+        }
+    }
+    block
+}
+
+/// The question of a task, given by its number. Whole runnables of its core block it, but for those of higher priority,
+/// and above it stand the tasks of higher priority on its core, in file order. The only error is that there is no memory
+/// for those.
 pub fn ask(alloc: Global, model: &ValidModel, task: u32) -> Result<Question, NoMemory>
     requires { task < length model.now.tasks }
     ensures question { IfOk result (λ question. question
@@ -52,7 +99,7 @@ pub fn ask(alloc: Global, model: &ValidModel, task: u32) -> Result<Question, NoM
     let _plain = model.plain();
     Ok(Question {
         time: model.time_of(task),
-        block: 0,
+        block: block_of(model, task),
         jitter: model.jitter_of(task),
         deadline: model.deadline_of(task),
         above: all_above(alloc, model, task)?,

@@ -11,6 +11,3 @@ pub use answering::respond;
 pub use asking::ask;
 pub use question::{Above, Question};
 pub use settled::{Late, Settled};
-
-#[cfg(test)]
-mod tests;

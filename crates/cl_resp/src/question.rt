@@ -16,7 +16,7 @@ pub struct Above {
 pub struct Question {
     /// The greatest execution time of a job of the task.
     pub time: u64,
-    /// How long a runnable of lower priority may hold the core.
+    /// How long a whole runnable that has begun may hold the core: one of the task itself, or of lower priority.
     pub block: u64,
     /// How long after its arrival a job is released at most.
     pub jitter: u64,

@@ -125,7 +125,7 @@ runnables = ["b", "a"]
 labels = ["y"]
 "#;
 
-/// A model with every key of the format.
+/// A model with every key of version 1 of the format.
 pub(crate) const FULL: &str = r#"format = "chainlat"
 version = 1
 
@@ -160,6 +160,7 @@ deadline = 1000000000000
 name = "f"
 least = 1
 greatest = 1000000000000
+whole = true
 reads = ["x"]
 writes = ["x"]
 

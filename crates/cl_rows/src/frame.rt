@@ -1,6 +1,6 @@
 use crate::base::EMPTY;
 use crate::calls::{roomy_sink, run_here, shelf_of, words_of};
-use cl_io::{MemSink, SureShelf, SureSink};
+use cl_io::{MemSink, SureShelf, SureSink, Words};
 use cl_top::FILE_LIMIT;
 use std::test::Fail;
 
@@ -13,6 +13,35 @@ fn words_that_are_no_command_are_refused(rt: HostRuntime) -> Result<(), Fail> {
         let status = run_here(alloc, &words_of(alloc, line)?, &mut shelf, &mut sink);
         assert_eq!(rt; status, 2, "{line}");
         assert_eq!(rt; sink.bytes(), b"words refused\n".as_slice(), "{line}");
+    }
+    Ok(())
+}
+
+#[test]
+fn a_file_word_may_be_any_text(rt: HostRuntime) -> Result<(), Fail> {
+    let alloc = rt.alloc();
+    for name in ["", " ", "a b ", "analyse", "\u{e4}/../\n"] {
+        let mut words = Words::new(alloc);
+        words.push("analyse")?;
+        words.push(name)?;
+        let mut shelf = shelf_of(alloc, name, EMPTY.as_bytes())?;
+        let mut sink = roomy_sink(alloc)?;
+        assert_eq!(rt; run_here(alloc, &words, &mut shelf, &mut sink), 0, "{name}");
+        assert_eq!(rt; sink.bytes(), b"chainlat report 1\n".as_slice(), "{name}");
+    }
+    Ok(())
+}
+
+#[test]
+fn a_sink_may_have_just_the_room(rt: HostRuntime) -> Result<(), Fail> {
+    let alloc = rt.alloc();
+    let words = words_of(alloc, "analyse model")?;
+    for step in [1, 7, 18] {
+        let mut shelf = shelf_of(alloc, "model", EMPTY.as_bytes())?;
+        assert!(rt; step > 0);
+        let mut sink = MemSink::new(alloc, 18, step)?;
+        assert_eq!(rt; run_here(alloc, &words, &mut shelf, &mut sink), 0, "{step}");
+        assert_eq!(rt; sink.bytes(), b"chainlat report 1\n".as_slice(), "{step}");
     }
     Ok(())
 }

@@ -6,7 +6,11 @@ mod base;
 #[cfg(test)]
 mod calls;
 #[cfg(test)]
+mod edges;
+#[cfg(test)]
 mod frame;
+#[cfg(test)]
+mod pairs;
 #[cfg(test)]
 mod reading;
 #[cfg(test)]

@@ -1,17 +1,21 @@
 use crate::base::{EMPTY, FULL, ONE, TWO};
-use crate::texts::{ACCEPTED, NOT_BUILT, assert_outcome, assert_rows, grown, many_tasks};
+use crate::texts::{
+    ACCEPTED, NOT_BUILT, assert_outcome, assert_report, assert_rows, changed, grown, many_tasks,
+};
 use cl_time::NoMemory;
 use faults::{ABSENT_ROWS, KIND_ROWS, STARTS, TOP_ROWS, TWO_ROWS, UNKNOWN_ROWS};
 use limits::{
     ACCESS_ROWS, ArrayRow, HOP_ROWS, NAME_ROWS, RANGE_ROWS, SECTION_ROWS, STEP_ROWS, WORD_ROWS,
 };
+use salvos::{SALVO, SALVO_ROWS};
 use std::alloc::Global;
 use std::process::Abort;
 use std::test::Fail;
-use writings::WRITING_ROWS;
+use writings::{EARLY_CHAIN, EARLY_REPORT, TWO_REPORT, WRITINGS};
 
 mod faults;
 mod limits;
+mod salvos;
 mod writings;
 
 /// Asserts what the base comes to with each of the arrays.
@@ -58,12 +62,28 @@ fn files_read_in_every_writing(rt: HostRuntime) -> Result<(), Fail> {
     ] {
         assert_outcome(&rt, alloc, base.as_bytes(), outcome, base)?;
     }
-    assert_rows(&rt, alloc, TWO, &WRITING_ROWS)?;
+    for (old, new) in WRITINGS {
+        let text = changed(&rt, alloc, TWO, old, new)?;
+        assert_report(&rt, alloc, &text, TWO_REPORT)?;
+    }
+    let (old, new) = EARLY_CHAIN;
+    let early = changed(&rt, alloc, TWO, old, new)?;
+    assert_report(&rt, alloc, &early, EARLY_REPORT)?;
     let marked = format!(in alloc; "\u{feff}{TWO}")?;
     let lines = TWO.replace(alloc, "\n", "\r\n")?;
     for text in [marked.as_str(), lines.as_str()] {
-        assert_outcome(&rt, alloc, text.as_bytes(), ACCEPTED, text)?;
+        assert_report(&rt, alloc, text, TWO_REPORT)?;
     }
+    Ok(())
+}
+
+#[test]
+fn version_2_has_bursts_besides(rt: HostRuntime) -> Result<(), Fail> {
+    let alloc = rt.alloc();
+    let second = changed(&rt, alloc, FULL, "version = 1\n", "version = 2\n")?;
+    let full = grown(&rt, alloc, &second, "offset = 0\njitter = 0\n", SALVO, 1)?;
+    assert_outcome(&rt, alloc, full.as_bytes(), NOT_BUILT, "every key")?;
+    assert_rows(&rt, alloc, &full, &SALVO_ROWS)?;
     Ok(())
 }
 

@@ -1,18 +1,21 @@
 //! Whole files with their reports, and reports that are cut.
 use crate::base::{ONE, TWO};
-use crate::calls::{ROOM, answer_of, run_here, shelf_of, words_of};
-use crate::texts::{NOT_BUILT, TITLE, assert_outcome, changed};
-use changes::Change;
+use crate::calls::{ROOM, run_here, shelf_of, words_of};
+use crate::texts::{Change, NOT_BUILT, TITLE, assert_outcome, assert_report, assert_rows, changed};
+use bursts::{BURST, BURST_FAULTS, BURST_ROWS};
 use cl_io::MemSink;
 use cl_time::NoMemory;
 use std::alloc::Global;
 use std::process::Abort;
 use std::test::Fail;
-use tables::{REPORT_ROWS, UNBUILT_ROWS};
+use tables::{REPORT_ROWS, ReportRow, UNBUILT_ROWS};
+use whole::WHOLE_ROWS;
 
+mod bursts;
 mod changes;
 mod models;
 mod tables;
+mod whole;
 
 /// The base with all of the changes, one after the other.
 fn file_of(
@@ -38,23 +41,32 @@ fn report_of(alloc: Global, lines: &[&str]) -> Result<String, NoMemory> {
     Ok(text)
 }
 
-/// Asserts that a file is answered by this report.
-fn assert_report(rt: &impl Abort, alloc: Global, file: &str, report: &str) -> Result<(), NoMemory> {
-    let (status, sink) = answer_of(alloc, file.as_bytes())?;
-    let text = str::from_utf8(sink.bytes()).unwrap_or("no text");
-    assert_eq!(rt; text, report, "{file}");
-    assert_eq!(rt; status, 0, "{file}");
+/// Asserts that each file is answered by its report.
+fn assert_reports(rt: &impl Abort, alloc: Global, rows: &[ReportRow]) -> Result<(), NoMemory> {
+    for (base, changes, lines) in rows {
+        let file = file_of(rt, alloc, base, changes)?;
+        let report = report_of(alloc, lines)?;
+        assert_report(rt, alloc, &file, &report)?;
+    }
     Ok(())
 }
 
 #[test]
 fn files_are_answered_by_their_reports(rt: HostRuntime) -> Result<(), Fail> {
-    let alloc = rt.alloc();
-    for (base, changes, lines) in REPORT_ROWS {
-        let file = file_of(&rt, alloc, base, changes)?;
-        let report = report_of(alloc, lines)?;
-        assert_report(&rt, alloc, &file, &report)?;
-    }
+    assert_reports(&rt, rt.alloc(), &REPORT_ROWS)?;
+    Ok(())
+}
+
+#[test]
+fn whole_runnables_block_their_own_and_higher_tasks(rt: HostRuntime) -> Result<(), Fail> {
+    assert_reports(&rt, rt.alloc(), &WHOLE_ROWS)?;
+    Ok(())
+}
+
+#[test]
+fn bursts_release_several_jobs_a_period(rt: HostRuntime) -> Result<(), Fail> {
+    assert_reports(&rt, rt.alloc(), &BURST_ROWS)?;
+    assert_rows(&rt, rt.alloc(), BURST, &BURST_FAULTS)?;
     Ok(())
 }
 
@@ -64,37 +76,6 @@ fn other_files_are_not_analysed_yet(rt: HostRuntime) -> Result<(), Fail> {
     for (base, changes) in UNBUILT_ROWS {
         let file = file_of(&rt, alloc, base, changes)?;
         assert_outcome(&rt, alloc, file.as_bytes(), NOT_BUILT, &file)?;
-    }
-    Ok(())
-}
-
-/// The bound of the reaction and that of the age, in the line of a chain that has bounds.
-fn reaction_and_age(line: &str) -> Option<(&str, &str)> {
-    let (_, bounds) = line.split_once(" reaction ")?;
-    let (reaction, ages) = bounds.split_once(" age ")?;
-    let (age, _) = ages.split_once(" reduced ")?;
-    Some((reaction, age))
-}
-
-/// Asserts that each chain of a file's report that isn't late has one bound for both.
-fn assert_alike(rt: &impl Abort, alloc: Global, file: &str) -> Result<(), NoMemory> {
-    let (status, sink) = answer_of(alloc, file.as_bytes())?;
-    assert_eq!(rt; status, 0, "{file}");
-    for line in str::from_utf8(sink.bytes()).unwrap_or("no text").lines() {
-        if line.starts_with("chain ") && !line.contains(" late ") {
-            let (reaction, age) = reaction_and_age(line).expect(rt, "no bounds");
-            assert_eq!(rt; reaction, age, "{file}");
-        }
-    }
-    Ok(())
-}
-
-#[test]
-fn reaction_and_age_have_one_bound(rt: HostRuntime) -> Result<(), Fail> {
-    let alloc = rt.alloc();
-    for (base, changes, _) in REPORT_ROWS {
-        let file = file_of(&rt, alloc, base, changes)?;
-        assert_alike(&rt, alloc, &file)?;
     }
     Ok(())
 }

@@ -13,6 +13,9 @@ pub(crate) const NOT_BUILT: &str = "form not built";
 /// How every report begins.
 pub(crate) const TITLE: &str = "chainlat report 1\n";
 
+/// A text of a file that must be there, and what stands in its place.
+pub(crate) type Change = (&'static str, &'static str);
+
 /// A text of a base, what stands in its place, and what the file then comes to: `ACCEPTED`, `NOT_BUILT`, or the code and
 /// place of its refusal.
 pub(crate) type Row = (&'static str, &'static str, &'static str);
@@ -80,6 +83,20 @@ pub(crate) fn assert_outcome(
     Ok(())
 }
 
+/// Asserts that a file is answered by this report.
+pub(crate) fn assert_report(
+    rt: &impl Abort,
+    alloc: Global,
+    file: &str,
+    report: &str,
+) -> Result<(), NoMemory> {
+    let (status, sink) = answer_of(alloc, file.as_bytes())?;
+    let text = str::from_utf8(sink.bytes()).unwrap_or("no text");
+    assert_eq!(rt; text, report, "{file}");
+    assert_eq!(rt; status, 0, "{file}");
+    Ok(())
+}
+
 /// Asserts what the base comes to with each of the changes.
 pub(crate) fn assert_rows(
     rt: &impl Abort,
@@ -131,6 +148,84 @@ pub(crate) fn many_tasks(alloc: Global, last: usize) -> Result<String, NoMemory>
         let count = if core == 7 { last } else { 128 };
         let tasks = tasks_of(alloc, core, count)?;
         text.push_str(&tasks)?;
+    }
+    Ok(text)
+}
+
+/// Two cores and a stimulus.
+const HEAD: &str = r#"
+[[core]]
+name = "c0"
+
+[[core]]
+name = "c1"
+
+[[stimulus]]
+name = "slow"
+kind = "periodic"
+period = 1000
+"#;
+
+/// A task, whose number stands in place of `@`, on a core, whose number stands in place of `%`.
+const BARE_TASK: &str = r#"
+[[task]]
+name = "t@"
+core = "c%"
+stimulus = "slow"
+priority = @
+access = "implicit"
+"#;
+
+/// A runnable of such a task; its number stands in place of `#`.
+const RUNNABLE: &str = r#"
+[[task.runnable]]
+name = "r@.#"
+least = 1
+greatest = 1
+"#;
+
+/// A task with so many runnables.
+fn task_of(alloc: Global, task: usize, core: usize, runnables: usize) -> Result<String, NoMemory> {
+    let core = core.to_string(alloc)?;
+    let number = task.to_string(alloc)?;
+    let mut text = BARE_TASK.replace(alloc, "%", &core)?;
+    text.push_str(&numbered(alloc, RUNNABLE, runnables)?)?;
+    let text = text.as_str().replace(alloc, "@", &number)?;
+    Ok(text)
+}
+
+/// A label.
+const LABEL: &str = r#"
+[[label]]
+name = "x"
+"#;
+
+/// A model of 33 tasks: one with so many runnables, 31 with 256 each, and one with a single one. The first runnables of
+/// the first and of the last task write one label, where they share it.
+pub(crate) fn many_runnables(
+    alloc: Global,
+    first: usize,
+    shared: bool,
+) -> Result<String, NoMemory> {
+    let mut text = String::from_str(alloc, EMPTY)?;
+    text.push_str(LABEL)?;
+    text.push_str(HEAD)?;
+    for task in 0..33 {
+        let count = match task {
+            0 => first,
+            32 => 1,
+            _ => 256,
+        };
+        let mut own = task_of(alloc, task, task / 32, count)?;
+        if shared && (task == 0 || task == 32) {
+            own = own.replacen(
+                alloc,
+                "greatest = 1\n",
+                "greatest = 1\nwrites = [\"x\"]\n",
+                1,
+            )?;
+        }
+        text.push_str(&own)?;
     }
     Ok(text)
 }

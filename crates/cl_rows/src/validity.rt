@@ -1,10 +1,8 @@
 //! Models that read: which of them are valid, and what the others are refused for.
-use crate::base::{EMPTY, FULL, ONE, TWO};
+use crate::base::{FULL, ONE, TWO};
 use crate::texts::{
-    ACCEPTED, NOT_BUILT, Row, assert_outcome, assert_rows, changed, grown, numbered,
+    ACCEPTED, NOT_BUILT, Row, assert_outcome, assert_rows, changed, grown, many_runnables,
 };
-use cl_time::NoMemory;
-use std::alloc::Global;
 use std::test::Fail;
 
 /// Changes of the model of two tasks.
@@ -262,64 +260,6 @@ least = 1
 greatest = 1
 "#;
 
-/// Two cores and a stimulus.
-const HEAD: &str = r#"
-[[core]]
-name = "c0"
-
-[[core]]
-name = "c1"
-
-[[stimulus]]
-name = "slow"
-kind = "periodic"
-period = 1000
-"#;
-
-/// A task, whose number stands in place of `@`, on a core, whose number stands in place of `%`.
-const BARE_TASK: &str = r#"
-[[task]]
-name = "t@"
-core = "c%"
-stimulus = "slow"
-priority = @
-access = "implicit"
-"#;
-
-/// A runnable of such a task; its number stands in place of `#`.
-const RUNNABLE: &str = r#"
-[[task.runnable]]
-name = "r@.#"
-least = 1
-greatest = 1
-"#;
-
-/// A task with so many runnables.
-fn task_of(alloc: Global, task: usize, core: usize, runnables: usize) -> Result<String, NoMemory> {
-    let core = core.to_string(alloc)?;
-    let number = task.to_string(alloc)?;
-    let mut text = BARE_TASK.replace(alloc, "%", &core)?;
-    text.push_str(&numbered(alloc, RUNNABLE, runnables)?)?;
-    let text = text.as_str().replace(alloc, "@", &number)?;
-    Ok(text)
-}
-
-/// A model of 33 tasks: one with so many runnables, 31 with 256 each, and one with a single one.
-fn many_runnables(alloc: Global, first: usize) -> Result<String, NoMemory> {
-    let mut text = String::from_str(alloc, EMPTY)?;
-    text.push_str(HEAD)?;
-    for task in 0..33 {
-        let count = match task {
-            0 => first,
-            32 => 1,
-            _ => 256,
-        };
-        let task = task_of(alloc, task, task / 32, count)?;
-        text.push_str(&task)?;
-    }
-    Ok(text)
-}
-
 #[test]
 fn models_are_refused_for_their_first_fault(rt: HostRuntime) -> Result<(), Fail> {
     let alloc = rt.alloc();
@@ -360,7 +300,7 @@ fn limits_of_a_whole_model_hold_and_one_past(rt: HostRuntime) -> Result<(), Fail
         assert_outcome(&rt, alloc, text.as_bytes(), outcome, outcome)?;
     }
     for (first, outcome) in [(255, ACCEPTED), (256, "M41 task[32]")] {
-        let text = many_runnables(alloc, first)?;
+        let text = many_runnables(alloc, first, false)?;
         assert_outcome(&rt, alloc, text.as_bytes(), outcome, outcome)?;
     }
     Ok(())

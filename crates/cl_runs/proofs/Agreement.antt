@@ -9,12 +9,12 @@ use Rattle.cl_runs.specs.declared.job.Job.{Job}
 use Rattle.cl_runs.specs.Table.{job_at}
 use Rattle.cl_runs.specs.Run.{Run, jobs_of, core_entries, entry_at, executed}
 use Rattle.cl_runs.specs.Legal.{IsLegal}
-use Rattle.cl_runs.specs.Moments.{work_before, work_through, Starts, Finishes, ReadsBy, WritesBy, Reads, Writes}
+use Rattle.cl_runs.specs.Work.{work_before, work_through}
+use Rattle.cl_runs.specs.Moments.{Starts, Finishes, ReadsBy, WritesBy, Reads, Writes}
 use Rattle.cl_runs.specs.GoesOn.{GoesOn}
 use Rattle.cl_runs.proofs.Executed.{executed_same, executed_more}
-use Rattle.cl_runs.proofs.Work.{job_along, work_along, through_along, before_further}
+use Rattle.cl_runs.proofs.Work.{job_along, work_along, through_along, before_further, first_length}
 use Rattle.cl_runs.proofs.LegalFacts.{place_of_task, core_ticks, executed_total, time_positive}
-use Rattle.cl_runs.proofs.Extension.{first_length}
 
 -- executed ticks and entries agree
 module _ (system : System) (shorter longer : Run) (goes_on : GoesOn shorter longer) (i : ℕ) where

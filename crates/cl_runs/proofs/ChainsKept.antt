@@ -7,7 +7,8 @@ use Rattle.cl_runs.specs.Run.{Run}
 use Rattle.cl_runs.specs.Legal.{IsLegal}
 use Rattle.cl_runs.specs.GoesOn.{GoesOn}
 use Rattle.cl_model.specs.declared.group.Group.{Group}
-use Rattle.cl_runs.specs.Chains.{Moments, HasWritten, IsEarliestReader, IsLatestWriter, JobChain, group_at, first_group, last_group, first_job, last_job, IsForwardChain, AreBackwardLinks, IsAgeChain, IsReducedChain}
+use Rattle.cl_model.specs.Groups.{group_at}
+use Rattle.cl_runs.specs.Chains.{Moments, HasWritten, IsEarliestReader, IsLatestWriter, JobChain, first_group, last_group, first_job, last_job, IsForwardChain, AreBackwardLinks, IsAgeChain, IsReducedChain}
 use Rattle.cl_runs.specs.RunChains.{run_moments}
 use Rattle.cl_runs.proofs.MomentFacts.{reads_below, reads_rise}
 use Rattle.cl_runs.proofs.Agreement.{reads_kept, writes_kept, read_returns, write_returns}

@@ -1,41 +1,27 @@
--- A complete chain ends after it begins.
-use Rattle.std.proofs.Common.{◌≡◌, ℕ, zero, suc, ◌+◌, ◌-◌, ◌<◌, ◌≤◌, true, List, [], ◌∷◌, length, subst, arith, nat_lt}
-use Rattle.std.specs.Prelude.{slice_index, ◌==◌}
-use Rattle.std.proofs.lemmas.Bool.{and_parts, ltb-true, cond_both}
-use Rattle.cl_runs.specs.TaskTiming.{System, IsSound}
-use Rattle.cl_runs.specs.Run.{Run}
-use Rattle.cl_runs.specs.Legal.{IsLegal}
+-- Over moments in order a complete chain ends after it begins.
+use Rattle.std.proofs.Common.{◌≡◌, ℕ, zero, suc, ◌+◌, ◌-◌, ◌<◌, ◌≤◌, List, length, subst, arith}
+use Rattle.std.specs.Prelude.{slice_index}
 use Rattle.cl_model.specs.declared.group.Group.{Group}
-use Rattle.cl_model.specs.declared.group.Step.{Step}
-use Rattle.cl_model.specs.Groups.{is_inner, group_of_step, groups_from, groups}
-use Rattle.cl_runs.specs.Chains.{Moments, JobChain, group_at, first_group, last_group, first_job, last_job, IsForwardChain, AreBackwardLinks, IsAgeChain, IsReducedChain}
-use Rattle.cl_runs.specs.RunChains.{run_moments}
-use Rattle.cl_runs.proofs.MomentFacts.{has_read, reads_rise, writes_rise}
-use Rattle.cl_runs.proofs.ChainsUnique.{AreUnique, run_unique}
+use Rattle.cl_model.specs.Groups.{group_at}
+use Rattle.cl_runs.specs.Chains.{Moments, JobChain, first_group, last_group, first_job, last_job, IsForwardChain, AreBackwardLinks, IsAgeChain, IsReducedChain}
+use Rattle.cl_runs.specs.MomentOrder.{AreInOrder, HaveReadBeforeWriting}
 
--- moments in order, for some groups: a job that has written has read before, and both rise with the job number
-pub record InOrder (moments : Moments) (groups : List Group) : Type 0 where
-  pub has_read : (i m w : ℕ) → i < length groups → moments.writes (group_at groups i) m w
-      → (r : ℕ) × (r < w) × moments.reads (group_at groups i) m r
-  pub reads_rise : (g : Group) (k l s t : ℕ) → k < l → moments.reads g k s → moments.reads g l t → s < t
-  pub writes_rise : (g : Group) (k l s t : ℕ) → k < l → moments.writes g k s → moments.writes g l t → s < t
-
-module _ (moments : Moments) (unique : AreUnique moments) (groups : List Group) (order : InOrder moments groups) where
+module _ (moments : Moments) (groups : List Group) (order : AreInOrder moments groups) (read_first : HaveReadBeforeWriting moments groups) where
   -- what a job writes comes after each read at or before that of the job
   write_after : (i m w from read : ℕ) → i < length groups → moments.writes (group_at groups i) m w
       → moments.reads (group_at groups i) m read → from ≤ read → from < w
   write_after i m w from read h writes reads before =
-      let (r, earlier, again) = order.has_read i m w h writes in
-      omega (arith, earlier, before, unique.reads (group_at groups i) m r read again reads)
+      let (r, earlier, again) = read_first i m w h writes in
+      omega (arith, earlier, before, order.unique.reads i m r read h again reads)
 
   forward_after : (chain : JobChain) → IsForwardChain moments groups chain → (i w : ℕ) → i < length groups
       → moments.writes (group_at groups i) (slice_index chain.jobs i) w → chain.from < w
   forward_after chain complete zero w h writes =
-      let (r, earlier, reads) = order.has_read 0 (first_job chain) w h writes in
+      let (r, earlier, reads) = read_first 0 (first_job chain) w h writes in
       omega (
         arith,
         earlier,
-        order.reads_rise (first_group groups) (first_job chain - 1) (first_job chain) chain.from r
+        order.reads_rise 0 (first_job chain - 1) (first_job chain) chain.from r h
             (omega (arith, complete.not_first 0 h)) complete.from reads,
       )
   forward_after chain complete (suc i) w h writes =
@@ -77,46 +63,6 @@ module _ (moments : Moments) (unique : AreUnique moments) (groups : List Group) 
       omega (
         arith,
         last_after chain.jobs complete.links chain.from written.write complete.from written.writes,
-        order.writes_rise (last_group groups) (last_job chain) (last_job chain + 1) written.write chain.to (omega arith) written.writes complete.to,
+        order.writes_rise (length groups - 1) (last_job chain) (last_job chain + 1) written.write chain.to
+            (omega (arith, complete.links.some_group)) (omega arith) written.writes complete.to,
       )
-
--- each group ends at or after its first runnable
-abbrev AllForward : List Group → Type 0
-AllForward gs = (i : ℕ) → i < length gs → (group_at gs i).first ≤ (group_at gs i).last
-
-cons_forward : (group : Group) (gs : List Group) → group.first ≤ group.last → AllForward gs → AllForward (group ∷ gs)
-cons_forward group gs forward all zero h = forward
-cons_forward group gs forward all (suc i) h = all i (omega arith)
-
-inner_before : (group : Group) (step : Step) → is_inner group step ≡ true → group.last < step.place
-inner_before group step inner = ltb-true group.last step.place (and_parts (group.task == step.task) (nat_lt group.last step.place) inner).1
-
-groups_from_forward : (steps : List Step) (group : Group) → group.first ≤ group.last → AllForward (groups_from group steps)
-groups_from_forward [] group forward = cons_forward group [] forward (λ i h. absurd (omega arith))
-groups_from_forward (step ∷ steps) group forward =
-    let longer : Group = record { task = group.task; first = group.first; last = step.place } in
-    cond_both (is_inner group step) (groups_from longer steps) (group ∷ groups_from (group_of_step step) steps) AllForward
-    (λ inner. groups_from_forward steps longer (omega (arith, forward, inner_before group step inner)))
-    (λ other. cons_forward group (groups_from (group_of_step step) steps) forward (groups_from_forward steps (group_of_step step) (omega arith)))
-
-groups_forward : (steps : List Step) → AllForward (groups steps)
-groups_forward [] = λ i h. absurd (omega arith)
-groups_forward (step ∷ steps) = groups_from_forward steps (group_of_step step) (omega arith)
-
-module _ (system : System) (sound : IsSound system) (run : Run) (legal : IsLegal system run) (steps : List Step) where
-  run_in_order : InOrder (run_moments system run) (groups steps)
-  unfolding run_moments
-  run_in_order = record {
-    has_read = λ i m w h writes. has_read system sound run legal (group_at (groups steps) i).task m _ _ w (groups_forward steps i h) writes;
-    reads_rise = λ g k l s t. reads_rise system sound run legal g.task k g.first l g.first s t;
-    writes_rise = λ g k l s t. writes_rise system sound run legal g.task k g.last l g.last s t;
-  }
-
-  pub run_forward_ordered : (chain : JobChain) → IsForwardChain (run_moments system run) (groups steps) chain → chain.from < chain.to
-  run_forward_ordered = forward_ordered (run_moments system run) (run_unique system run) (groups steps) run_in_order
-
-  pub run_age_ordered : (chain : JobChain) → IsAgeChain (run_moments system run) (groups steps) chain → chain.from < chain.to
-  run_age_ordered = age_ordered (run_moments system run) (run_unique system run) (groups steps) run_in_order
-
-  pub run_reduced_ordered : (chain : JobChain) → IsReducedChain (run_moments system run) (groups steps) chain → chain.from < chain.to
-  run_reduced_ordered = reduced_ordered (run_moments system run) (run_unique system run) (groups steps) run_in_order

@@ -1,5 +1,5 @@
 -- A number that begins at 0 and from moment to moment stays or grows by one.
-use Rattle.std.proofs.Common.{◌≡◌, ℕ, zero, suc, ◌<◌, ◌≤◌, ◌⊎◌, inl, inr, sym, ap, ◌∙◌, arith}
+use Rattle.std.proofs.Common.{◌≡◌, ℕ, zero, suc, ◌+◌, ◌<◌, ◌≤◌, ◌⊎◌, inl, inr, sym, ap, ◌∙◌, arith}
 use Rattle.std.proofs.lemmas.Bool.{cases_lt, cases_eq}
 
 -- the number stays or grows by one
@@ -72,3 +72,16 @@ grows_once e c v s t one other =
     let early : s < suc t = climb_lt e c s (suc t) (omega (arith, one.before, other.after)) in
     let late : t < suc s = climb_lt e c t (suc s) (omega (arith, other.before, one.after)) in
     omega arith
+
+step_slow : (e : ℕ → ℕ) (t : ℕ) → (e (suc t) ≡ e t) ⊎ (e (suc t) ≡ suc (e t)) → e (suc t) ≤ suc (e t)
+step_slow e t (inl same) = omega arith
+step_slow e t (inr more) = omega arith
+
+-- it grows by at most one from moment to moment
+pub climb_slow : (e : ℕ → ℕ) → Climbs e → (s t : ℕ) → s ≤ t → e t + s ≤ e s + t
+climb_slow e c s zero h = let same : s ≡ 0 = omega arith in omega (arith, ap e same)
+climb_slow e c s (suc t) h =
+    elim (cases_eq s (suc t)) [
+      | inl same ↦ omega (arith, ap e same)
+      | inr other ↦ omega (arith, climb_slow e c s t (omega arith), step_slow e t (c t))
+    ]

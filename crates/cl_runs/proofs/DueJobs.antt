@@ -3,13 +3,16 @@ use Rattle.std.proofs.Common.{◌≡◌, ℕ, zero, suc, ◌+◌, ◌<◌, ◌�
 use Rattle.std.specs.Prelude.{sum, All}
 use Rattle.std.specs.List.{AllZip}
 use Rattle.std.proofs.lemmas.Bool.{leb-true, leb-false, lt-leb, cond-false}
-use Rattle.std.proofs.lemmas.List.Elements.{All-head, All-tail}
+use Rattle.std.proofs.lemmas.List.Elements.{All-nil, All-cons, All-head, All-tail}
 use Rattle.std.proofs.lemmas.List.Sums.{sum_by-cons}
-use Rattle.cl_runs.specs.Pattern.{greatest_gap}
+use Rattle.cl_model.specs.declared.stimulus.StimulusKind.{StimulusKind}
+use Rattle.cl_runs.specs.Pattern.{IsPattern, first_greatest, greatest_gap}
 use Rattle.cl_runs.specs.TaskTiming.{TimeRange, Timing, IsSoundTask}
 use Rattle.cl_runs.specs.declared.job.Job.{Job}
-use Rattle.cl_runs.specs.Table.{job_at, IsInRange, IsLawfulJob, AreLawfulFrom}
+use Rattle.cl_runs.specs.Arrivals.{IsArrival, AreArrivalsFrom}
+use Rattle.cl_runs.specs.Table.{job_at, LiesIn, HasTimes, AreLawfulJobs}
 use Rattle.cl_runs.specs.Legal.{released}
+use Rattle.cl_runs.proofs.PatternFacts.{first_ordered, gap_positive, gaps_ordered}
 
 -- a job that arrives at n, is released at once and takes its least times
 abbrev pub due_job : Timing → ℕ → Job
@@ -24,17 +27,11 @@ abbrev pub with_due : Timing → ℕ → ℕ → ℕ → List Job → List Job
 with_due task n k high [] = due task n (nat_le high n)
 with_due task n k high (job ∷ jobs) = job ∷ with_due task n (suc k) (job.arrival + greatest_gap task.pattern k) jobs
 
-least_times : (ranges : List TimeRange) → All (λ (range : TimeRange). (1 ≤ range.least) × (range.least ≤ range.greatest)) ranges
-    → AllZip IsInRange ranges (map (λ (range : TimeRange). range.least) ranges)
-least_times [] ordered = _
-least_times (range ∷ ranges) ordered = (
-  (omega arith, (All-head (λ (r : TimeRange). (1 ≤ r.least) × (r.least ≤ r.greatest)) range ranges ordered).1),
-  least_times ranges (All-tail (λ (r : TimeRange). (1 ≤ r.least) × (r.least ≤ r.greatest)) range ranges ordered),
-)
-
-module _ (cores : ℕ) (task : Timing) (sound : IsSoundTask cores task) (n : ℕ) where
-  due_lawful : (k low high : ℕ) (b : Bool) → nat_le high n ≡ b → low ≤ high → n ≤ high → AreLawfulFrom task (suc n) k low high (due task n b)
-  due_lawful k low high true is ordered end =
+-- the jobs follow the pattern for one more tick
+module _ (pattern : StimulusKind) (well : IsPattern pattern) (n : ℕ) where
+  due_arrives : (task : Timing) (k low high : ℕ) (b : Bool) → nat_le high n ≡ b → low ≤ high → n ≤ high
+      → AreArrivalsFrom pattern (suc n) k low high (due task n b)
+  due_arrives task k low high true is ordered end =
       let reached : high ≤ n = leb-true high n is in (
         record {
           not_early = omega arith;
@@ -42,28 +39,54 @@ module _ (cores : ℕ) (task : Timing) (sound : IsSoundTask cores task) (n : ℕ
           arrives = omega arith;
           released = omega arith;
           in_jitter = omega arith;
-          times = least_times task.ranges sound.times;
         },
-        omega (arith, sound.gaps_rise k, sound.gaps_ordered k),
+        omega (arith, gap_positive pattern well k, gaps_ordered pattern well k),
       )
-  due_lawful k low high false is ordered end = leb-false high n is
+  due_arrives task k low high false is ordered end = leb-false high n is
 
-  job_longer : (low high : ℕ) (job : Job) → IsLawfulJob task n low high job → IsLawfulJob task (suc n) low high job
-  job_longer low high job lawful = record {
-    not_early = lawful.not_early;
-    not_late = lawful.not_late;
-    arrives = omega (arith, lawful.arrives);
-    released = lawful.released;
-    in_jitter = lawful.in_jitter;
-    times = lawful.times;
+  job_longer : (low high : ℕ) (job : Job) → IsArrival pattern n low high job → IsArrival pattern (suc n) low high job
+  job_longer low high job arrival = record {
+    not_early = arrival.not_early;
+    not_late = arrival.not_late;
+    arrives = omega (arith, arrival.arrives);
+    released = arrival.released;
+    in_jitter = arrival.in_jitter;
   }
 
+module _ (cores : ℕ) (task : Timing) (sound : IsSoundTask cores task) (n : ℕ) where
+  pub with_due_arrive : (jobs : List Job) (k low high : ℕ) → low ≤ high → AreArrivalsFrom task.pattern n k low high jobs
+      → AreArrivalsFrom task.pattern (suc n) k low high (with_due task n k high jobs)
+  with_due_arrive [] k low high ordered arrivals = due_arrives task.pattern sound.pattern n task k low high (nat_le high n) refl ordered arrivals
+  with_due_arrive (job ∷ jobs) k low high ordered arrivals = (
+    job_longer task.pattern sound.pattern n low high job arrivals.0,
+    with_due_arrive jobs (suc k) _ _ (omega (arith, gaps_ordered task.pattern sound.pattern k)) arrivals.1,
+  )
+
+  -- the least times are execution times of a job
+  least_times : (ranges : List TimeRange) → All (λ (range : TimeRange). (1 ≤ range.least) × (range.least ≤ range.greatest)) ranges
+      → AllZip LiesIn ranges (map (λ (range : TimeRange). range.least) ranges)
+  least_times [] ordered = _
+  least_times (range ∷ ranges) ordered = (
+    (omega arith, (All-head (λ (r : TimeRange). (1 ≤ r.least) × (r.least ≤ r.greatest)) range ranges ordered).1),
+    least_times ranges (All-tail (λ (r : TimeRange). (1 ≤ r.least) × (r.least ≤ r.greatest)) range ranges ordered),
+  )
+
+  due_times : (b : Bool) → All (HasTimes task) (due task n b)
+  due_times true = All-cons (HasTimes task) (due_job task n) [] (least_times task.ranges sound.times) (All-nil (HasTimes task))
+  due_times false = All-nil (HasTimes task)
+
+  with_due_times : (jobs : List Job) (k high : ℕ) → All (HasTimes task) jobs → All (HasTimes task) (with_due task n k high jobs)
+  with_due_times [] k high times = due_times (nat_le high n)
+  with_due_times (job ∷ jobs) k high times = All-cons (HasTimes task) job (with_due task n (suc k) _ jobs)
+      (All-head (HasTimes task) job jobs times) (with_due_times jobs (suc k) _ (All-tail (HasTimes task) job jobs times))
+
   -- the jobs are lawful for one more tick
-  pub with_due_lawful : (jobs : List Job) (k low high : ℕ) → low ≤ high → AreLawfulFrom task n k low high jobs
-      → AreLawfulFrom task (suc n) k low high (with_due task n k high jobs)
-  with_due_lawful [] k low high ordered lawful = due_lawful k low high (nat_le high n) refl ordered lawful
-  with_due_lawful (job ∷ jobs) k low high ordered lawful =
-      (job_longer low high job lawful.0, with_due_lawful jobs (suc k) _ _ (omega (arith, sound.gaps_ordered k)) lawful.1)
+  pub with_due_lawful : (jobs : List Job) → AreLawfulJobs task n jobs
+      → AreLawfulJobs task (suc n) (with_due task n 0 (first_greatest task.pattern) jobs)
+  with_due_lawful jobs lawful = record {
+    arrivals = with_due_arrive jobs 0 _ _ (first_ordered task.pattern sound.pattern) lawful.arrivals;
+    times = with_due_times jobs 0 (first_greatest task.pattern) lawful.times;
+  }
 
 module _ (task : Timing) (n : ℕ) where
   -- the old jobs are the first ones

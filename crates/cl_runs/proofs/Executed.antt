@@ -1,10 +1,11 @@
 -- The executed ticks of a task: a number that climbs by one in each tick in which the task runs.
-use Rattle.std.proofs.Common.{◌≡◌, ℕ, suc, ◌<◌, ◌≤◌, ◌⊎◌, inl, inr, Option, Some, None, true, false, List, length, get_or, take, refl, sym, ap, ◌∙◌, arith, eq-eqb}
+use Rattle.std.proofs.Common.{◌≡◌, ℕ, zero, suc, ◌+◌, ◌-◌, ◌*◌, ◌<◌, ◌≤◌, ◌⊎◌, inl, inr, Option, Some, None, Bool, true, false, cond, List, ◌++◌, replicate, length, get_or, take, refl, sym, ap, ◌∙◌, arith, eq-eqb}
 use Rattle.std.proofs.Math.Numerals.{add-one}
 use Rattle.std.specs.Prelude.{count_by}
 use Rattle.std.proofs.lemmas.Bool.{cases_lt, cases_eq, ne_eqb}
 use Rattle.std.proofs.lemmas.List.{take_all}
-use Rattle.std.proofs.lemmas.List.Sums.{count_by_more_yes, count_by_more_no}
+use Rattle.std.proofs.lemmas.List.Folds.{sum_by-replicate}
+use Rattle.std.proofs.lemmas.List.Sums.{count_by_more_yes, count_by_more_no, sum_by-append}
 use Rattle.cl_runs.specs.TaskTiming.{System, timing_at}
 use Rattle.cl_runs.specs.Run.{Run, core_entries, entry_at, is_task, executed}
 use Rattle.cl_runs.proofs.Climbing.{Climbs}
@@ -64,6 +65,23 @@ grown : (i : ℕ) (entries : List (Option ℕ)) (t : ℕ) → count_below i entr
 grown i entries t grew (inl same) = absurd (omega (arith, grew, same))
 grown i entries t grew (inr runs) = runs
 
+at_zero : (s : ℕ) → s ≤ 0 → s ≡ 0
+at_zero s h = omega arith
+
+-- entries of one kind that are appended count as often as they are, or not at all
+pub count_appended : (i : ℕ) (entries : List (Option ℕ)) (n : ℕ) (who : Option ℕ)
+    → count_by (is_task i) (entries ++ replicate n who) ≡ count_by (is_task i) entries + cond (is_task i who) n 0
+count_appended i entries n who = omega (
+  arith,
+  sum_by-append (λ (e : Option ℕ). cond (is_task i e) 1 0) entries (replicate n who),
+  sum_by-replicate (λ (e : Option ℕ). cond (is_task i e) 1 0) n who,
+  as_often (is_task i who) n,
+)
+  where
+    as_often : (b : Bool) (n : ℕ) → n * cond b 1 0 ≡ cond b n 0
+    as_often true n = omega arith
+    as_often false n = omega arith
+
 module _ (system : System) (run : Run) (i : ℕ) where
   pub executed_zero : executed system run i 0 ≡ 0
   unfolding executed
@@ -85,6 +103,38 @@ module _ (system : System) (run : Run) (i : ℕ) where
       → entry_at run (timing_at system i).core t ≡ Some i → executed system run i (suc t) ≡ suc (executed system run i t)
   unfolding executed
   executed_more t below runs = count_more i _ t below runs
+
+  -- where it doesn't run, it stays
+  pub executed_stays : (t : ℕ) → t < length (core_entries run (timing_at system i).core)
+      → (entry_at run (timing_at system i).core t ≡ Some i → ⊥) → executed system run i (suc t) ≡ executed system run i t
+  unfolding executed
+  executed_stays t below rests = count_same i _ t below rests
+
+  -- where it runs in each tick from s on, it grows by as many
+  pub executed_stretch : (s t : ℕ) → s ≤ t → t ≤ length (core_entries run (timing_at system i).core)
+      → ((u : ℕ) → s ≤ u → u < t → entry_at run (timing_at system i).core u ≡ Some i) → executed system run i t ≡ executed system run i s + (t - s)
+  executed_stretch s zero h within runs = omega (arith, ap (executed system run i) (at_zero s h))
+  executed_stretch s (suc t) h within runs = elim (cases_lt t s) [
+    | inl last ↦ let same : s ≡ suc t = omega arith in omega (arith, ap (executed system run i) same)
+    | inr more ↦ omega (
+      arith,
+      executed_stretch s t more (omega arith) (λ u after before. runs u after (omega (arith, before))),
+      executed_more t within (runs t more (omega arith)),
+    )
+  ]
+
+  -- and where it runs in none, it stays
+  pub executed_rest : (s t : ℕ) → s ≤ t → t ≤ length (core_entries run (timing_at system i).core)
+      → ((u : ℕ) → s ≤ u → u < t → entry_at run (timing_at system i).core u ≡ Some i → ⊥) → executed system run i t ≡ executed system run i s
+  executed_rest s zero h within rests = omega (arith, ap (executed system run i) (at_zero s h))
+  executed_rest s (suc t) h within rests = elim (cases_lt t s) [
+    | inl last ↦ let same : s ≡ suc t = omega arith in omega (arith, ap (executed system run i) same)
+    | inr more ↦ omega (
+      arith,
+      executed_rest s t more (omega arith) (λ u after before. rests u after (omega (arith, before))),
+      executed_stays t within (rests t more (omega arith)),
+    )
+  ]
 
   -- from the end of the entries on it stands still
   pub executed_past : (s t : ℕ) → length (core_entries run (timing_at system i).core) ≤ s

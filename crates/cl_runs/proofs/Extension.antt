@@ -1,15 +1,17 @@
 -- The run of no ticks is legal, and each legal run has legal ones of every greater length that go on from it.
 use Rattle.std.proofs.Common.{◌≡◌, ℕ, zero, suc, ◌+◌, ◌-◌, ◌<◌, ◌≤◌, inl, inr, List, [], length, take, sym, ap, ◌∙◌, subst, arith}
 use Rattle.std.proofs.lemmas.Bool.{cases_lt}
-use Rattle.std.proofs.lemmas.List.{take-take, take_all, length-take, length-replicate, get_or-replicate, get_or_past}
+use Rattle.std.proofs.lemmas.List.{take-take, take_all, length-replicate, get_or-replicate, get_or_past}
+use Rattle.std.proofs.lemmas.List.Elements.{All-nil}
 use Rattle.cl_runs.specs.TaskTiming.{System, timing_at, IsSound}
 use Rattle.cl_runs.specs.declared.job.Job.{Job}
-use Rattle.cl_runs.specs.Table.{job_at, table_jobs, AreLawfulJobs, IsLawful}
+use Rattle.cl_runs.specs.Table.{job_at, table_jobs, HasTimes, AreLawfulJobs, IsLawful}
 use Rattle.cl_runs.specs.Run.{Run, jobs_of, core_entries, empty_run}
 use Rattle.cl_runs.specs.Legal.{IsLegal}
 use Rattle.cl_runs.specs.GoesOn.{GoesOn}
-use Rattle.cl_runs.proofs.Work.{job_along}
-use Rattle.cl_runs.proofs.NextRun.{legal_from, next_run, next_legal, next_end, next_goes_on}
+use Rattle.cl_runs.proofs.Work.{job_along, first_length}
+use Rattle.cl_runs.proofs.Filling.{legal_from}
+use Rattle.cl_runs.proofs.NextRun.{next_run, next_legal, next_end, next_goes_on}
 
 module _ (system : System) where
   no_jobs : (i : ℕ) → i < length system.tasks → table_jobs (empty_run system).table i ≡ []
@@ -20,20 +22,18 @@ module _ (system : System) where
   unfolding empty_run
   empty_lawful = record {
     tasks = length-replicate (length system.tasks) [];
-    jobs = λ i is. subst (λ (jobs : List Job). AreLawfulJobs (timing_at system i) 0 jobs) (sym (no_jobs i is)) (omega arith);
+    jobs = λ i is. subst (λ (jobs : List Job). AreLawfulJobs (timing_at system i) 0 jobs) (sym (no_jobs i is))
+        (record { arrivals = omega arith; times = All-nil (HasTimes (timing_at system i)) });
   }
 
   -- the run of no ticks is legal
   pub empty_legal : IsLegal system (empty_run system)
   unfolding empty_run
-  empty_legal = legal_from system (empty_run system) empty_lawful
-      (length-replicate system.cores [])
-      (λ core on. ap length (get_or-replicate system.cores core [] [] on))
-      (λ core t on h. absurd (omega arith))
-
--- the first jobs of a list are at most as many
-pub first_length : (n : ℕ) (jobs longer : List Job) → jobs ≡ take n longer → length jobs ≤ length longer
-first_length n jobs longer same = omega (arith, ap length same, length-take n longer)
+  empty_legal = legal_from system (empty_run system) empty_lawful (record {
+    cores = length-replicate system.cores [];
+    ticks = λ core on. ap length (get_or-replicate system.cores core [] [] on);
+    scheduled = λ core t on h. absurd (omega arith);
+  })
 
 -- a run goes on from itself
 pub goes_on_refl : (system : System) (run : Run) → IsLegal system run → GoesOn run run

@@ -1,141 +1,75 @@
 -- Each legal run has a legal one that goes on from it by one tick.
-use Rattle.std.proofs.Common.{◌≡◌, ℕ, suc, ◌<◌, ◌≤◌, inl, inr, Option, None, List, [], ◌∷◌, ◌++◌, length, get_or, take, refl, sym, ap, ◌∙◌, subst, arith}
+use Rattle.std.proofs.Common.{◌≡◌, ℕ, suc, ◌<◌, ◌≤◌, inl, inr, [], length, take, refl, sym, ap, ◌∙◌, subst, arith}
 use Rattle.std.proofs.lemmas.Bool.{cases_lt}
-use Rattle.std.proofs.lemmas.List.{length_push, get_or_push, get_or_append_left, take-append-le, take_all, get_or_past}
+use Rattle.std.proofs.lemmas.List.{take_all, get_or_past}
 use Rattle.cl_runs.specs.TaskTiming.{System, timing_at, IsSound}
 use Rattle.cl_runs.specs.declared.job.JobTable.{JobTable}
 use Rattle.cl_runs.specs.Table.{job_at, table_jobs, IsLawful}
-use Rattle.cl_runs.specs.Run.{Run, jobs_of, core_entries, entry_at, executed}
-use Rattle.cl_runs.specs.Legal.{released, IsScheduled, IsLegal}
+use Rattle.cl_runs.specs.Run.{Run, jobs_of, core_entries, executed}
+use Rattle.cl_runs.specs.Legal.{IsLegal}
 use Rattle.cl_runs.specs.GoesOn.{GoesOn}
 use Rattle.cl_runs.proofs.Executed.{executed_same}
-use Rattle.cl_runs.proofs.Scheduling.{AreAlike, scheduled_alike, scheduled_some, scheduled_entry}
-use Rattle.cl_runs.proofs.NextTable.{listed, length-listed, get_or-listed, get_or-listed_past, lawful_times, next_table, next_ticks, no_next_jobs, next_lawful, next_released, next_first, next_later}
+use Rattle.cl_runs.proofs.HeldTasks.{held_longer, held_shorter, held_moved}
+use Rattle.cl_runs.proofs.LegalFacts.{executed_total}
+use Rattle.cl_runs.proofs.Scheduling.{AreAlike, scheduled_alike}
+use Rattle.cl_runs.proofs.Filling.{IsFilled, legal_from, more_entries, more_table, no_more_core, more_take, more_filled}
+use Rattle.cl_runs.proofs.NextTable.{next_table, next_ticks, no_next_jobs, next_lawful, next_released, next_first, next_later}
 
--- a run with a lawful table whose entries are those that are scheduled is legal
-pub legal_from : (system : System) (run : Run) → IsLawful system run.table → length run.entries ≡ system.cores
-    → ((core : ℕ) → core < system.cores → length (core_entries run core) ≡ run.table.ticks)
-    → ((core t : ℕ) → core < system.cores → t < run.table.ticks
-    → IsScheduled system run.table (λ i. executed system run i t) t core (entry_at run core t))
-    → IsLegal system run
-legal_from system run lawful cores ticks scheduled = record {
-  in_form = record {
-    tasks = lawful.tasks;
-    times = lawful_times system run.table lawful;
-    cores = cores;
-    ticks = ticks;
-    entries = λ core t on h. scheduled_entry system run.table (λ i. executed system run i t) t core _ (scheduled core t on h);
-  };
-  lawful = lawful;
-  scheduled = scheduled;
-}
-
--- what is scheduled in the new tick
-new_entry : System → Run → ℕ → Option ℕ
-new_entry system run core =
-    (scheduled_some system (next_table system run.table) (λ i. executed system run i run.table.ticks) run.table.ticks core).0
-
-new_entries : System → Run → ℕ → List (Option ℕ)
-new_entries system run core = core_entries run core ++ new_entry system run core ∷ []
+-- the same entries with the table for one more tick
+retabled : System → Run → Run
+retabled system run = record { table = next_table system run.table; entries = run.entries }
 
 pub next_run : System → Run → Run
-next_run system run = record { table = next_table system run.table; entries = listed (new_entries system run) system.cores }
+next_run system run = more_entries system (retabled system run) run.table.ticks
 
 module _ (system : System) (sound : IsSound system) (run : Run) (legal : IsLegal system run) where
+  retabled_table : (retabled system run).table ≡ next_table system run.table
+  unfolding retabled
+  retabled_table = refl
+
+  retabled_core : (core : ℕ) → core_entries (retabled system run) core ≡ core_entries run core
+  unfolding retabled
+  retabled_core core = refl
+
+  retabled_executed : (i t : ℕ) → executed system run i t ≡ executed system (retabled system run) i t
+  retabled_executed i t = executed_same system run (retabled system run) i t (ap (take t) (sym (retabled_core (timing_at system i).core)))
+
+  -- the old entries are those that are scheduled with the new table: no further job is released or begun before the end
+  retabled_alike : (core t : ℕ) → t < run.table.ticks → AreAlike system run.table (retabled system run).table
+      (λ i. executed system run i t) (λ i. executed system (retabled system run) i t) t core
+  unfolding retabled
+  retabled_alike core t h = record {
+    executed = λ i is on. retabled_executed i t;
+    released = λ i is on. next_released system run.table i t is h;
+    held = λ i is on.
+        let moved = held_moved (timing_at system i) (table_jobs (next_table system run.table) i) _ _ _ refl (retabled_executed i t) in (
+          λ held. moved.0 (held_longer (timing_at system i) (jobs_of run i) _ (next_first system run.table i is) (executed system run i t) held),
+          λ held. held_shorter (timing_at system i) (jobs_of run i) _ (next_first system run.table i is) (executed system run i t)
+              (executed_total system sound run legal i is t) (moved.1 held),
+        );
+  }
+
+  retabled_filled : IsFilled system (retabled system run) run.table.ticks
+  unfolding retabled
+  retabled_filled = record {
+    cores = legal.in_form.cores;
+    ticks = legal.in_form.ticks;
+    scheduled = λ core t on h. scheduled_alike system _ _ _ _ t core (retabled_alike core t h) _ (legal.scheduled core t on h);
+  }
+
   next_run_table : (next_run system run).table ≡ next_table system run.table
   unfolding next_run
-  next_run_table = refl
-
-  next_run_ticks : (next_run system run).table.ticks ≡ suc run.table.ticks
-  next_run_ticks = ap (λ (x : JobTable). x.ticks) next_run_table ∙ next_ticks system run.table
-
-  next_cores : length (next_run system run).entries ≡ system.cores
-  unfolding next_run
-  next_cores = length-listed (new_entries system run) system.cores
-
-  next_core : (core : ℕ) → core < system.cores
-      → core_entries (next_run system run) core ≡ core_entries run core ++ new_entry system run core ∷ []
-  unfolding next_run new_entries
-  next_core core on = get_or-listed (new_entries system run) system.cores core [] on
-
-  no_next_core : (core : ℕ) → system.cores ≤ core → core_entries (next_run system run) core ≡ []
-  unfolding next_run
-  no_next_core core off = get_or-listed_past (new_entries system run) system.cores core [] off
-
-  next_length : (core : ℕ) → core < system.cores → length (core_entries (next_run system run) core) ≡ (next_run system run).table.ticks
-  next_length core on = ap length (next_core core on) ∙ omega (
-    arith,
-    length_push (core_entries run core) (new_entry system run core),
-    legal.in_form.ticks core on,
-    next_run_ticks,
-  )
-
-  -- the entries below the old end are the old ones
-  next_take : (core t : ℕ) → core < system.cores → t ≤ run.table.ticks
-      → take t (core_entries run core) ≡ take t (core_entries (next_run system run) core)
-  next_take core t on h = sym (ap (take t) (next_core core on)
-      ∙ take-append-le t (core_entries run core) (new_entry system run core ∷ []) (omega (arith, legal.in_form.ticks core on)))
-
-  old_entry : (core t : ℕ) → core < system.cores → t < run.table.ticks → entry_at run core t ≡ entry_at (next_run system run) core t
-  old_entry core t on h = sym (ap (λ (xs : List (Option ℕ)). get_or xs t None) (next_core core on)
-      ∙ get_or_append_left (core_entries run core) (new_entry system run core ∷ []) None t (omega (arith, legal.in_form.ticks core on)))
-
-  last_entry : (core : ℕ) → core < system.cores → new_entry system run core ≡ entry_at (next_run system run) core run.table.ticks
-  last_entry core on = sym (ap (λ (xs : List (Option ℕ)). get_or xs run.table.ticks None) (next_core core on)
-      ∙ get_or_push (core_entries run core) (new_entry system run core) None run.table.ticks (legal.in_form.ticks core on))
-
-  next_executed : (i t : ℕ) → i < length system.tasks → t ≤ run.table.ticks → executed system run i t ≡ executed system (next_run system run) i t
-  next_executed i t is h = executed_same system run (next_run system run) i t (next_take (timing_at system i).core t (sound.tasks i is).on_core h)
-
-  table_released : (i t : ℕ) → i < length system.tasks → t < run.table.ticks
-      → released (jobs_of run i) t ≡ released (jobs_of (next_run system run) i) t
-  table_released i t is h = next_released system run.table i t is h
-      ∙ ap (λ (x : JobTable). released (table_jobs x i) t) (sym next_run_table)
-
-  old_alike : (core t : ℕ) → t < run.table.ticks → AreAlike system run.table (next_run system run).table
-      (λ i. executed system run i t) (λ i. executed system (next_run system run) i t) t core
-  old_alike core t h = record {
-    executed = λ i is on. next_executed i t is (omega arith);
-    released = λ i is on. table_released i t is h;
-  }
-
-  new_alike : (core : ℕ) → AreAlike system (next_table system run.table) (next_run system run).table
-      (λ i. executed system run i run.table.ticks) (λ i. executed system (next_run system run) i run.table.ticks) run.table.ticks core
-  new_alike core = record {
-    executed = λ i is on. next_executed i run.table.ticks is (omega arith);
-    released = λ i is on. ap (λ (x : JobTable). released (table_jobs x i) run.table.ticks) (sym next_run_table);
-  }
-
-  new_scheduled : (core : ℕ) → IsScheduled system (next_table system run.table) (λ i. executed system run i run.table.ticks) run.table.ticks core
-      (new_entry system run core)
-  unfolding new_entry
-  new_scheduled core = (scheduled_some system (next_table system run.table) (λ i. executed system run i run.table.ticks) run.table.ticks core).1
-
-  scheduled_old : (core t : ℕ) → core < system.cores → t < run.table.ticks
-      → IsScheduled system (next_run system run).table (λ i. executed system (next_run system run) i t) t core (entry_at (next_run system run) core t)
-  scheduled_old core t on h = subst
-      (λ e. IsScheduled system (next_run system run).table (λ i. executed system (next_run system run) i t) t core e) (old_entry core t on h)
-      (scheduled_alike system _ _ _ _ t core (old_alike core t h) _ (legal.scheduled core t on h))
-
-  scheduled_last : (core t : ℕ) → core < system.cores → run.table.ticks ≡ t
-      → IsScheduled system (next_run system run).table (λ i. executed system (next_run system run) i t) t core (entry_at (next_run system run) core t)
-  scheduled_last core t on same = subst
-      (λ n. IsScheduled system (next_run system run).table (λ i. executed system (next_run system run) i n) n core (entry_at (next_run system run) core n)) same
-      (subst (λ e. IsScheduled system (next_run system run).table (λ i. executed system (next_run system run) i run.table.ticks) run.table.ticks core e)
-      (last_entry core on)
-      (scheduled_alike system _ _ _ _ run.table.ticks core (new_alike core) _ (new_scheduled core)))
-
-  pub next_legal : IsLegal system (next_run system run)
-  next_legal = legal_from system (next_run system run)
-      (subst (λ (x : JobTable). IsLawful system x) (sym next_run_table) (next_lawful system run.table sound legal.lawful))
-      next_cores next_length
-      (λ core t on h. elim (cases_lt t run.table.ticks) [
-        | inl old ↦ scheduled_old core t on old
-        | inr last ↦ scheduled_last core t on (omega (arith, last, h, next_run_ticks))
-      ])
+  next_run_table = more_table system sound (retabled system run) run.table.ticks retabled_filled ∙ retabled_table
 
   pub next_end : (next_run system run).table.ticks ≡ suc run.table.ticks
-  next_end = next_run_ticks
+  next_end = ap (λ (x : JobTable). x.ticks) next_run_table ∙ next_ticks system run.table
+
+  pub next_legal : IsLegal system (next_run system run)
+  unfolding next_run
+  next_legal = legal_from system (next_run system run)
+      (subst (λ (x : JobTable). IsLawful system x) (sym next_run_table) (next_lawful system run.table sound legal.lawful))
+      (subst (λ n. IsFilled system (next_run system run) n) (sym next_end)
+      (more_filled system sound (retabled system run) run.table.ticks retabled_filled))
 
   -- past the last task and the last core there is nothing
   no_jobs : (i : ℕ) → length system.tasks ≤ i → jobs_of run i ≡ []
@@ -152,21 +86,27 @@ module _ (system : System) (sound : IsSound system) (run : Run) (legal : IsLegal
 
   later_jobs_next : (i k : ℕ) → length (jobs_of run i) ≤ k → k < length (jobs_of (next_run system run) i)
       → run.table.ticks ≤ (job_at (jobs_of (next_run system run) i) k).arrival
-  unfolding next_run
-  later_jobs_next i k past h = elim (cases_lt i (length system.tasks)) [
-    | inl is ↦ next_later system run.table i k is past h
-    | inr none ↦ absurd (omega (arith, h, ap length (no_next_jobs system run.table i none)))
-  ]
+  later_jobs_next i k past h = subst
+      (λ (x : JobTable). k < length (table_jobs x i) → run.table.ticks ≤ (job_at (table_jobs x i) k).arrival) (sym next_run_table)
+      (λ below. elim (cases_lt i (length system.tasks)) [
+        | inl is ↦ next_later system run.table i k is past below
+        | inr none ↦ absurd (omega (arith, below, ap length (no_next_jobs system run.table i none)))
+      ]) h
 
   entries_next : (core : ℕ) → core_entries run core ≡ take run.table.ticks (core_entries (next_run system run) core)
+  unfolding next_run
   entries_next core = elim (cases_lt core system.cores) [
-    | inl on ↦ sym (take_all run.table.ticks (core_entries run core) (omega (arith, legal.in_form.ticks core on))) ∙ next_take core run.table.ticks on (omega arith)
-    | inr off ↦ no_core core off ∙ sym (ap (take run.table.ticks) (no_next_core core off) ∙ take_all run.table.ticks [] (omega arith))
+    | inl on ↦ sym (take_all run.table.ticks (core_entries run core) (omega (arith, legal.in_form.ticks core on)))
+        ∙ ap (take run.table.ticks) (sym (retabled_core core))
+        ∙ more_take system sound (retabled system run) run.table.ticks retabled_filled core run.table.ticks on (omega arith)
+    | inr off ↦ no_core core off
+        ∙ sym (ap (take run.table.ticks) (no_more_core system sound (retabled system run) run.table.ticks retabled_filled core off)
+        ∙ take_all run.table.ticks [] (omega arith))
   ]
 
   pub next_goes_on : GoesOn run (next_run system run)
   next_goes_on = record {
-    ticks = omega (arith, next_run_ticks);
+    ticks = omega (arith, next_end);
     first_jobs = first_jobs_next;
     later_jobs = later_jobs_next;
     entries = entries_next;

@@ -7,9 +7,9 @@ use Rattle.cl_runs.specs.Pattern.{first_greatest}
 use Rattle.cl_runs.specs.TaskTiming.{System, timing_at, IsSound}
 use Rattle.cl_runs.specs.declared.job.Job.{Job}
 use Rattle.cl_runs.specs.declared.job.JobTable.{JobTable}
-use Rattle.cl_runs.specs.Table.{job_at, table_jobs, AreLawfulJobs, IsLawful}
+use Rattle.cl_runs.specs.Table.{no_job, job_at, table_jobs, AreLawfulJobs, IsLawful}
 use Rattle.cl_runs.specs.Legal.{released}
-use Rattle.cl_runs.proofs.LawfulJobs.{lawful_at, times_length}
+use Rattle.cl_runs.proofs.LawfulJobs.{times_length}
 use Rattle.cl_runs.proofs.DueJobs.{with_due, with_due_lawful, with_due_first, with_due_later, with_due_released}
 
 -- a list made from a function of the number
@@ -31,8 +31,7 @@ get_or-listed_past f n i d h = get_or_past (listed f n) i d (omega (arith, lengt
 pub lawful_times : (system : System) (table : JobTable) → IsLawful system table → (i k : ℕ) → i < length system.tasks
     → k < length (table_jobs table i) → length (job_at (table_jobs table i) k).times ≡ length (timing_at system i).ranges
 lawful_times system table lawful i k is h =
-    let job = lawful_at (timing_at system i) table.ticks (table_jobs table i) 0 _ _ (lawful.jobs i is) k h in
-    times_length (timing_at system i) _ job.low job.high _ job.lawful
+    times_length (timing_at system i) (job_at (table_jobs table i) k) ((lawful.jobs i is).times k no_job h)
 
 -- the table for one more tick
 next_jobs : System → JobTable → ℕ → List Job
@@ -64,8 +63,7 @@ module _ (system : System) (table : JobTable) where
     tasks = next_tasks;
     jobs = λ i is. subst (λ n. AreLawfulJobs (timing_at system i) n (table_jobs (next_table system table) i)) (sym next_ticks)
         (subst (λ (jobs : List Job). AreLawfulJobs (timing_at system i) (suc table.ticks) jobs) (sym (next_jobs_at i is))
-        (with_due_lawful system.cores (timing_at system i) (sound.tasks i is) table.ticks (table_jobs table i) 0 _ _
-        (sound.tasks i is).first (lawful.jobs i is)));
+        (with_due_lawful system.cores (timing_at system i) (sound.tasks i is) table.ticks (table_jobs table i) (lawful.jobs i is)));
   }
 
   pub next_released : (i t : ℕ) → i < length system.tasks → t < table.ticks

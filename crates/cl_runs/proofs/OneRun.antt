@@ -8,6 +8,7 @@ use Rattle.cl_runs.specs.Table.{table_jobs}
 use Rattle.cl_runs.specs.Run.{Run, core_entries, entry_at, executed}
 use Rattle.cl_runs.specs.Legal.{released, IsLegal}
 use Rattle.cl_runs.proofs.Executed.{executed_same}
+use Rattle.cl_runs.proofs.HeldTasks.{held_moved}
 use Rattle.cl_runs.proofs.Scheduling.{AreAlike, scheduled_alike, scheduled_once}
 
 pub run_same : (one other : Run) → one.table ≡ other.table → one.entries ≡ other.entries → one ≡ other
@@ -26,6 +27,8 @@ module _ (system : System) (sound : IsSound system) (one other : Run) (legal : I
       let alike : AreAlike system one.table other.table (λ i. executed system one i t) (λ i. executed system other i t) t core = record {
         executed = λ i is same. executed_same system one other i t (before (timing_at system i).core (sound.tasks i is).on_core);
         released = λ i is same. ap (λ (x : JobTable). released (table_jobs x i) t) table;
+        held = λ i is same. held_moved (timing_at system i) _ _ _ _ (ap (λ (x : JobTable). table_jobs x i) table)
+            (executed_same system one other i t (before (timing_at system i).core (sound.tasks i is).on_core));
       } in
       scheduled_once system sound other.table (λ i. executed system other i t) t core _ _
       (scheduled_alike system one.table other.table _ _ t core alike _ (legal.scheduled core t on h))

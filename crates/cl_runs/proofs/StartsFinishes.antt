@@ -4,8 +4,9 @@ use Rattle.std.proofs.lemmas.Bool.{cases_lt}
 use Rattle.std.proofs.lemmas.List.{get_or_past}
 use Rattle.cl_runs.specs.TaskTiming.{System, timing_at}
 use Rattle.cl_runs.specs.Run.{Run, jobs_of, core_entries, executed}
-use Rattle.cl_runs.specs.Moments.{work_before, work_through, Starts, Finishes}
-use Rattle.cl_runs.proofs.Climbing.{GrowsAt, climb_mono, climb_reaches, climb_grows, grows_once}
+use Rattle.cl_runs.specs.Work.{work_before, work_through}
+use Rattle.cl_runs.specs.Moments.{Starts, Finishes}
+use Rattle.cl_runs.proofs.Climbing.{GrowsAt, climb_mono, climb_lt, climb_reaches, climb_grows, grows_once}
 use Rattle.cl_runs.proofs.Executed.{executed_zero, executed_climbs, executed_grew, executed_more}
 
 -- a tick in which a task runs is one of the core's entries
@@ -47,6 +48,15 @@ module _ (system : System) (run : Run) (i : ℕ) where
   starts_before k p t job place ticks above =
       let (r, before, grows) = climb_grows (executed system run i) (executed_climbs system run i) (executed_zero system run i) _ t above in
       (r, before, starts_where_grows k p r job place ticks grows)
+
+  -- from the tick after its start on, more than the work before a runnable is executed
+  pub start_begun : (k p s t : ℕ) → Starts system run i k p s → s < t → work_before (jobs_of run i) k p < executed system run i t
+  start_begun k p s t starts h =
+      omega (arith, (start_grows k p s starts).after, climb_mono (executed system run i) (executed_climbs system run i) (suc s) t h)
+
+  -- and not before
+  pub start_earliest : (k p s t : ℕ) → Starts system run i k p s → work_before (jobs_of run i) k p < executed system run i t → s < t
+  start_earliest k p s t starts h = climb_lt (executed system run i) (executed_climbs system run i) s t (omega (arith, starts.reached, h))
 
   -- from its finish on, the work up to a runnable is executed
   pub finish_reached : (k p f t : ℕ) → Finishes system run i k p f → f ≤ t → work_through (jobs_of run i) k p ≤ executed system run i t

@@ -1,14 +1,15 @@
 -- Sums of execution times: what is released by a moment, and the work before a runnable of a job.
-use Rattle.std.proofs.Common.{◌≡◌, ℕ, suc, ◌+◌, ◌<◌, ◌≤◌, cond, nat_le, List, length, get_or, take, ap, ◌∙◌, arith}
+use Rattle.std.proofs.Common.{◌≡◌, ℕ, zero, suc, ◌+◌, ◌<◌, ◌≤◌, cond, nat_le, List, [], ◌∷◌, length, get_or, take, ap, ◌∙◌, arith}
 use Rattle.std.specs.Prelude.{sum, sum_by, slice_index}
 use Rattle.std.proofs.Math.Numerals.{add-one}
 use Rattle.std.proofs.lemmas.Bool.Decides.{nat_tests}
-use Rattle.std.proofs.lemmas.List.{take-take, take_all, get_or-take}
-use Rattle.std.proofs.lemmas.List.Sums.{sum_by-le-sum_by, sum_by-take-le, sum_by_more, sum_by_more_le}
+use Rattle.std.proofs.lemmas.Bool.{cond-true, cond-false, le-leb, lt-leb}
+use Rattle.std.proofs.lemmas.List.{take-take, take_all, get_or-take, length-take}
+use Rattle.std.proofs.lemmas.List.Sums.{sum_by-cons, sum_by-le-sum_by, sum_by-take-le, sum_by_more, sum_by_more_le}
 use Rattle.cl_runs.specs.declared.job.Job.{Job}
 use Rattle.cl_runs.specs.Table.{job_at, no_job}
 use Rattle.cl_runs.specs.Legal.{released}
-use Rattle.cl_runs.specs.Moments.{work_before, work_through}
+use Rattle.cl_runs.specs.Work.{work_before, work_through}
 
 -- the time of a whole job, and of all jobs
 abbrev pub job_time : Job → ℕ
@@ -50,7 +51,7 @@ through_job jobs k p hk hp =
     = sum_by_more_le (λ x. x) (job_at jobs k).times p 0 hp in
     omega (arith, part, rw add-one at whole)
 
-before_job : (jobs : List Job) (k p : ℕ) → sum_by (λ (job : Job). sum job.times) (take k jobs) ≤ work_before jobs k p
+pub before_job : (jobs : List Job) (k p : ℕ) → sum_by (λ (job : Job). sum job.times) (take k jobs) ≤ work_before jobs k p
 unfolding work_before
 before_job jobs k p = omega arith
 
@@ -68,6 +69,11 @@ work_rises jobs k p l q hk hp h = omega (
 pub places_rise : (jobs : List Job) (k p q : ℕ) → p ≤ q → work_before jobs k p ≤ work_before jobs k q
 unfolding work_before
 places_rise jobs k p q h = omega (arith, sum_take_mono (λ (x : ℕ). x) (job_at jobs k).times p q h)
+
+-- each begins where the one before it ends
+pub through_place : (jobs : List Job) (k p : ℕ) → p < length (job_at jobs k).times → work_through jobs k p ≡ work_before jobs k (suc p)
+unfolding work_before
+through_place jobs k p h = let more = sum_by_more (λ (x : ℕ). x) (job_at jobs k).times p 0 h in omega (arith, rw add-one at more)
 
 -- the work through a job of the list is within the time of all jobs
 pub through_total : (jobs : List Job) (k p : ℕ) → k < length jobs → p < length (job_at jobs k).times
@@ -102,3 +108,45 @@ before_further jobs longer same k p h =
       sum_take_mono (λ (job : Job). sum job.times) longer (length jobs) k h,
       before_job longer k p,
     )
+
+-- the first jobs of a list are at most as many
+pub first_length : (n : ℕ) (jobs longer : List Job) → jobs ≡ take n longer → length jobs ≤ length longer
+first_length n jobs longer same = omega (arith, ap length same, length-take n longer)
+
+-- ---- what is released
+
+-- where no job from number k on is released by t, no more is released by t than the work before job k
+pub released_before : (t : ℕ) (jobs : List Job) (k : ℕ) → ((l : ℕ) → k ≤ l → l < length jobs → t < (job_at jobs l).release)
+    → released jobs t ≤ sum_by (λ (job : Job). sum job.times) (take k jobs)
+unfolding released
+released_before t [] k later = omega arith
+released_before t (job ∷ jobs) zero later = omega (
+  arith,
+  sum_by-cons (λ (j : Job). cond (nat_le j.release t) (sum j.times) 0) job jobs,
+  cond-false (nat_le job.release t) (sum job.times) 0 (lt-leb job.release t (later 0 (omega arith) (omega arith))),
+  released_before t jobs zero (λ l h below. later (suc l) (omega arith) (omega arith)),
+)
+released_before t (job ∷ jobs) (suc k) later = omega (
+  arith,
+  sum_by-cons (λ (j : Job). cond (nat_le j.release t) (sum j.times) 0) job jobs,
+  sum_by-cons (λ (j : Job). sum j.times) job (take k jobs),
+  part_le job.release t (sum job.times),
+  released_before t jobs k (λ l h below. later (suc l) (omega arith) (omega arith)),
+)
+
+part_there : (r t v : ℕ) → r ≤ t → cond (nat_le r t) v 0 ≡ v
+part_there r t v h = cond-true (nat_le r t) v 0 (le-leb r t h)
+
+-- where the first n jobs are released by t, their time is
+pub released_first : (jobs : List Job) (n t : ℕ) → ((l : ℕ) → l < n → (job_at jobs l).release ≤ t)
+    → sum_by (λ (job : Job). sum job.times) (take n jobs) ≤ released jobs t
+unfolding released
+released_first [] n t there = omega (arith, ap (sum_by (λ (job : Job). sum job.times)) (take_all n [] (omega arith)))
+released_first (job ∷ jobs) zero t there = omega arith
+released_first (job ∷ jobs) (suc n) t there = omega (
+  arith,
+  sum_by-cons (λ (j : Job). cond (nat_le j.release t) (sum j.times) 0) job jobs,
+  sum_by-cons (λ (j : Job). sum j.times) job (take n jobs),
+  part_there job.release t (sum job.times) (there 0 (omega arith)),
+  released_first jobs n t (λ l h. there (suc l) (omega arith)),
+)

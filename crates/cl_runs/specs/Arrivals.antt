@@ -1,19 +1,25 @@
--- The arrivals of a lawful list of jobs, in the words of each kind of pattern.
-use Rattle.std.specs.Prelude.{◌≡◌, ℕ, suc, ◌+◌, ◌-◌, ◌*◌, ◌<◌, ◌≤◌, List, length}
-use Rattle.cl_runs.specs.TaskTiming.{Timing}
+-- Which lists of jobs arrive and are released as a pattern says. Execution times play no part. Source: this project's profile.
+use Rattle.std.specs.Prelude.{ℕ, suc, ◌+◌, ◌<◌, ◌≤◌, List, [], ◌∷◌}
+use Rattle.cl_model.specs.declared.stimulus.StimulusKind.{StimulusKind}
+use Rattle.cl_model.specs.Timing.{greatest_jitter}
 use Rattle.cl_runs.specs.declared.job.Job.{Job}
-use Rattle.cl_runs.specs.Table.{job_at, IsLawfulJob}
+use Rattle.cl_runs.specs.Pattern.{first_least, first_greatest, least_gap, greatest_gap}
 
--- periodic: job k arrives at `offset + k * period`, and the arrival after the last one isn't below `ticks`
-pub record FollowsPeriod (task : Timing) (ticks period offset : ℕ) (jobs : List Job) : Type 0 where
-  pub each : (k : ℕ) → k < length jobs → IsLawfulJob task ticks (offset + k * period) (offset + k * period) (job_at jobs k)
-  pub end : ticks ≤ offset + length jobs * period
+-- a job that arrives in [low, high] and in the first `ticks` ticks, and is released within the jitter of its arrival
+pub record IsArrival (pattern : StimulusKind) (ticks low high : ℕ) (job : Job) : Type 0 where
+  pub not_early : low ≤ job.arrival
+  pub not_late : job.arrival ≤ high
+  pub arrives : job.arrival < ticks
+  pub released : job.arrival ≤ job.release
+  pub in_jitter : job.release ≤ job.arrival + greatest_jitter pattern
 
--- sporadic: the first arrival is below `greatest`, each gap lies in [`least`, `greatest`], and no further arrival is
--- due below `ticks` after the last one, or where there is none
-pub record FollowsGaps (task : Timing) (ticks least greatest : ℕ) (jobs : List Job) : Type 0 where
-  pub first : 0 < length jobs → IsLawfulJob task ticks 0 (greatest - 1) (job_at jobs 0)
-  pub next : (k : ℕ) → suc k < length jobs
-      → IsLawfulJob task ticks ((job_at jobs k).arrival + least) ((job_at jobs k).arrival + greatest) (job_at jobs (suc k))
-  pub none : length jobs ≡ 0 → ticks ≤ greatest - 1
-  pub end : (k : ℕ) → suc k ≡ length jobs → ticks ≤ (job_at jobs k).arrival + greatest
+-- the jobs from number k on, where the next arrival lies in [low, high]: each arrives in its interval, and
+-- after the last one no further arrival is due below `ticks`
+abbrev pub AreArrivalsFrom : StimulusKind → (ticks k low high : ℕ) → List Job → Type 0
+AreArrivalsFrom pattern ticks k low high [] = ticks ≤ high
+AreArrivalsFrom pattern ticks k low high (job ∷ jobs) = IsArrival pattern ticks low high job
+    × AreArrivalsFrom pattern ticks (suc k) (job.arrival + least_gap pattern k) (job.arrival + greatest_gap pattern k) jobs
+
+-- the jobs arrive and are released in one of the ways to follow the pattern for `ticks` ticks
+abbrev pub FollowPattern : StimulusKind → (ticks : ℕ) → List Job → Type 0
+FollowPattern pattern ticks jobs = AreArrivalsFrom pattern ticks 0 (first_least pattern) (first_greatest pattern) jobs

@@ -1,35 +1,35 @@
 -- Job chains over any read and write moments of groups. Source: this project's profile.
-use Rattle.std.specs.Prelude.{◌≡◌, ℕ, suc, ◌+◌, ◌-◌, ◌<◌, ◌≤◌, List, length, slice_index, slice_index_or}
+use Rattle.std.specs.Prelude.{◌≡◌, ℕ, suc, ◌+◌, ◌-◌, ◌<◌, ◌≤◌, List, length, slice_index}
 use Rattle.cl_model.specs.declared.group.Group.{Group}
-use Rattle.cl_model.specs.Groups.{no_group}
+use Rattle.cl_model.specs.Groups.{group_at}
 
--- at which ticks the jobs of groups read and write: `reads g k t` says that job k of group g reads at t
+-- at which ticks the jobs of groups read and write: `reads group job tick`, and so for writes
 pub record Moments : Type 1 where
-  pub reads : Group → ℕ → ℕ → Type 0
-  pub writes : Group → ℕ → ℕ → Type 0
+  pub reads : Group → (job tick : ℕ) → Type 0
+  pub writes : Group → (job tick : ℕ) → Type 0
 
--- job m of the group has a write
-pub record HasWritten (moments : Moments) (group : Group) (m : ℕ) : Type 0 where
+-- a job of the group has a write
+pub record HasWritten (moments : Moments) (group : Group) (job : ℕ) : Type 0 where
   pub write : ℕ
-  pub writes : moments.writes group m write
+  pub writes : moments.writes group job write
 
--- job k of group y is the earliest reader of job m of group x: the least whose read is at or after the write of m
-pub record IsEarliestReader (moments : Moments) (x y : Group) (m k : ℕ) : Type 0 where
+-- the earliest reader of a writing job: the least job of the reader's group whose read is at or after the write
+pub record IsEarliestReader (moments : Moments) (writer reader : Group) (writing reading : ℕ) : Type 0 where
   pub write : ℕ
   pub read : ℕ
-  pub writes : moments.writes x m write
-  pub reads : moments.reads y k read
+  pub writes : moments.writes writer writing write
+  pub reads : moments.reads reader reading read
   pub after : write ≤ read
-  pub least : (l r : ℕ) → moments.reads y l r → write ≤ r → k ≤ l
+  pub least : (other r : ℕ) → moments.reads reader other r → write ≤ r → reading ≤ other
 
--- job m of group x is the latest writer for job k of group y: the greatest whose write is at or before the read of k
-pub record IsLatestWriter (moments : Moments) (x y : Group) (m k : ℕ) : Type 0 where
+-- the latest writer for a reading job: the greatest job of the writer's group whose write is at or before the read
+pub record IsLatestWriter (moments : Moments) (writer reader : Group) (writing reading : ℕ) : Type 0 where
   pub write : ℕ
   pub read : ℕ
-  pub writes : moments.writes x m write
-  pub reads : moments.reads y k read
+  pub writes : moments.writes writer writing write
+  pub reads : moments.reads reader reading read
   pub before : write ≤ read
-  pub greatest : (l w : ℕ) → moments.writes x l w → w ≤ read → l ≤ m
+  pub greatest : (other w : ℕ) → moments.writes writer other w → w ≤ read → other ≤ writing
 
 -- a job chain: one job number per group, and the moments from which and to which it lasts
 pub record JobChain : Type 0 where
@@ -40,9 +40,6 @@ pub record JobChain : Type 0 where
 -- how long a job chain lasts
 abbrev pub chain_length : JobChain → ℕ
 chain_length chain = chain.to - chain.from
-
-abbrev pub group_at : List Group → ℕ → Group
-group_at groups i = slice_index_or groups i no_group
 
 abbrev pub first_group : List Group → Group
 first_group groups = group_at groups 0

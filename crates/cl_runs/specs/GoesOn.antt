@@ -7,7 +7,7 @@ use Rattle.cl_runs.specs.Run.{Run, jobs_of, core_entries}
 -- end of the shorter run or later, and each core's entries of the shorter run are its first ones
 pub record GoesOn (shorter longer : Run) : Type 0 where
   pub ticks : shorter.table.ticks ≤ longer.table.ticks
-  pub first_jobs : (i : ℕ) → jobs_of shorter i ≡ take (length (jobs_of shorter i)) (jobs_of longer i)
-  pub later_jobs : (i k : ℕ) → length (jobs_of shorter i) ≤ k → k < length (jobs_of longer i)
-      → shorter.table.ticks ≤ (job_at (jobs_of longer i) k).arrival
+  pub first_jobs : (task : ℕ) → jobs_of shorter task ≡ take (length (jobs_of shorter task)) (jobs_of longer task)
+  pub later_jobs : (task job : ℕ) → length (jobs_of shorter task) ≤ job → job < length (jobs_of longer task)
+      → shorter.table.ticks ≤ (job_at (jobs_of longer task) job).arrival
   pub entries : (core : ℕ) → core_entries shorter core ≡ take shorter.table.ticks (core_entries longer core)

@@ -3,21 +3,21 @@ use Rattle.std.specs.Prelude.{length, map}
 use Rattle.cl_model.specs.declared.model.SystemModel.{SystemModel}
 use Rattle.cl_model.specs.declared.task.RunnableDef.{RunnableDef}
 use Rattle.cl_model.specs.declared.task.TaskDef.{TaskDef}
-use Rattle.cl_model.specs.OfTask.{core_number, kind_of}
+use Rattle.cl_model.specs.ByNumber.{core_number, stimulus_kind}
 use Rattle.cl_model.specs.Timing.{deadline_under}
 use Rattle.cl_runs.specs.TaskTiming.{TimeRange, Timing, System}
 
 -- the range of a runnable
 abbrev pub range_of : RunnableDef → TimeRange
-range_of runnable = record { least = runnable.least; greatest = runnable.greatest }
+range_of runnable = record { least = runnable.least; greatest = runnable.greatest; whole = runnable.whole }
 
 -- the timing of a task of the model
 abbrev pub timing_of : SystemModel → TaskDef → Timing
 timing_of model task = record {
   core = core_number model task;
   priority = task.priority;
-  deadline = deadline_under (kind_of model task) task;
-  pattern = kind_of model task;
+  deadline = deadline_under (stimulus_kind model task) task;
+  pattern = stimulus_kind model task;
   access = task.access;
   ranges = map range_of task.runnables;
 }

@@ -3,11 +3,5 @@
 
 mod job;
 pub mod laws;
-mod run_data;
-mod stretches;
 
 pub use job::{Job, JobTable};
-pub use run_data::RunData;
-
-#[cfg(test)]
-mod tests;

@@ -1,2 +1,2 @@
-pub mod Releases
+pub use Rattle.cl_stim.specs.Inner.Releases
 pub mod ValidStimuli

@@ -2,4 +2,4 @@ pub mod Stimulus
 pub mod Releases
 pub mod AnyStimulus
 pub mod Jobs
-pub mod Laws
+pub mod Inner

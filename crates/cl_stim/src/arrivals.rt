@@ -19,10 +19,10 @@ pub trait Arrivals {
     ghost most: { Self → (width : ℕ) → ℕ };
 
     /// The least distance between the arrivals of consecutive jobs.
-    ghost least_gap: { Self → ℕ };
+    ghost least_distance: { Self → ℕ };
 
     /// The greatest distance between the arrivals of consecutive jobs.
-    ghost greatest_gap: { Self → ℕ };
+    ghost greatest_distance: { Self → ℕ };
 
     /// How long after its arrival a job is released at most.
     ghost jitter: { Self → ℕ };
@@ -35,12 +35,12 @@ pub trait Arrivals {
 
     /// The least distance between the arrivals of consecutive jobs, in ticks.
     fn least_gap(&self) -> u64
-        ensures gap { result ≡ least_gap self.now }
+        ensures gap { result ≡ least_distance self.now }
         ensures known { is_known self.now };
 
     /// The greatest distance between the arrivals of consecutive jobs, in ticks.
     fn greatest_gap(&self) -> u64
-        ensures gap { result ≡ greatest_gap self.now }
+        ensures gap { result ≡ greatest_distance self.now }
         ensures known { is_known self.now };
 
     /// How long after its arrival a job is released at most, in ticks.
@@ -55,13 +55,14 @@ pub trait Arrivals {
     ghost few: { (a : Self) → is_known a → (ticks : ℕ) (jobs : List Job) → are_lawful a ticks jobs
         → (width : ℕ) → AreFew (most a width) width jobs };
 
-    /// In a lawful list each job arrives between the least and the greatest gap after the one before it.
+    /// In a lawful list each job arrives between the least and the greatest distance after the one before it.
     ghost gaps: { (a : Self) → is_known a → (ticks : ℕ) (jobs : List Job) → are_lawful a ticks jobs
-        → HaveGaps (least_gap a) (greatest_gap a) jobs };
+        → HaveGaps (least_distance a) (greatest_distance a) jobs };
 
-    /// In a lawful list no arrival is missing at the end: the last job arrives no more than the greatest gap before it.
+    /// In a lawful list no arrival is missing at the end: the last job arrives no more than the greatest
+    /// distance before it.
     ghost goes_on: { (a : Self) → is_known a → (ticks : ℕ) (jobs : List Job) → are_lawful a ticks jobs
-        → ReachEnd (greatest_gap a) ticks jobs };
+        → ReachEnd (greatest_distance a) ticks jobs };
 
     /// In a lawful list each job is released at its arrival or at most the jitter later.
     ghost released: { (a : Self) → is_known a → (ticks : ℕ) (jobs : List Job) → are_lawful a ticks jobs

@@ -2,16 +2,22 @@
 ghost use Rattle.std.specs.Prelude.{ℕ, ◌<◌, ◌≤◌, List, length};
 ghost use Rattle.cl_model.specs.declared.model.SystemModel.{SystemModel};
 ghost use Rattle.cl_model.specs.declared.stimulus.StimulusKind.{StimulusKind};
-ghost use Rattle.cl_model.specs.OfTask.{stimulus_of};
-ghost use Rattle.cl_model.specs.Timing.{least_distance};
+ghost use Rattle.cl_model.specs.ByNumber.{stimulus_of};
 ghost use Rattle.cl_model.specs.Validity.{IsValid};
 ghost use Rattle.cl_runs.specs.declared.job.Job.{Job};
+ghost use Rattle.cl_runs.specs.Pattern.{IsPattern};
+ghost use Rattle.cl_runs.specs.Arrivals.{FollowPattern};
 ghost use Rattle.cl_stim.specs.Releases.{releases_in, most_releases};
-ghost use Rattle.cl_stim.specs.Stimulus.{IsStimulus, Follows};
+ghost use Rattle.cl_stim.specs.Stimulus.{IsStimulus};
+
+/// The pattern of each stimulus of a valid model is well formed.
+pub fn stimuli_are_well_formed()
+    ensures { (kind : StimulusKind) → IsStimulus kind → IsPattern kind }
+{}
 
 /// Of jobs that follow a stimulus, at most `most_releases` are released in any window.
 pub fn releases_are_few()
-    ensures { (kind : StimulusKind) → 1 ≤ least_distance kind → (ticks : ℕ) (jobs : List Job) → Follows kind ticks jobs
+    ensures { (kind : StimulusKind) → IsPattern kind → (ticks : ℕ) (jobs : List Job) → FollowPattern kind ticks jobs
         → (start width : ℕ) → releases_in jobs start width ≤ most_releases kind width }
 {}
 

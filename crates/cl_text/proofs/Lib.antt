@@ -1,2 +1,3 @@
-mod DecimalLemmas
-mod LineLemmas
+pub mod DecimalLemmas
+pub mod LineLemmas
+pub mod FoundInTexts

@@ -1,7 +1,8 @@
-ghost use Rattle.std.specs.Prelude.{◌≡◌, ◌≢◌, ℕ, ◌^◌, ◌<◌, ◌≤◌, List, IfSome, IfNone, decimal};
+ghost use Rattle.std.specs.Prelude.{◌≡◌, ◌≢◌, ℕ, ◌^◌, ◌<◌, ◌≤◌, false, List, ◌∷◌, ◌++◌, IfSome, IfNone, decimal};
 ghost use Rattle.std.specs.Option.{SomeIff};
 ghost use Rattle.std.specs.Str.Parse.{IsNumeral, digits_value};
 ghost use Rattle.cl_text.specs.Decimal.{IsDecimal};
+ghost use Rattle.cl_text.specs.Line.{first_word, is_graphic};
 
 /// The number that a word writes in decimal: digits without a leading zero, except `0` itself, of
 /// a value at most `most`. `None` exactly where the word isn't that.
@@ -44,43 +45,10 @@ pub fn decimal_grammar()
     ensures only { (word : List ℕ) (n : ℕ) → n < 2 ^ 64 → IsDecimal word n → word ≡ decimal n }
 {}
 
-#[cfg(test)]
-mod tests {
-    use super::read_decimal;
-
-    #[test]
-    fn reads_decimals_alone(rt: HostRuntime) {
-        let most = u64::MAX;
-        assert_eq!(rt; read_decimal(b"0", most), Some(0));
-        assert_eq!(rt; read_decimal(b"7", most), Some(7));
-        assert_eq!(rt; read_decimal(b"1000000", most), Some(1_000_000));
-        assert_eq!(rt; read_decimal(b"18446744073709551615", most), Some(u64::MAX));
-        let others = [
-            b"".as_slice(),
-            b"00".as_slice(),
-            b"007".as_slice(),
-            b"+1".as_slice(),
-            b"-1".as_slice(),
-            b" 1".as_slice(),
-            b"1 ".as_slice(),
-            b"1_000".as_slice(),
-            b"12a".as_slice(),
-            b"18446744073709551616".as_slice(),
-            b"100000000000000000000".as_slice(),
-        ];
-        for word in others {
-            assert_eq!(rt; read_decimal(word, most), None, "{word:?}");
-        }
-    }
-
-    #[test]
-    fn reads_up_to_the_greatest(rt: HostRuntime) {
-        assert_eq!(rt;
-            read_decimal(b"2000000000000", 2_000_000_000_000),
-            Some(2_000_000_000_000)
-        );
-        assert_eq!(rt; read_decimal(b"2000000000001", 2_000_000_000_000), None);
-        assert_eq!(rt; read_decimal(b"0", 0), Some(0));
-        assert_eq!(rt; read_decimal(b"1", 0), None);
-    }
-}
+/// A printed number is read once and in one way: two numbers of up to 64 bits that print alike are
+/// one, and what isn't a byte of a word ends it.
+pub fn printed_numbers_are_apart()
+    ensures numbers { (m n : ℕ) → m < 2 ^ 64 → n < 2 ^ 64 → decimal m ≡ decimal n → m ≡ n }
+    ensures words { (n : ℕ) (rest : List ℕ) (byte : ℕ) → n < 2 ^ 64 → is_graphic byte ≡ false →
+        first_word (decimal n ++ byte ∷ rest) ≡ decimal n }
+{}

@@ -5,6 +5,6 @@ mod decimal;
 mod line;
 mod text;
 
-pub use decimal::{decimal_grammar, read_decimal};
-pub use line::{line_grammar, next_line, next_word, word_grammar};
+pub use decimal::{decimal_grammar, printed_numbers_are_apart, read_decimal};
+pub use line::{found_in_a_text, line_grammar, next_line, next_word, word_grammar};
 pub use text::Text;

@@ -60,31 +60,14 @@ pub fn word_grammar()
     ensures decimals { (n : ℕ) → n < 2 ^ 64 → AllPass is_graphic (decimal n) }
 {}
 
-#[cfg(test)]
-mod tests {
-    use super::{next_line, next_word};
-
-    #[test]
-    fn finds_the_ends_of_lines(rt: HostRuntime) {
-        let text = b"run A\n\nend";
-        assert_eq!(rt; next_line(text, 0), Some(5));
-        assert_eq!(rt; next_line(text, 5), Some(5));
-        assert_eq!(rt; next_line(text, 6), Some(6));
-        assert_eq!(rt; next_line(text, 7), None);
-        assert_eq!(rt; next_line(text, 10), None);
-    }
-
-    #[test]
-    fn finds_the_ends_of_words(rt: HostRuntime) {
-        let line = b"!a~ \tb\x7Fc\x80";
-        assert_eq!(rt; next_word(line, 0), Some(3));
-        assert_eq!(rt; next_word(line, 1), Some(3));
-        assert_eq!(rt; next_word(line, 3), None);
-        assert_eq!(rt; next_word(line, 4), None);
-        assert_eq!(rt; next_word(line, 5), Some(6));
-        assert_eq!(rt; next_word(line, 6), None);
-        assert_eq!(rt; next_word(line, 7), Some(8));
-        assert_eq!(rt; next_word(line, 8), None);
-        assert_eq!(rt; next_word(line, 9), None);
-    }
-}
+/// A line and a word are found whole where they stand in a text, and cut out of it as they are.
+pub fn found_in_a_text()
+    ensures lines { (text before line rest : List ℕ) → text ≡ before ++ (line ++ 0x0A ∷ rest) → ¬ Contains line 0x0A →
+        line_end (drop (length before) text) ≡ Some (length line) }
+    ensures words { (text before word rest : List ℕ) (byte : ℕ) → text ≡ before ++ (word ++ byte ∷ rest) →
+        AllPass is_graphic word → is_graphic byte ≡ false → first_word (drop (length before) text) ≡ word }
+    ensures last { (text before word : List ℕ) → text ≡ before ++ word → AllPass is_graphic word →
+        first_word (drop (length before) text) ≡ word }
+    ensures piece { (text before piece rest : List ℕ) → text ≡ before ++ (piece ++ rest) →
+        slice_range text (length before) (length before + length piece) ≡ piece }
+{}

@@ -52,25 +52,3 @@ impl Text {
         self.bytes.as_slice()
     }
 }
-
-#[cfg(test)]
-mod tests {
-    use super::Text;
-    use std::test::Fail;
-
-    #[test]
-    fn holds_what_was_put(rt: HostRuntime) -> Result<(), Fail> {
-        let mut text = Text::new(rt.alloc());
-        assert_eq!(rt; text.as_slice(), b"".as_slice());
-        text.put(b"ticks ")?;
-        text.put_number(0)?;
-        text.put(b"")?;
-        text.put(b"\n")?;
-        text.put_number(u64::MAX)?;
-        assert_eq!(rt;
-            text.as_slice(),
-            b"ticks 0\n18446744073709551615".as_slice()
-        );
-        Ok(())
-    }
-}

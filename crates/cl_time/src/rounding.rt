@@ -10,28 +10,3 @@ pub fn ceil_div(a: u64, b: u64) -> u64
 {
     a.div_ceil(b)
 }
-
-#[cfg(test)]
-mod tests {
-    use super::*;
-
-    #[test]
-    fn rounds_up(rt: HostRuntime) {
-        let cases = [
-            (0, 1, 0),
-            (0, 7, 0),
-            (1, 7, 1),
-            (7, 7, 1),
-            (8, 7, 2),
-            (1000, 300, 4),
-            (u64::MAX, 1, u64::MAX),
-            (u64::MAX, 2, 9_223_372_036_854_775_808),
-            (u64::MAX, u64::MAX, 1),
-            (u64::MAX - 1, u64::MAX, 1),
-        ];
-        for (a, b, quotient) in cases {
-            assert!(rt; b > 0);
-            assert_eq!(rt; ceil_div(a, b), quotient, "{a} by {b}");
-        }
-    }
-}

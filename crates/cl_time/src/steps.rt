@@ -47,33 +47,3 @@ impl<L: Ledger> Steps<L> {
         self.book.add(&mut self.share, 1);
     }
 }
-
-#[cfg(test)]
-mod tests {
-    use super::*;
-    use std::marker::Brand;
-
-    fn tick_twice<L: Ledger>(steps: &mut Steps<L>)
-        ensures { steps.new ≡ steps.old + 2 }
-    {
-        steps.tick();
-        steps.tick();
-    }
-
-    // The bytes of a counter that was made and raised.
-    fn bytes_of_a_counter<L: Ledger>(blank: Blank) -> usize
-        requires name { blank.name ≡ L.name }
-        requires parts { blank.parts ≡ L.parts }
-        requires a_part { 0 < blank.parts }
-    {
-        let mut steps = Steps::<L>::open(blank);
-        tick_twice(&mut steps);
-        size_of_val(&steps)
-    }
-
-    #[test]
-    fn a_counter_takes_no_bytes(rt: HostRuntime) {
-        assert_eq!(rt; bytes_of_a_counter::<Brand>(Blank::new(1)), 0);
-        assert_eq!(rt; size_of::<Steps<Brand>>(), 0);
-    }
-}

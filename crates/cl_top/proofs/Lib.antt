@@ -1,2 +1,7 @@
-pub mod Coming
+pub mod Openings
+pub mod Comings
+pub mod Endings
+pub mod Tellings
+pub mod OneOutcome
+pub mod OfAnalyse
 pub mod SafeReport

@@ -5,18 +5,18 @@ use Rattle.cl_model.specs.declared.model.SystemModel.{SystemModel}
 use Rattle.cl_model.specs.declared.chain.ChainDef.{ChainDef}
 use Rattle.cl_model.specs.declared.group.Group.{Group}
 use Rattle.cl_model.specs.declared.stimulus.StimulusKind.{StimulusKind}
-use Rattle.cl_model.specs.declared.stimulus.StimulusKind.TheVariants.{Periodic, Sporadic}
+use Rattle.cl_model.specs.declared.stimulus.StimulusKind.TheVariants.{Periodic}
 use Rattle.cl_model.specs.Groups.{groups_of}
-use Rattle.cl_model.specs.OfTask.{task_at, stimulus_of}
-use Rattle.cl_comm.specs.AccessMoments.{runs_on_reads}
+use Rattle.cl_model.specs.ByNumber.{task_at, stimulus_of}
+use Rattle.cl_comm.specs.AccessMoments.{is_timed}
 
 abbrev pub is_periodic : StimulusKind → Bool
 is_periodic (Periodic period offset jitter) = true
-is_periodic (Sporadic least greatest) = false
+is_periodic _ = false
 
 -- whether a task is periodic and timed
 abbrev pub is_timed_periodic : SystemModel → ℕ → Bool
-is_timed_periodic model i = not (runs_on_reads (task_at model i).access) && is_periodic (stimulus_of model i)
+is_timed_periodic model i = is_timed (task_at model i).access && is_periodic (stimulus_of model i)
 
 -- whether all tasks of a chain are periodic and timed, so that it has exact lengths
 abbrev pub has_exact_lengths : SystemModel → ChainDef → Bool

@@ -1,5 +1,6 @@
 -- The headline, from the bytes of a model file to the bytes of its report (docs/headline.md).
-use Rattle.std.specs.Prelude.{◌≡◌, ℕ, List, Option, Ok}
+use Rattle.std.specs.Prelude.{◌≡◌, ℕ, ◌≤◌, List, length, Option, Ok}
+use Rattle.cl_io.specs.Shelf.{Held, MayBe}
 use Rattle.cl_io.specs.Sink.{appended}
 use Rattle.cl_model.specs.declared.model.SystemModel.{SystemModel}
 use Rattle.cl_model.specs.Reading.{model_of}
@@ -7,6 +8,7 @@ use Rattle.cl_model.specs.Validity.{IsValid}
 use Rattle.cl_analyse.specs.Findings.{findings_of}
 use Rattle.cl_analyse.specs.Headline.{AreSafeFindings}
 use Rattle.cl_report.specs.Report.{report_text}
+use Rattle.cl_top.specs.declared.opening.TheConstants.{FILE_LIMIT}
 
 -- the text is the report of the model that the bytes mean, and what it prints is safe: each bound is at least the
 -- length of every complete job chain of its chain in every legal run, of any length, and a bound is missing only where
@@ -23,3 +25,10 @@ pub record HasReported {K : Type 0} (written : K → Option (List ℕ)) (before 
   pub text : List ℕ
   pub is_safe : IsSafeReport bytes text
   pub whole : written after ≡ appended (written before) text
+
+-- such a report was written, of some bytes that may lie under the name and are within the limit of a model file
+pub record HasReportedSome {K : Type 0} (held : Held) (written : K → Option (List ℕ)) (before after : K) : Type 0 where
+  pub bytes : List ℕ
+  pub may_be : MayBe held bytes
+  pub within : length bytes ≤ FILE_LIMIT
+  pub reported : HasReported written before after bytes

@@ -1,7 +1,10 @@
 pub mod Command
 pub mod Files
-pub mod Fetch
 pub mod Form
 pub mod Outcome
+pub mod Commands
 pub mod Run
+pub mod Steps
 pub mod Headline
+pub mod Edges
+pub mod Inner

@@ -1,66 +1,69 @@
 -- The outcome of a command: its status and its text (this project's profile).
-use Rattle.std.specs.Prelude.{ℕ, List, [], ◌∷◌, ◌++◌, codes, decimal, Option, Some, None, Result, Ok, Err, if◌then◌else◌}
+use Rattle.std.specs.Prelude.{◌≡◌, ℕ, List, ◌++◌, codes, decimal, Option, Some, None, Result, Ok, Err}
 use Rattle.cl_text.specs.Line.{line}
 use Rattle.cl_model.specs.declared.model.SystemModel.{SystemModel}
 use Rattle.cl_model.specs.declared.refusal.Refusal.{Refusal}
 use Rattle.cl_model.specs.Reading.{model_of}
 use Rattle.cl_model.specs.Refusal.{refusal_text}
 use Rattle.cl_model.specs.Validity.{refusal_of}
-use Rattle.cl_analyse.specs.Findings.{findings_of}
-use Rattle.cl_report.specs.Report.{report_text}
 use Rattle.cl_top.specs.declared.outcome.Outcome.{Outcome}
-use Rattle.cl_top.specs.declared.status.TheConstants.{DONE, WORDS_REFUSED, READ_FAULT, LONG_FILE, MODEL_REFUSED, FORM_NOT_BUILT}
+use Rattle.cl_top.specs.declared.status.TheConstants.{WORDS_REFUSED, READ_FAULT, LONG_FILE, MODEL_REFUSED}
 use Rattle.cl_top.specs.declared.command.Command.{Command}
 use Rattle.cl_top.specs.declared.command.Command.TheVariants.{Analyse}
-use Rattle.cl_top.specs.Command.{command_of}
-use Rattle.cl_top.specs.Form.{is_built}
+use Rattle.cl_top.specs.Command.{File, model_file}
+use Rattle.cl_top.specs.Commands.Analyse.{IsAnalysed}
 use Rattle.cl_top.specs.Files.{Fetched, Unasked, Bytes, Fault, TooLong}
+
+-- ---- outcomes that any command may come to
 
 abbrev pub words_refused : Outcome
 words_refused = record { status = WORDS_REFUSED; text = line (codes "words refused") }
 
-abbrev pub read_fault : ℕ → Outcome
+abbrev pub read_fault : (place : ℕ) → Outcome
 read_fault place = record { status = READ_FAULT; text = line (codes "read fault " ++ decimal place) }
 
-abbrev pub long_file : ℕ → Outcome
+abbrev pub long_file : (place : ℕ) → Outcome
 long_file place = record { status = LONG_FILE; text = line (codes "long file " ++ decimal place) }
 
 abbrev pub model_refused : Refusal → Outcome
 model_refused refusal = record { status = MODEL_REFUSED; text = line (codes "model refused " ++ refusal_text refusal) }
 
-abbrev pub form_not_built : Outcome
-form_not_built = record { status = FORM_NOT_BUILT; text = line (codes "form not built") }
+-- ---- the opening of a file
 
--- what becomes of the file at a place: a fault of it is the outcome, and its bytes go on to what follows
-abbrev pub with_file : (place : ℕ) → Fetched → (List ℕ → Option Outcome) → Option Outcome
-with_file place Unasked next = None
-with_file place Fault next = Some (read_fault place)
-with_file place TooLong next = Some (long_file place)
-with_file place (Bytes bytes) next = next bytes
+-- A file is a fault of reading, or too long, or its bytes, to which the outcome of what comes next belongs. There is no
+-- outcome without a file that is needed.
+abbrev pub OpensTo : (place : ℕ) → Fetched → (next : List ℕ → Outcome → Type 0) → Outcome → Type 0
+OpensTo place Unasked next found = ⊥
+OpensTo place Fault next found = found ≡ read_fault place
+OpensTo place TooLong next found = found ≡ long_file place
+OpensTo place (Bytes bytes) next found = next bytes found
 
--- the report of a model: the text of its findings
-abbrev pub reported : SystemModel → Outcome
-reported model = record { status = DONE; text = report_text model (findings_of model) }
+abbrev pub OpensFile : File → (gave : File → Fetched) → (next : List ℕ → Outcome → Type 0) → Outcome → Type 0
+OpensFile file gave next found = OpensTo file.place (gave file) next found
 
--- what becomes of the analysis of a valid model
-abbrev pub accepted : SystemModel → Outcome
-accepted model = if is_built model then reported model else form_not_built
+-- ---- the opening of a model
 
--- what becomes of the analysis of a model whose first refusal is this
-abbrev pub validated : SystemModel → Option Refusal → Outcome
-validated model None = accepted model
-validated model (Some refusal) = model_refused refusal
+-- A model is refused by its first refusal, or is valid, and then the outcome is that of what comes next.
+abbrev pub ValidatesTo : SystemModel → Option Refusal → (next : SystemModel → Outcome → Type 0) → Outcome → Type 0
+ValidatesTo model None next found = next model found
+ValidatesTo model (Some refusal) next found = found ≡ model_refused refusal
 
--- what becomes of an analysis whose file was read so
-abbrev pub analysed : Result SystemModel Refusal → Outcome
-analysed (Ok model) = validated model (refusal_of model)
-analysed (Err refusal) = model_refused refusal
+-- Bytes are refused by the reading, or are a model.
+abbrev pub ReadsTo : Result SystemModel Refusal → (next : SystemModel → Outcome → Type 0) → Outcome → Type 0
+ReadsTo (Ok model) next found = ValidatesTo model (refusal_of model) next found
+ReadsTo (Err refusal) next found = found ≡ model_refused refusal
 
--- what becomes of a command whose files gave this; there is no outcome without a file that it needs
-abbrev pub outcome_of : Option Command → (ℕ → Fetched) → Option Outcome
-outcome_of None gave = Some words_refused
-outcome_of (Some Analyse) gave = with_file 1 (gave 1) (λ bytes. Some (analysed (model_of bytes)))
+abbrev pub OpensModel : File → (gave : File → Fetched) → (next : SystemModel → Outcome → Type 0) → Outcome → Type 0
+OpensModel file gave next found = OpensFile file gave (λ bytes. ReadsTo (model_of bytes) next) found
 
--- the outcome of a command's words, where the file at each place gave this
-abbrev pub outcome : List (List ℕ) → (gave : ℕ → Fetched) → Option Outcome
-outcome words gave = outcome_of (command_of words) gave
+-- ---- the outcome of each command
+
+-- Words that are this command have this outcome, where each file gave this.
+abbrev pub HasOutcome : Option Command → (gave : File → Fetched) → Outcome → Type 0
+HasOutcome None gave found = found ≡ words_refused
+HasOutcome (Some Analyse) gave found = OpensModel (model_file 1) gave IsAnalysed found
+
+-- Two outcomes of the words say the same: they are equal.
+abbrev pub SaysTheSame : Option Command → (one other : Outcome) → Type 0
+SaysTheSame None one other = one ≡ other
+SaysTheSame (Some Analyse) one other = one ≡ other

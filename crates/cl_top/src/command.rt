@@ -1,5 +1,5 @@
-ghost use Rattle.std.specs.Prelude.{◌≡◌};
-ghost use Rattle.cl_top.specs.Command.{command_of};
+ghost use Rattle.std.specs.Prelude.{◌≡◌, drop};
+ghost use Rattle.cl_top.specs.Command.{analyse_of, command_of};
 
 use cl_io::Words;
 
@@ -15,7 +15,18 @@ pub(crate) fn read_command(words: &Words) -> Option<Command>
     ensures { result ≡ command_of words.now }
 {
     match words.at(0)? {
-        "analyse" if words.len() == 2 => Some(Command::Analyse),
+        "analyse" => read_analyse(words),
         _ => None,
+    }
+}
+
+/// What the words after `analyse` make of it.
+fn read_analyse(words: &Words) -> Option<Command>
+    ensures { result ≡ analyse_of (drop 1 words.now) }
+{
+    if words.len() == 2 {
+        Some(Command::Analyse)
+    } else {
+        None
     }
 }

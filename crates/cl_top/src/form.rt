@@ -1,7 +1,7 @@
 //! Which models are analysed so far.
 ghost use Rattle.std.specs.Prelude.{◌≡◌, ◌<◌, length, slice_index_or};
 ghost use Rattle.std.specs.List.{list_any};
-ghost use Rattle.cl_model.specs.Groups.{no_chain};
+ghost use Rattle.cl_model.specs.ByNumber.{chain_at};
 ghost use Rattle.cl_top.specs.Form.{is_timed_periodic, has_exact_lengths, is_built};
 
 use cl_model::{AccessKind, StimulusKind, ValidModel};
@@ -29,7 +29,7 @@ fn has_exact_chain(model: &ValidModel) -> bool
 /// Whether all tasks of a chain are periodic and timed.
 fn has_exact_lengths(model: &ValidModel, chain: u32) -> bool
     requires { chain < length model.now.chains }
-    ensures { result ≡ has_exact_lengths model.now (slice_index_or model.now.chains chain no_chain) }
+    ensures { result ≡ has_exact_lengths model.now (chain_at model.now chain) }
 {
     for place in 0..model.group_count(chain) {
         if !is_timed_periodic(model, model.group(chain, place).task) {

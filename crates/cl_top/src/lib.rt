@@ -1,21 +1,23 @@
-//! The top call: a command's words, its files and its output, as one function over any shelf and any sink.
+//! The top call: a command's words, its files and its output, as one function over any shelf and any sink; and its start
+//! on a real machine.
 #![tactic(auto)]
 
 mod command;
-mod fetching;
+mod commands;
 mod file_shelf;
 mod form;
+pub mod laws;
+mod opening;
 mod out_sink;
 mod outcome;
 mod running;
+mod starting;
 pub mod status;
 
 pub use command::Command;
-pub use fetching::FILE_LIMIT;
 pub use file_shelf::FileShelf;
+pub use opening::FILE_LIMIT;
 pub use out_sink::OutSink;
 pub use outcome::Outcome;
 pub use running::run;
-
-#[cfg(test)]
-mod tests;
+pub use starting::start;

@@ -1,4 +1,5 @@
 ghost use Rattle.std.specs.Prelude.{◌≡◌, ◌≤◌, length, None, IfOk};
+ghost use Rattle.cl_top.specs.Edges.{TakesAsAnswered};
 
 use cl_io::{Sink, SinkFault};
 use std::io;
@@ -26,14 +27,22 @@ impl<P: Print> Sink for OutSink<'_, P> {
     ghost faults = { λ s. s.faults };
 
     fn write(&mut self, piece: &[u8]) -> Result<usize, SinkFault> {
-        match write_through(self.out, piece) {
-            Ok(taken) if taken > 0 || piece.is_empty() => Ok(taken),
-            // An output that takes nothing of a piece has failed as well.
-            _ => {
-                self.faults = self.faults.saturating_add(1);
-                Err(SinkFault::Failed)
-            }
+        let answer = taken_of(write_through(self.out, piece), piece.len());
+        if answer.is_err() {
+            self.faults = self.faults.saturating_add(1);
         }
+        answer
+    }
+}
+
+/// What a write of a piece of so many bytes answers, by what the output answered.
+fn taken_of(answer: io::Result<usize>, len: usize) -> Result<usize, SinkFault>
+    ensures { TakesAsAnswered answer len result }
+{
+    match answer {
+        Ok(taken) if taken > 0 || len == 0 => Ok(taken),
+        // An output that takes nothing of a piece has failed as well.
+        _ => Err(SinkFault::Failed),
     }
 }
 

@@ -1,6 +1,7 @@
 ghost use Rattle.std.specs.Prelude.{◌≡◌, ◌∷◌, [], ◌++◌, decimal, IfOk};
 ghost use Rattle.cl_text.specs.Line.{line};
-ghost use Rattle.cl_top.specs.Outcome.{words_refused, read_fault, long_file, model_refused, form_not_built};
+ghost use Rattle.cl_top.specs.Commands.Analyse.{form_not_built};
+ghost use Rattle.cl_top.specs.Outcome.{words_refused, read_fault, long_file, model_refused};
 
 use crate::status;
 use cl_model::Refusal;

@@ -1,28 +1,22 @@
-ghost use Rattle.std.specs.Prelude.{◌≡◌, ◌⊎◌, ℕ, List, None, Some, IfOk};
+ghost use Rattle.std.specs.Prelude.{◌≡◌, ◌≢◌, ◌⊎◌, ℕ, ◌+◌, ◌≤◌, List, None, Some, IfOk};
 ghost use Rattle.cl_io.specs.Counts.{Rose};
+ghost use Rattle.cl_io.specs.Names.{SameAtEach};
 ghost use Rattle.cl_io.specs.Shelf.{Content};
-ghost use Rattle.cl_model.specs.Ranges.{IsInRange};
-ghost use Rattle.cl_model.specs.Reading.{model_of};
-ghost use Rattle.cl_model.specs.Validity.{refusal_of};
-ghost use Rattle.cl_top.specs.declared.status.TheConstants.{DONE, WORDS_REFUSED, READ_FAULT, LONG_FILE, WRITE_FAULT, NO_MEMORY};
-ghost use Rattle.cl_top.specs.Command.{command_of};
-ghost use Rattle.cl_top.specs.Files.{word, SomeRose, NoneRose, SomeTooLong};
-ghost use Rattle.cl_top.specs.Fetch.{given};
-ghost use Rattle.cl_top.specs.Headline.{HasReported};
-ghost use Rattle.cl_top.specs.Outcome.{analysed, validated, accepted, outcome_of};
-ghost use Rattle.cl_top.specs.Run.{ComesTo, IsWhole, IsCut, Ends, KeepsToTold};
+ghost use Rattle.cl_top.specs.declared.status.TheConstants.{DONE, WORDS_REFUSED, READ_FAULT, LONG_FILE, WRITE_FAULT, NO_MEMORY, ARGUMENT_NOT_TEXT};
+ghost use Rattle.cl_top.specs.Command.{command_of, word};
+ghost use Rattle.cl_top.specs.Files.{FileRose, FileTooLong, StaysBeside, NoneRose, TellsFiles};
+ghost use Rattle.cl_top.specs.Headline.{HasReported, HasReportedSome};
+ghost use Rattle.cl_top.specs.Inner.Leaving.{LeavesRest};
+ghost use Rattle.cl_top.specs.Outcome.{read_fault, long_file};
+ghost use Rattle.cl_top.specs.Run.{ComesTo, ComesToTold, IsWhole, IsCut, Ends, KeepsToTold, WritesOfFile};
+ghost use Rattle.cl_top.specs.Steps.{step_limit};
 
 use crate::command::{Command, read_command};
-use crate::fetching::{FileFetch, fetch_file};
-use crate::form::is_built;
+use crate::commands::analyse::analysed;
+use crate::opening::{Opened, open_model};
 use crate::{Outcome, status};
-use cl_analyse::analyse;
 use cl_io::{Shelf, Sink, Words, WriteFault, write_all};
-use cl_model::{SystemModel, ValidModel};
-use cl_read::{ReadFault, read_model};
-use cl_report::report;
 use cl_time::{NoMemory, Steps};
-use cl_valid::{ValidFault, validate};
 use std::alloc::Global;
 use std::sync::ledger::Ledger;
 
@@ -32,7 +26,8 @@ use std::sync::ledger::Ledger;
 /// Where the shelf tells the files and the sink what was written, and no count of faults rose, the status and the text
 /// are the outcome of the words and of the files' bytes, or memory ran out. All memory is taken before the first write,
 /// so at `NO_MEMORY` the sink wasn't called; at `WRITE_FAULT` it took a proper prefix of the text and nothing after
-/// that. A text that is empty needs no call of the sink.
+/// that. A text that is empty needs no call of the sink. The shelf's numbers of names that are no file words stay as they
+/// were, and where the words are no command the shelf isn't called.
 pub fn run<S: Shelf, K: Sink, L: Ledger>(
     alloc: Global,
     words: &Words,
@@ -41,22 +36,45 @@ pub fn run<S: Shelf, K: Sink, L: Ledger>(
     steps: &mut Steps<L>,
 ) -> u8
     ensures ends { Ends (ComesTo words.now (S.held shelf.old) (S.faults shelf.old) (S.faults shelf.new) (S.longest shelf.new))
-        K.written (Rose (K.faults sink.old) (K.faults sink.new)) sink.old sink.new result }
+        K.written K.faults sink.old sink.new result }
+
+    // What stays as it was: what the shelf holds, the numbers of other names, the whole shelf where the words are
+    // refused, and the sink's count of faults at every status but that of a write fault.
+    ensures held { SameAtEach (S.held shelf.old) (S.held shelf.new) }
+    ensures other_faults { StaysBeside words.now (S.faults shelf.old) (S.faults shelf.new) }
+    ensures other_longest { StaysBeside words.now (S.longest shelf.old) (S.longest shelf.new) }
+    ensures unasked { command_of words.now ≡ None → shelf.new ≡ shelf.old }
+    ensures unfailed { result ≢ WRITE_FAULT → K.faults sink.new ≡ K.faults sink.old }
+
+    // At most so many steps as the told files ask for, whatever is answered.
+    ensures few_steps { (contents : ℕ → List ℕ) → TellsFiles (command_of words.now) words.now (S.held shelf.old) contents
+        → steps.new ≤ steps.old + step_limit (command_of words.now) contents }
 
     // When each status comes. Where its text couldn't be written whole, a write fault comes in its place.
     ensures words_refused { result ≡ WORDS_REFUSED → command_of words.now ≡ None }
     ensures no_command { command_of words.now ≡ None → (result ≡ WORDS_REFUSED) ⊎ ((result ≡ WRITE_FAULT) ⊎ (result ≡ NO_MEMORY)) }
-    ensures read_fault { result ≡ READ_FAULT → SomeRose words.now (S.faults shelf.old) (S.faults shelf.new) }
-    ensures long_file { result ≡ LONG_FILE → SomeTooLong words.now (S.held shelf.old) (S.faults shelf.old) (S.faults shelf.new) (S.longest shelf.new) }
+    ensures read_fault { result ≡ READ_FAULT → WritesOfFile (command_of words.now) (FileRose words.now (S.faults shelf.old) (S.faults shelf.new))
+        read_fault K.written K.faults sink.old sink.new result }
+    ensures long_file { result ≡ LONG_FILE
+        → WritesOfFile (command_of words.now) (FileTooLong words.now (S.held shelf.old) (S.faults shelf.old) (S.faults shelf.new) (S.longest shelf.new))
+        long_file K.written K.faults sink.old sink.new result }
     ensures write_fault { result ≡ WRITE_FAULT → Rose (K.faults sink.old) (K.faults sink.new) }
     ensures out_of_memory { result ≡ NO_MEMORY → sink.new ≡ sink.old }
+    ensures other_status { result ≢ ARGUMENT_NOT_TEXT }
 
-    // From the bytes to the bytes, where the shelf tells them and nothing failed.
+    // From the bytes to the bytes, where the shelf tells them: the outcome of the told bytes, or a fault that a count
+    // shows; and that outcome alone, where no count rose.
+    ensures told_files { (contents : ℕ → List ℕ) → TellsFiles (command_of words.now) words.now (S.held shelf.old) contents
+        → Ends (ComesToTold (command_of words.now) words.now (S.faults shelf.old) (S.faults shelf.new) contents)
+        K.written K.faults sink.old sink.new result }
     ensures told { NoneRose words.now (S.faults shelf.old) (S.faults shelf.new) → ¬ Rose (K.faults sink.old) (K.faults sink.new)
-        → KeepsToTold words.now (S.held shelf.old) K.written sink.old sink.new result }
+        → KeepsToTold words.now (S.held shelf.old) K.written K.faults sink.old sink.new result }
 
-    // The headline, over the bytes that the shelf tells: what is written is the report of the model that they mean, whose
-    // bounds are at least the lengths of all complete job chains in all legal runs.
+    // The headline: what `analyse` has written at status 0 is the report of the model that some bytes mean which may lie
+    // under its file's name, and so of the very bytes that the shelf tells; its bounds are at least the lengths of all
+    // complete job chains in all legal runs.
+    ensures reported { result ≡ DONE → command_of words.now ≡ Some Command.Analyse
+        → HasReportedSome (S.held shelf.old (word words.now 1)) K.written sink.old sink.new }
     ensures headline { result ≡ DONE → command_of words.now ≡ Some Command.Analyse → (bytes : List ℕ)
         → S.held shelf.old (word words.now 1) ≡ Content bytes → HasReported K.written sink.old sink.new bytes }
 {
@@ -73,8 +91,11 @@ fn find_outcome<S: Shelf, L: Ledger>(
     shelf: &mut S,
     steps: &mut Steps<L>,
 ) -> Result<Outcome, NoMemory>
-    ensures { IfOk result (λ found.
-        ComesTo words.now (S.held shelf.old) (S.faults shelf.old) (S.faults shelf.new) (S.longest shelf.new) found) }
+    ensures comes { IfOk result
+        (ComesTo words.now (S.held shelf.old) (S.faults shelf.old) (S.faults shelf.new) (S.longest shelf.new)) }
+    ensures leaves { LeavesRest words.now (S.held shelf.old) (S.held shelf.new) (S.faults shelf.old) (S.faults shelf.new)
+        (S.longest shelf.old) (S.longest shelf.new) steps.old steps.new }
+    ensures unasked { command_of words.now ≡ None → shelf.new ≡ shelf.old }
 {
     match read_command(words) {
         None => Outcome::words_refused(alloc),
@@ -90,82 +111,21 @@ fn analyse_file<S: Shelf, L: Ledger>(
     steps: &mut Steps<L>,
 ) -> Result<Outcome, NoMemory>
     requires { command_of words.now ≡ Some Command.Analyse }
-    ensures { IfOk result (λ found.
-        ComesTo words.now (S.held shelf.old) (S.faults shelf.old) (S.faults shelf.new) (S.longest shelf.new) found) }
+    ensures comes { IfOk result
+        (ComesTo words.now (S.held shelf.old) (S.faults shelf.old) (S.faults shelf.new) (S.longest shelf.new)) }
+    ensures leaves { LeavesRest words.now (S.held shelf.old) (S.held shelf.new) (S.faults shelf.old) (S.faults shelf.new)
+        (S.longest shelf.old) (S.longest shelf.new) steps.old steps.new }
 {
-    let fetch = fetch_file(alloc, words, 1, shelf)?;
-    analysed(alloc, &fetch, steps)
-}
-
-/// The outcome of `analyse MODEL`, where the fetch of the model's file gave this.
-fn analysed<L: Ledger>(
-    alloc: Global,
-    fetch: &FileFetch,
-    steps: &mut Steps<L>,
-) -> Result<Outcome, NoMemory>
-    ensures { IfOk result (λ found. outcome_of (Some Command.Analyse) (λ _. given fetch.now) ≡ Some found) }
-{
-    match fetch {
-        FileFetch::Bytes(bytes) => analysed_bytes(alloc, bytes.as_slice(), steps),
-        FileFetch::Fault => Outcome::read_fault(alloc, 1),
-        FileFetch::TooLong => Outcome::long_file(alloc, 1),
+    match open_model(alloc, words, 1, shelf)? {
+        Opened::Valid(model) => analysed(alloc, &model, steps),
+        Opened::Stopped(outcome) => Ok(outcome),
     }
-}
-
-/// The outcome of the analysis of a file of these bytes.
-fn analysed_bytes<L: Ledger>(
-    alloc: Global,
-    bytes: &[u8],
-    steps: &mut Steps<L>,
-) -> Result<Outcome, NoMemory>
-    ensures { IfOk result (λ found. found ≡ analysed (model_of bytes.now)) }
-{
-    match read_model(alloc, bytes) {
-        Ok(model) => analysed_model(alloc, model, steps),
-        Err(ReadFault::Refused(refusal)) => Outcome::model_refused(alloc, refusal),
-        Err(ReadFault::NoMemory) => Err(NoMemory),
-    }
-}
-
-/// The outcome of the analysis of a model that was read.
-fn analysed_model<L: Ledger>(
-    alloc: Global,
-    model: SystemModel,
-    steps: &mut Steps<L>,
-) -> Result<Outcome, NoMemory>
-    requires { IsInRange model }
-    ensures { IfOk result (λ found. found ≡ validated model (refusal_of model)) }
-{
-    match validate(alloc, model) {
-        Ok(model) => accepted_model(alloc, &model, steps),
-        Err((_, ValidFault::Refused(refusal))) => Outcome::model_refused(alloc, refusal),
-        Err((_, ValidFault::NoMemory)) => Err(NoMemory),
-    }
-}
-
-/// The outcome of the analysis of a valid model.
-fn accepted_model<L: Ledger>(
-    alloc: Global,
-    model: &ValidModel,
-    steps: &mut Steps<L>,
-) -> Result<Outcome, NoMemory>
-    ensures { IfOk result (λ found. found ≡ accepted model.now) }
-{
-    if !is_built(model) {
-        return Outcome::form_not_built(alloc);
-    }
-    let findings = analyse(alloc, model, steps)?;
-    let text = report(alloc, model, &findings)?;
-    Ok(Outcome {
-        status: status::DONE,
-        text,
-    })
 }
 
 /// Writes the outcome's text, and answers its status, or that of a write fault.
 fn carry_out<K: Sink>(sink: &mut K, outcome: &Outcome) -> u8
-    ensures { IsWhole K.written sink.old sink.new outcome.now result
-        ⊎ IsCut K.written (Rose (K.faults sink.old) (K.faults sink.new)) sink.old sink.new outcome.now result }
+    ensures { IsWhole K.written K.faults sink.old sink.new outcome.now result
+        ⊎ IsCut K.written K.faults sink.old sink.new outcome.now result }
 {
     match write_all(sink, outcome.text.as_slice()) {
         Ok(()) => outcome.status,

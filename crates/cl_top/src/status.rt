@@ -23,3 +23,6 @@ pub const NO_MEMORY: u8 = 10;
 
 /// The analysis of such a model isn't built yet.
 pub const FORM_NOT_BUILT: u8 = 11;
+
+/// An argument of the program isn't text, so there are no words to run. `run` never answers it.
+pub const ARGUMENT_NOT_TEXT: u8 = 12;

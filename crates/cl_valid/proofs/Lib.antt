@@ -1,6 +1,5 @@
-pub mod Looping
-pub mod Growing
-pub mod Written
-pub mod Same
-pub mod Sharing
-pub mod Hops
+pub mod AddedNames
+pub mod NamesByPlace
+pub mod TasksByShare
+pub mod UsesByTask
+pub mod ChainsByTable

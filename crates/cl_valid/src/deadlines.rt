@@ -1,18 +1,19 @@
 //! The check of deadlines against the tasks of higher priority.
 ghost use Rattle.std.specs.Prelude.{◌≡◌, [], map, slice_get, Some};
 ghost use Rattle.std.specs.List.{list_any};
+ghost use Rattle.cl_model.specs.Answers.{Answers};
 ghost use Rattle.cl_model.specs.Named.{core_names};
 ghost use Rattle.cl_model.specs.Ranges.{IsInRange};
 ghost use Rattle.cl_model.specs.ValidTasks.{spans_too_many, task_checks, deadline_check, deadline_checks};
-ghost use Rattle.cl_valid.specs.Answers.{Answers};
-ghost use Rattle.cl_valid.specs.Kept.{AreNames, shares_on, outpaces};
+ghost use Rattle.cl_valid.specs.Inner.TasksByShare.{outpaces};
+ghost use Rattle.cl_valid.specs.Inner.Tables.{names_of, shares_by_core};
 
-use crate::fault::{ValidFault, when};
-use crate::groups::{Groups, Share};
 use crate::names::Names;
 use crate::places::entry_of;
+use crate::shares::{Share, SharesByCore};
 use cl_model::{
-    Code, Key, MOST_DISTANCES, Part, Place, StimulusKind, SystemModel, TaskDef, kind_named,
+    Code, Key, MOST_DISTANCES, ModelFault, Part, Place, StimulusKind, SystemModel, TaskDef,
+    kind_named, refuse_when,
 };
 
 fn spans_too_many(deadline: u64, above: StimulusKind) -> bool
@@ -43,16 +44,16 @@ fn is_outpaced(task: &TaskDef, deadline: u64, others: &[Share]) -> bool
 fn check_deadline(
     model: &SystemModel,
     names: &Names,
-    groups: &Groups,
+    shares: &SharesByCore,
     i: usize,
     task: &TaskDef,
-) -> Result<(), ValidFault>
+) -> Result<(), ModelFault>
     requires in_range { IsInRange model.now }
     requires task { slice_get model.now.tasks i ≡ Some task.now }
     requires passed { task_checks model.now ≡ [] }
-    requires names { AreNames model.now names.now }
-    requires groups { groups.now ≡ map (shares_on model.now model.now.tasks) (core_names model.now) }
-    ensures { Answers result (deadline_check model.now i task.now) }
+    requires names { names.now ≡ names_of model.now }
+    requires shares { shares.now ≡ shares_by_core model.now model.now.tasks }
+    ensures { Answers result (deadline_check model.now i task.now) tt }
 {
     let Some(core) = names.cores.number_of(&task.core) else {
         unreachable!();
@@ -60,8 +61,8 @@ fn check_deadline(
     let Some(kind) = kind_named(model, &names.stimuli, &task.stimulus) else {
         unreachable!();
     };
-    let is_late = is_outpaced(task, task.deadline_under(kind), groups.on(core));
-    when(
+    let is_late = is_outpaced(task, task.deadline_under(kind), shares.on(core));
+    refuse_when(
         is_late,
         Code::M42,
         entry_of(Part::Task, i).at_key(Key::Deadline),
@@ -69,20 +70,21 @@ fn check_deadline(
 }
 
 /// Checks M42 for each task.
+#[tactic(auto, using(cl_model::proofs::FirstRefusals::loop_faults))]
 pub fn check_deadlines(
     model: &SystemModel,
     names: &Names,
-    groups: &Groups,
-) -> Result<(), ValidFault>
+    shares: &SharesByCore,
+) -> Result<(), ModelFault>
     requires in_range { IsInRange model.now }
     requires passed { task_checks model.now ≡ [] }
-    requires names { AreNames model.now names.now }
-    requires groups { groups.now ≡ map (shares_on model.now model.now.tasks) (core_names model.now) }
-    ensures { Answers result (deadline_checks model.now) }
+    requires names { names.now ≡ names_of model.now }
+    requires shares { shares.now ≡ shares_by_core model.now model.now.tasks }
+    ensures { Answers result (deadline_checks model.now) tt }
 {
     let tasks = model.tasks.as_slice();
     for (i, task) in tasks.iter().enumerate() {
-        check_deadline(model, names, groups, i, task)?;
+        check_deadline(model, names, shares, i, task)?;
     }
     Ok(())
 }

@@ -1,21 +1,21 @@
 //! Whether a model is in range and valid, and the first refusal of one that isn't valid.
 #![tactic(auto)]
 
+use cl_model::ModelFault;
+
 mod chains;
 mod deadlines;
-mod fault;
-mod groups;
-mod labels;
 mod names;
 mod places;
 mod ranges;
+mod runnables;
+mod shares;
 mod stimuli;
 mod tasks;
 mod validation;
 
-pub use fault::ValidFault;
 pub use ranges::in_range;
 pub use validation::validate;
 
-#[cfg(test)]
-mod tests;
+/// Why a model isn't taken: its first refusal, or want of memory.
+pub type ValidFault = ModelFault;

@@ -1,19 +1,21 @@
 //! The names of a model, numbered.
-ghost use Rattle.std.specs.Prelude.{◌≡◌, ◌<◌, ◌^◌, ◌++◌, All, map, length, IfOk, OnOk};
+ghost use Rattle.std.specs.Prelude.{◌≡◌, ◌<◌, ◌^◌, ◌++◌, [], All, map, length, IfOk, OnOk};
 ghost use Rattle.cl_model.specs.declared.place.Part.TheVariants as parts;
 ghost use Rattle.cl_model.specs.declared.place.Key.TheVariants as keys;
 ghost use Rattle.cl_model.specs.declared.refusal.Code.TheVariants as codes;
+ghost use Rattle.cl_model.specs.Answers.{Answers};
 ghost use Rattle.cl_model.specs.Place.{entry_of, at_key, at_sub};
 ghost use Rattle.cl_model.specs.Named.{runnable_names, all_runnables};
 ghost use Rattle.cl_model.specs.Ranges.{IsInRange, IsTaskInRange};
 ghost use Rattle.cl_model.specs.Refusals.{each};
 ghost use Rattle.cl_model.specs.ValidNames.{repeats, section_repeats, runnable_repeats, name_checks};
-ghost use Rattle.cl_valid.specs.Answers.{Answers};
-ghost use Rattle.cl_valid.specs.Kept.{AreNames};
+ghost use Rattle.cl_valid.specs.Inner.Tables.{no_names, names_of};
 
-use crate::fault::{ValidFault, add_new};
 use crate::places::{at_sub, entry_of};
-use cl_model::{Code, Key, NameSet, Named, Part, Place, RunnableDef, SystemModel, TaskDef};
+use cl_model::{
+    Code, Key, List, ModelFault, NameSet, Named, Part, Place, RunnableDef, SystemModel, TaskDef,
+    add_new,
+};
 use std::alloc::Global;
 
 /// The names of a model that later checks look up, numbered in order.
@@ -26,28 +28,56 @@ pub struct Names {
     pub chains: NameSet,
 }
 
-fn section_names<T: Named>(
-    alloc: Global,
+fn add_entries<T: Named>(
+    names: &mut NameSet,
     code: Code,
     section: Part,
     entries: &[T],
-) -> Result<NameSet, ValidFault>
+) -> Result<(), ModelFault>
     requires { length entries.now < 2 ^ 32 }
-    ensures checked { Answers result (section_repeats code section (map T.name_of entries.now)) }
-    ensures names { IfOk result (λ names. names ≡ map T.name_of entries.now) }
+    ensures checked { Answers result (repeats code (λ i. at_key keys.Name (entry_of section i)) names.old (map T.name_of entries.now)) tt }
+    ensures names { OnOk result (names.new ≡ names.old ++ map T.name_of entries.now) }
 {
-    let mut names = NameSet::new(alloc);
     for (i, entry) in entries.iter().enumerate() {
         let place = entry_of(section, i).at_key(Key::Name);
-        add_new(&mut names, entry.name(), code, place)?;
+        add_new(names, entry.name(), code, place)?;
     }
-    Ok(names)
+    Ok(())
 }
 
-fn add_runnables(names: &mut NameSet, i: usize, runnables: &[RunnableDef]) -> Result<(), ValidFault>
+/// Adds the names of a section, each of which stands there once.
+fn add_section<T: Named>(
+    names: &mut NameSet,
+    code: Code,
+    section: Part,
+    entries: &List<T>,
+) -> Result<(), ModelFault>
+    requires count { length entries.now < 2 ^ 32 }
+    requires empty { names.old ≡ [] }
+    ensures checked { Answers result (section_repeats code section (map T.name_of entries.now)) tt }
+    ensures names { OnOk result (names.new ≡ map T.name_of entries.now) }
+{
+    add_entries(names, code, section, entries.as_slice())
+}
+
+/// Checks that each name of a section stands there once.
+fn check_section<T: Named>(
+    alloc: Global,
+    code: Code,
+    section: Part,
+    entries: &List<T>,
+) -> Result<(), ModelFault>
+    requires { length entries.now < 2 ^ 32 }
+    ensures { Answers result (section_repeats code section (map T.name_of entries.now)) tt }
+{
+    let mut names = NameSet::new(alloc);
+    add_section(&mut names, code, section, entries)
+}
+
+fn add_runnables(names: &mut NameSet, i: usize, runnables: &[RunnableDef]) -> Result<(), ModelFault>
     requires item { i < 2 ^ 32 }
     requires count { length runnables.now < 2 ^ 32 }
-    ensures checked { Answers result (repeats codes.M24 (λ p. at_key keys.Name (at_sub p (entry_of parts.Task i))) names.old (runnable_names runnables.now)) }
+    ensures checked { Answers result (repeats codes.M24 (λ p. at_key keys.Name (at_sub p (entry_of parts.Task i))) names.old (runnable_names runnables.now)) tt }
     ensures names { OnOk result (names.new ≡ names.old ++ runnable_names runnables.now) }
 {
     for (p, runnable) in runnables.iter().enumerate() {
@@ -57,42 +87,55 @@ fn add_runnables(names: &mut NameSet, i: usize, runnables: &[RunnableDef]) -> Re
     Ok(())
 }
 
-fn names_of_runnables(alloc: Global, tasks: &[TaskDef]) -> Result<NameSet, ValidFault>
+/// Adds the names of the runnables of all tasks, each of which stands there once.
+fn add_all_runnables(names: &mut NameSet, tasks: &[TaskDef]) -> Result<(), ModelFault>
     requires tasks { length tasks.now < 2 ^ 32 }
     requires runnables { All IsTaskInRange tasks.now }
-    ensures checked { Answers result (each (runnable_repeats tasks.now) tasks.now) }
-    ensures names { IfOk result (λ names. names ≡ runnable_names (all_runnables tasks.now)) }
+    requires empty { names.old ≡ [] }
+    ensures checked { Answers result (each (runnable_repeats tasks.now) tasks.now) tt }
+    ensures names { OnOk result (names.new ≡ runnable_names (all_runnables tasks.now)) }
 {
-    let mut names = NameSet::new(alloc);
     for (i, task) in tasks.iter().enumerate() {
-        add_runnables(&mut names, i, task.runnables.as_slice())?;
+        add_runnables(names, i, task.runnables.as_slice())?;
     }
-    Ok(names)
+    Ok(())
 }
 
-/// Checks M20 to M26.
-pub fn names_of(alloc: Global, model: &SystemModel) -> Result<Names, ValidFault>
-    requires { IsInRange model.now }
-    ensures checked { Answers result (name_checks model.now) }
-    ensures names { IfOk result (AreNames model.now) }
+/// Adds all names, and checks M20 to M26. An early exit lets go of no names here.
+#[tactic(auto, using(cl_model::proofs::FirstRefusals::faults), unfolding(cl_model::specs::ValidNames::name_checks))]
+fn add_all(alloc: Global, names: &mut Names, model: &SystemModel) -> Result<(), ModelFault>
+    requires in_range { IsInRange model.now }
+    requires empty { names.old ≡ no_names }
+    ensures checked { Answers result (name_checks model.now) tt }
+    ensures names { OnOk result (names.new ≡ names_of model.now) }
 {
-    let cores = section_names(alloc, Code::M20, Part::Core, model.cores.as_slice())?;
-    let stimuli = section_names(alloc, Code::M21, Part::Stimulus, model.stimuli.as_slice())?;
-    let labels = section_names(alloc, Code::M22, Part::Label, model.labels.as_slice())?;
-    let _tasks = section_names(alloc, Code::M23, Part::Task, model.tasks.as_slice())?;
-    let runnables = names_of_runnables(alloc, model.tasks.as_slice())?;
-    let chains = section_names(alloc, Code::M25, Part::Chain, model.chains.as_slice())?;
-    let _requirements = section_names(
-        alloc,
-        Code::M26,
-        Part::Requirement,
-        model.requirements.as_slice(),
+    add_section(&mut names.cores, Code::M20, Part::Core, &model.cores)?;
+    add_section(
+        &mut names.stimuli,
+        Code::M21,
+        Part::Stimulus,
+        &model.stimuli,
     )?;
-    Ok(Names {
-        cores,
-        stimuli,
-        labels,
-        runnables,
-        chains,
-    })
+    add_section(&mut names.labels, Code::M22, Part::Label, &model.labels)?;
+    check_section(alloc, Code::M23, Part::Task, &model.tasks)?;
+    add_all_runnables(&mut names.runnables, model.tasks.as_slice())?;
+    add_section(&mut names.chains, Code::M25, Part::Chain, &model.chains)?;
+    check_section(alloc, Code::M26, Part::Requirement, &model.requirements)?;
+    Ok(())
+}
+
+/// Checks M20 to M26: the names of a model, numbered.
+pub fn names_of(alloc: Global, model: &SystemModel) -> Result<Names, ModelFault>
+    requires { IsInRange model.now }
+    ensures { Answers result (name_checks model.now) (names_of model.now) }
+{
+    let mut names = Names {
+        cores: NameSet::new(alloc),
+        stimuli: NameSet::new(alloc),
+        labels: NameSet::new(alloc),
+        runnables: NameSet::new(alloc),
+        chains: NameSet::new(alloc),
+    };
+    add_all(alloc, &mut names, model)?;
+    Ok(names)
 }

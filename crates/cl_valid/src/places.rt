@@ -9,7 +9,7 @@ pub(crate) fn entry_of(section: Part, item: usize) -> Place
     requires { item < 2 ^ 32 }
     ensures { result ≡ place.entry_of section item }
 {
-    section.whole().at_item(item as u32)
+    section.section_place().at_item(item as u32)
 }
 
 /// A runnable of the task that stands at a place.

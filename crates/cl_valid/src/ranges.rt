@@ -1,17 +1,24 @@
 //! Whether all counts and numbers of a model are in range.
 ghost use Rattle.std.specs.Prelude.{◌≤◌, ◌↔◌, IsTrue, All, IfSome, length};
-ghost use Rattle.cl_model.specs.Ranges.{IsTime, IsKindInRange, IsRunnableInRange, IsTaskInRange, IsChainInRange, IsCountInRange, IsInRange};
+ghost use Rattle.cl_model.specs.Ranges.{IsTime, IsBurstCount, IsKindInRange, IsRunnableInRange, IsTaskInRange, IsChainInRange, IsCountInRange, IsInRange};
 
 use cl_model::{
-    ChainDef, MOST_ACCESSES, MOST_CHAINS, MOST_CORES, MOST_HOPS, MOST_LABELS, MOST_PRIORITY,
-    MOST_REQUIRED, MOST_REQUIREMENTS, MOST_RUNNABLES, MOST_STEPS, MOST_STIMULI, MOST_TASKS,
-    MOST_TICKS, RequirementDef, RunnableDef, StimulusDef, StimulusKind, SystemModel, TaskDef,
+    ChainDef, LEAST_JOBS_OF_BURST, MOST_ACCESSES, MOST_CHAINS, MOST_CORES, MOST_HOPS,
+    MOST_JOBS_OF_BURST, MOST_LABELS, MOST_PRIORITY, MOST_REQUIRED, MOST_REQUIREMENTS,
+    MOST_RUNNABLES, MOST_STEPS, MOST_STIMULI, MOST_TASKS, MOST_TICKS, RequirementDef, RunnableDef,
+    StimulusDef, StimulusKind, SystemModel, TaskDef,
 };
 
 fn is_time(ticks: u64) -> bool
     ensures { IsTrue result ↔ IsTime ticks }
 {
     1 <= ticks && ticks <= MOST_TICKS
+}
+
+fn is_burst_count(count: u64) -> bool
+    ensures { IsTrue result ↔ IsBurstCount count }
+{
+    LEAST_JOBS_OF_BURST <= count && count <= MOST_JOBS_OF_BURST
 }
 
 fn is_kind_in_range(kind: StimulusKind) -> bool
@@ -24,6 +31,14 @@ fn is_kind_in_range(kind: StimulusKind) -> bool
             jitter,
         } => is_time(period) && offset <= MOST_TICKS && jitter <= MOST_TICKS,
         StimulusKind::Sporadic { least, greatest } => is_time(least) && is_time(greatest),
+        StimulusKind::Burst {
+            period,
+            offset,
+            count,
+            distance,
+        } => {
+            is_time(period) && offset <= MOST_TICKS && is_burst_count(count) && is_time(distance)
+        }
     }
 }
 

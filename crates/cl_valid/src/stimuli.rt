@@ -1,19 +1,21 @@
 //! The checks of stimuli.
-ghost use Rattle.std.specs.Prelude.{◌≡◌, ◌<◌, ◌^◌, length};
+ghost use Rattle.std.specs.Prelude.{◌≡◌, ◌*◌, ◌<◌, ◌^◌, nat_lt, length};
+ghost use Rattle.cl_model.specs.Answers.{Answers};
 ghost use Rattle.cl_model.specs.Ranges.{IsInRange};
 ghost use Rattle.cl_model.specs.Refusals.{each};
-ghost use Rattle.cl_model.specs.ValidNames.{has_late_offset, has_no_distance, offset_check, distance_check, stimulus_checks};
-ghost use Rattle.cl_valid.specs.Answers.{Answers};
+ghost use Rattle.cl_model.specs.ValidNames.{has_late_offset, has_no_distance, has_long_burst, offset_check, distance_check, burst_check, stimulus_checks};
 
-use crate::fault::{ValidFault, when};
 use crate::places::entry_of;
-use cl_model::{Code, Key, Part, Place, StimulusDef, StimulusKind, SystemModel};
+use cl_model::{
+    Code, Key, ModelFault, Part, Place, StimulusDef, StimulusKind, SystemModel, refuse_when,
+};
 
 fn has_late_offset(kind: StimulusKind) -> bool
     ensures { result ≡ has_late_offset kind }
 {
     match kind {
-        StimulusKind::Periodic { period, offset, .. } => period <= offset,
+        StimulusKind::Periodic { period, offset, .. }
+        | StimulusKind::Burst { period, offset, .. } => period <= offset,
         StimulusKind::Sporadic { .. } => false,
     }
 }
@@ -22,30 +24,63 @@ fn has_no_distance(kind: StimulusKind) -> bool
     ensures { result ≡ has_no_distance kind }
 {
     match kind {
-        StimulusKind::Periodic { .. } => false,
+        StimulusKind::Periodic { .. } | StimulusKind::Burst { .. } => false,
         StimulusKind::Sporadic { least, greatest } => greatest < least,
     }
 }
 
-fn check_offset(i: usize, stimulus: &StimulusDef) -> Result<(), ValidFault>
+/// Whether a burst doesn't fit its period. A product past 64 bits is longer than any period.
+fn is_longer(count: u64, distance: u64, period: u64) -> bool
+    ensures { result ≡ nat_lt period (count * distance) }
+{
+    match count.checked_mul(distance) {
+        Some(length) => period < length,
+        None => true,
+    }
+}
+
+fn has_long_burst(kind: StimulusKind) -> bool
+    ensures { result ≡ has_long_burst kind }
+{
+    match kind {
+        StimulusKind::Periodic { .. } | StimulusKind::Sporadic { .. } => false,
+        StimulusKind::Burst {
+            period,
+            count,
+            distance,
+            ..
+        } => is_longer(count, distance, period),
+    }
+}
+
+fn check_offset(i: usize, stimulus: &StimulusDef) -> Result<(), ModelFault>
     requires { i < 2 ^ 32 }
-    ensures { Answers result (offset_check i stimulus.now) }
+    ensures { Answers result (offset_check i stimulus.now) tt }
 {
     let place = entry_of(Part::Stimulus, i).at_key(Key::Offset);
-    when(has_late_offset(stimulus.kind), Code::M27, place)
+    refuse_when(has_late_offset(stimulus.kind), Code::M27, place)
 }
 
-fn check_distance(i: usize, stimulus: &StimulusDef) -> Result<(), ValidFault>
+fn check_distance(i: usize, stimulus: &StimulusDef) -> Result<(), ModelFault>
     requires { i < 2 ^ 32 }
-    ensures { Answers result (distance_check i stimulus.now) }
+    ensures { Answers result (distance_check i stimulus.now) tt }
 {
     let place = entry_of(Part::Stimulus, i).at_key(Key::Greatest);
-    when(has_no_distance(stimulus.kind), Code::M28, place)
+    refuse_when(has_no_distance(stimulus.kind), Code::M28, place)
 }
 
-fn check_offsets(stimuli: &[StimulusDef]) -> Result<(), ValidFault>
+fn check_burst(i: usize, stimulus: &StimulusDef) -> Result<(), ModelFault>
+    requires { i < 2 ^ 32 }
+    ensures { Answers result (burst_check i stimulus.now) tt }
+{
+    let place = entry_of(Part::Stimulus, i).at_key(Key::Distance);
+    refuse_when(has_long_burst(stimulus.kind), Code::M47, place)
+}
+
+#[tactic(auto, using(cl_model::proofs::FirstRefusals::loop_faults))]
+fn check_offsets(stimuli: &[StimulusDef]) -> Result<(), ModelFault>
     requires { length stimuli.now < 2 ^ 32 }
-    ensures { Answers result (each offset_check stimuli.now) }
+    ensures { Answers result (each offset_check stimuli.now) tt }
 {
     for (i, stimulus) in stimuli.iter().enumerate() {
         check_offset(i, stimulus)?;
@@ -53,9 +88,10 @@ fn check_offsets(stimuli: &[StimulusDef]) -> Result<(), ValidFault>
     Ok(())
 }
 
-fn check_distances(stimuli: &[StimulusDef]) -> Result<(), ValidFault>
+#[tactic(auto, using(cl_model::proofs::FirstRefusals::loop_faults))]
+fn check_distances(stimuli: &[StimulusDef]) -> Result<(), ModelFault>
     requires { length stimuli.now < 2 ^ 32 }
-    ensures { Answers result (each distance_check stimuli.now) }
+    ensures { Answers result (each distance_check stimuli.now) tt }
 {
     for (i, stimulus) in stimuli.iter().enumerate() {
         check_distance(i, stimulus)?;
@@ -63,12 +99,25 @@ fn check_distances(stimuli: &[StimulusDef]) -> Result<(), ValidFault>
     Ok(())
 }
 
-/// Checks M27 and M28.
-pub fn check_stimuli(model: &SystemModel) -> Result<(), ValidFault>
+#[tactic(auto, using(cl_model::proofs::FirstRefusals::loop_faults))]
+fn check_bursts(stimuli: &[StimulusDef]) -> Result<(), ModelFault>
+    requires { length stimuli.now < 2 ^ 32 }
+    ensures { Answers result (each burst_check stimuli.now) tt }
+{
+    for (i, stimulus) in stimuli.iter().enumerate() {
+        check_burst(i, stimulus)?;
+    }
+    Ok(())
+}
+
+/// Checks M27, M28 and M47.
+#[tactic(auto, using(cl_model::proofs::FirstRefusals::faults), unfolding(cl_model::specs::ValidNames::stimulus_checks))]
+pub fn check_stimuli(model: &SystemModel) -> Result<(), ModelFault>
     requires { IsInRange model.now }
-    ensures { Answers result (stimulus_checks model.now) }
+    ensures { Answers result (stimulus_checks model.now) tt }
 {
     check_offsets(model.stimuli.as_slice())?;
     check_distances(model.stimuli.as_slice())?;
+    check_bursts(model.stimuli.as_slice())?;
     Ok(())
 }

@@ -1,29 +1,29 @@
 //! The checks of tasks.
 ghost use Rattle.std.specs.Prelude.{◌≡◌, ◌<◌, ◌^◌, ◌+◌, ◌==◌, map, length, take, slice_get, Some, IfOk, OnOk};
 ghost use Rattle.std.specs.List.{list_any};
-ghost use Rattle.cl_model.specs.Named.{place_of, core_names, stimulus_names, kind_named};
+ghost use Rattle.cl_model.specs.Answers.{Answers, Passes};
+ghost use Rattle.cl_model.specs.Named.{index_of, core_names, stimulus_names, kind_named};
 ghost use Rattle.cl_model.specs.NameSets.{AreApart};
 ghost use Rattle.cl_model.specs.Ranges.{IsInRange};
 ghost use Rattle.cl_model.specs.ValidTasks.{task_key, core_check, stimulus_check, late_check, release_check, room_check, empty_check, naming_checks, task_check, task_checks};
-ghost use Rattle.cl_valid.specs.Answers.{Answers};
-ghost use Rattle.cl_valid.specs.Kept.{AreNames, ArePlaced, share_of, shares_on, share_priority_check};
+ghost use Rattle.cl_valid.specs.Inner.TasksByShare.{share_priority_check, share_checks};
+ghost use Rattle.cl_valid.specs.Inner.Tables.{names_of, share_of, shares_by_core, kept_of};
 
-use crate::fault::{ValidFault, refused, when};
-use crate::groups::{Groups, Share};
-use crate::labels::{Accesses, check_body};
 use crate::names::Names;
 use crate::places::entry_of;
+use crate::runnables::{LabelUses, check_body};
+use crate::shares::{Share, SharesByCore};
 use cl_model::{
-    Code, Key, MOST_RUNNABLES_OF_MODEL, MOST_TASKS_OF_CORE, NameSet, Part, Place, StimulusKind,
-    SystemModel, TaskDef, kind_named,
+    Code, Key, List, MOST_RUNNABLES_OF_MODEL, MOST_TASKS_OF_CORE, ModelFault, NameSet, Part, Place,
+    StimulusKind, SystemModel, TaskDef, kind_named, refuse_when,
 };
 use std::alloc::Global;
 
-/// The tasks so far.
+/// What is kept of the tasks so far.
 #[derive(Drop)]
-pub struct Placed {
-    pub groups: Groups,
-    pub accesses: Accesses,
+pub struct TasksSoFar {
+    pub shares: SharesByCore,
+    pub uses: LabelUses,
 }
 
 /// A key of task i.
@@ -35,15 +35,15 @@ fn task_key(i: usize, key: Key) -> Place
 }
 
 /// Checks M29: the number of its core.
-fn core_for(cores: &NameSet, i: usize, task: &TaskDef) -> Result<usize, ValidFault>
+fn core_for(cores: &NameSet, i: usize, task: &TaskDef) -> Result<usize, ModelFault>
     requires { i < 2 ^ 32 }
-    ensures checked { Answers result (core_check cores.now i task.now) }
-    ensures core { IfOk result (λ core. place_of task.now.core cores.now ≡ Some core) }
+    ensures checked { Passes result (core_check cores.now i task.now) }
+    ensures core { IfOk result (λ core. index_of task.now.core cores.now ≡ Some core) }
     ensures within { IfOk result (λ core. core < length cores.now) }
 {
     match cores.number_of(&task.core) {
         Some(core) => Ok(core),
-        None => Err(refused(Code::M29, task_key(i, Key::Core))),
+        None => Err(ModelFault::refused(Code::M29, task_key(i, Key::Core))),
     }
 }
 
@@ -53,15 +53,15 @@ fn kind_for(
     stimuli: &NameSet,
     i: usize,
     task: &TaskDef,
-) -> Result<StimulusKind, ValidFault>
+) -> Result<StimulusKind, ModelFault>
     requires item { i < 2 ^ 32 }
     requires stimuli { stimuli.now ≡ stimulus_names model.now }
-    ensures checked { Answers result (stimulus_check (kind_named model.now task.now.stimulus) i) }
+    ensures checked { Passes result (stimulus_check (kind_named model.now task.now.stimulus) i) }
     ensures kind { IfOk result (λ kind. kind_named model.now task.now.stimulus ≡ Some kind) }
 {
     match kind_named(model, stimuli, &task.stimulus) {
         Some(kind) => Ok(kind),
-        None => Err(refused(Code::M30, task_key(i, Key::Stimulus))),
+        None => Err(ModelFault::refused(Code::M30, task_key(i, Key::Stimulus))),
     }
 }
 
@@ -71,76 +71,90 @@ fn has_priority(others: &[Share], priority: u64) -> bool
     others.iter().any(|other| other.priority == priority)
 }
 
-fn check_priority(others: &[Share], i: usize, task: &TaskDef) -> Result<(), ValidFault>
+fn check_priority(others: &[Share], i: usize, task: &TaskDef) -> Result<(), ModelFault>
     requires { i < 2 ^ 32 }
-    ensures { Answers result (share_priority_check others.now i task.now) }
+    ensures { Answers result (share_priority_check others.now i task.now) tt }
 {
     let is_taken = has_priority(others, task.priority);
-    when(is_taken, Code::M31, task_key(i, Key::Priority))
+    refuse_when(is_taken, Code::M31, task_key(i, Key::Priority))
 }
 
-fn check_late(kind: StimulusKind, i: usize, task: &TaskDef) -> Result<(), ValidFault>
+fn check_late(kind: StimulusKind, i: usize, task: &TaskDef) -> Result<(), ModelFault>
     requires { i < 2 ^ 32 }
-    ensures { Answers result (late_check (Some kind) i task.now) }
+    ensures { Answers result (late_check (Some kind) i task.now) tt }
 {
     let is_late = kind.least_distance() < task.deadline_under(kind);
-    when(is_late, Code::M32, task_key(i, Key::Deadline))
+    refuse_when(is_late, Code::M32, task_key(i, Key::Deadline))
 }
 
-fn check_release(kind: StimulusKind, i: usize, task: &TaskDef) -> Result<(), ValidFault>
+fn check_release(kind: StimulusKind, i: usize, task: &TaskDef) -> Result<(), ModelFault>
     requires { i < 2 ^ 32 }
-    ensures { Answers result (release_check (Some kind) i task.now) }
+    ensures { Answers result (release_check (Some kind) i task.now) tt }
 {
     let is_late = task.deadline_under(kind) <= kind.greatest_jitter();
-    when(is_late, Code::M33, task_key(i, Key::Stimulus))
+    refuse_when(is_late, Code::M33, task_key(i, Key::Stimulus))
 }
 
-fn check_room(others: &[Share], i: usize) -> Result<(), ValidFault>
+fn check_room(others: &[Share], i: usize) -> Result<(), ModelFault>
     requires { i < 2 ^ 32 }
-    ensures { Answers result (room_check (length others.now) i) }
+    ensures { Answers result (room_check (length others.now) i) tt }
 {
-    when(
+    refuse_when(
         others.len() == MOST_TASKS_OF_CORE,
         Code::M34,
         task_key(i, Key::Core),
     )
 }
 
-fn check_empty(i: usize, task: &TaskDef) -> Result<(), ValidFault>
+fn check_empty(i: usize, task: &TaskDef) -> Result<(), ModelFault>
     requires { i < 2 ^ 32 }
-    ensures { Answers result (empty_check i task.now) }
+    ensures { Answers result (empty_check i task.now) tt }
 {
-    when(
+    refuse_when(
         task.runnables.len() == 0,
         Code::M35,
         entry_of(Part::Task, i),
     )
 }
 
-/// Checks M29 to M35 for task i: the number of its core.
-fn place_of(
-    model: &SystemModel,
-    names: &Names,
-    groups: &Groups,
+/// Checks M31 to M35 for task i, beside what the tasks before it take of its core.
+#[tactic(auto, using(cl_model::proofs::FirstRefusals::faults))]
+fn check_share(
+    others: &[Share],
+    kind: StimulusKind,
     i: usize,
     task: &TaskDef,
-) -> Result<(usize, Share), ValidFault>
-    requires item { i < 2 ^ 32 }
-    requires names { AreNames model.now names.now }
-    requires groups { groups.now ≡ map (shares_on model.now (take i model.now.tasks)) (core_names model.now) }
-    ensures checked { Answers result (naming_checks model.now i task.now) }
-    ensures core { IfOk result (λ place. place_of task.now.core (core_names model.now) ≡ Some place.0) }
-    ensures within { IfOk result (λ place. place.0 < length groups.now) }
-    ensures share { IfOk result (λ place. place.1 ≡ share_of model.now task.now) }
+) -> Result<(), ModelFault>
+    requires { i < 2 ^ 32 }
+    ensures { Answers result (share_checks others.now kind i task.now) tt }
 {
-    let core = core_for(&names.cores, i, task)?;
-    let kind = kind_for(model, &names.stimuli, i, task)?;
-    let others = groups.on(core);
     check_priority(others, i, task)?;
     check_late(kind, i, task)?;
     check_release(kind, i, task)?;
     check_room(others, i)?;
     check_empty(i, task)?;
+    Ok(())
+}
+
+/// Checks M29 to M35 for task i: the number of its core, and what it takes of it.
+fn share_for(
+    model: &SystemModel,
+    names: &Names,
+    shares: &SharesByCore,
+    i: usize,
+    task: &TaskDef,
+) -> Result<(usize, Share), ModelFault>
+    requires item { i < 2 ^ 32 }
+    requires names { names.now ≡ names_of model.now }
+    requires shares { shares.now ≡ shares_by_core model.now (take i model.now.tasks) }
+    ensures checked { Passes result (naming_checks model.now i task.now) }
+    ensures core { IfOk result (λ found. index_of task.now.core (core_names model.now) ≡ Some found.0) }
+    ensures within { IfOk result (λ found. found.0 < length shares.now) }
+    ensures share { IfOk result (λ found. found.1 ≡ share_of model.now task.now) }
+{
+    let core = core_for(&names.cores, i, task)?;
+    let kind = kind_for(model, &names.stimuli, i, task)?;
+    check_share(shares.on(core), kind, i, task)?;
     let share = Share {
         priority: task.priority,
         kind: Some(kind),
@@ -153,45 +167,48 @@ fn check_task(
     alloc: Global,
     model: &SystemModel,
     names: &Names,
-    placed: &mut Placed,
+    kept: &mut TasksSoFar,
     i: usize,
     task: &TaskDef,
-) -> Result<(), ValidFault>
+) -> Result<(), ModelFault>
     requires in_range { IsInRange model.now }
     requires task { slice_get model.now.tasks i ≡ Some task.now }
-    requires names { AreNames model.now names.now }
+    requires names { names.now ≡ names_of model.now }
     requires apart { AreApart (core_names model.now) }
-    requires placed { ArePlaced model.now (take i model.now.tasks) placed.old }
-    ensures checked { Answers result (task_check model.now i task.now) }
-    ensures placed { OnOk result (ArePlaced model.now (take (i + 1) model.now.tasks) placed.new) }
+    requires kept { kept.old ≡ kept_of model.now (take i model.now.tasks) }
+    ensures checked { Answers result (task_check model.now i task.now) tt }
+    ensures kept { OnOk result (kept.new ≡ kept_of model.now (take (i + 1) model.now.tasks)) }
 {
     let place = entry_of(Part::Task, i);
-    let (core, share) = place_of(model, names, &placed.groups, i, task)?;
-    placed.groups.put(core, share)?;
-    check_body(alloc, &names.labels, &mut placed.accesses, place, task)?;
-    let too_many = placed.accesses.each.as_slice().len() > MOST_RUNNABLES_OF_MODEL;
-    when(too_many, Code::M41, place)?;
+    let (core, share) = share_for(model, names, &kept.shares, i, task)?;
+    kept.shares.put(core, share)?;
+    check_body(alloc, &names.labels, &mut kept.uses, place, task)?;
+    let too_many = kept.uses.each.len() > MOST_RUNNABLES_OF_MODEL;
+    refuse_when(too_many, Code::M41, place)?;
     Ok(())
 }
 
 /// Checks M29 to M41 for each task.
-pub fn placed_tasks(alloc: Global, model: &SystemModel, names: &Names) -> Result<Placed, ValidFault>
+pub fn kept_tasks(
+    alloc: Global,
+    model: &SystemModel,
+    names: &Names,
+) -> Result<TasksSoFar, ModelFault>
     requires in_range { IsInRange model.now }
-    requires names { AreNames model.now names.now }
+    requires names { names.now ≡ names_of model.now }
     requires apart { AreApart (core_names model.now) }
-    ensures checked { Answers result (task_checks model.now) }
-    ensures placed { IfOk result (ArePlaced model.now model.now.tasks) }
+    ensures { Answers result (task_checks model.now) (kept_of model.now model.now.tasks) }
 {
-    let mut placed = Placed {
-        groups: Groups::new(alloc, model.cores.len())?,
-        accesses: Accesses {
+    let mut kept = TasksSoFar {
+        shares: SharesByCore::new(alloc, model.cores.len())?,
+        uses: LabelUses {
             written: NameSet::new(alloc),
-            each: Vec::new(alloc),
+            each: List::new(alloc),
         },
     };
     let tasks = model.tasks.as_slice();
     for (i, task) in tasks.iter().enumerate() {
-        check_task(alloc, model, names, &mut placed, i, task)?;
+        check_task(alloc, model, names, &mut kept, i, task)?;
     }
-    Ok(placed)
+    Ok(kept)
 }

@@ -1,38 +1,64 @@
 //! The validation of a model.
-ghost use Rattle.std.specs.Prelude.{◌≡◌, ◌↔◌, IfOk, IfErr, OnOk, IsOk, None, Some};
+ghost use Rattle.std.specs.Prelude.{◌≡◌, ◌↔◌, IfOk, IfErr, OnOk, IsOk, None, Some, []};
+ghost use Rattle.cl_model.specs.Answers.{Answers, IsFaultOf};
+ghost use Rattle.cl_model.specs.Named.{core_names};
+ghost use Rattle.cl_model.specs.NameSets.{AreApart};
 ghost use Rattle.cl_model.specs.Ranges.{IsInRange};
+ghost use Rattle.cl_model.specs.ValidTasks.{task_checks};
 ghost use Rattle.cl_model.specs.Validity.{IsValid, refusals_of, refusal_of};
-ghost use Rattle.cl_valid.specs.Answers.{Answers, IsFirst};
+ghost use Rattle.cl_valid.specs.Inner.Parts.{link_checks, part_checks};
+ghost use Rattle.cl_valid.specs.Inner.Tables.{names_of, kept_of};
 
 use crate::chains::{check_chains, check_requirements};
 use crate::deadlines::check_deadlines;
-use crate::fault::ValidFault;
-use crate::names::names_of;
+use crate::names::{Names, names_of};
 use crate::stimuli::check_stimuli;
-use crate::tasks::placed_tasks;
-use cl_model::{SystemModel, ValidModel};
+use crate::tasks::{TasksSoFar, kept_tasks};
+use cl_model::{ModelFault, SystemModel, ValidModel};
 use std::alloc::Global;
 
-/// Checks M20 to M46.
-fn check(alloc: Global, model: &SystemModel) -> Result<(), ValidFault>
-    requires { IsInRange model.now }
-    ensures { Answers result (refusals_of model.now) }
+/// Checks M42 to M46, after the tasks.
+#[tactic(auto, using(cl_model::proofs::FirstRefusals::faults))]
+fn check_links(model: &SystemModel, names: &Names, kept: &TasksSoFar) -> Result<(), ModelFault>
+    requires in_range { IsInRange model.now }
+    requires passed { task_checks model.now ≡ [] }
+    requires names { names.now ≡ names_of model.now }
+    requires kept { kept.now ≡ kept_of model.now model.now.tasks }
+    ensures { Answers result (link_checks model.now) tt }
 {
-    let names = names_of(alloc, model)?;
-    check_stimuli(model)?;
-    let placed = placed_tasks(alloc, model, &names)?;
-    check_deadlines(model, &names, &placed.groups)?;
-    check_chains(model, &names, placed.accesses.each.as_slice())?;
-    check_requirements(model, &names)?;
+    check_deadlines(model, names, &kept.shares)?;
+    check_chains(model, names, kept.uses.each.as_slice())?;
+    check_requirements(model, names)?;
     Ok(())
 }
 
+/// Checks M27 to M47, after the names.
+fn check_parts(alloc: Global, model: &SystemModel, names: &Names) -> Result<(), ModelFault>
+    requires in_range { IsInRange model.now }
+    requires apart { AreApart (core_names model.now) }
+    requires names { names.now ≡ names_of model.now }
+    ensures { Answers result (part_checks model.now) tt }
+{
+    check_stimuli(model)?;
+    let kept = kept_tasks(alloc, model, names)?;
+    check_links(model, names, &kept)
+}
+
+/// Checks M20 to M47.
+fn check(alloc: Global, model: &SystemModel) -> Result<(), ModelFault>
+    requires { IsInRange model.now }
+    ensures { Answers result (refusals_of model.now) tt }
+{
+    let names = names_of(alloc, model)?;
+    check_parts(alloc, model, &names)
+}
+
 /// The valid model that a plain one is, or its first refusal. Where there is none, the same model comes back.
-pub fn validate(alloc: Global, model: SystemModel) -> Result<ValidModel, (SystemModel, ValidFault)>
+pub fn validate(alloc: Global, model: SystemModel) -> Result<ValidModel, (SystemModel, ModelFault)>
     requires { IsInRange model }
     ensures same { IfOk result (λ valid. valid ≡ model) }
     ensures valid { OnOk result (IsValid model) }
-    ensures refused { IfErr result (λ error. IsFirst error.1 (refusals_of model)) }
+    ensures refused { IfErr result (λ error. IsFaultOf (refusals_of model) error.1) }
     ensures back { IfErr result (λ error. error.0 ≡ model) }
 {
     match check(alloc, &model) {
@@ -41,6 +67,6 @@ pub fn validate(alloc: Global, model: SystemModel) -> Result<ValidModel, (System
     }
     match ValidModel::adopt(alloc, model) {
         Ok(valid) => Ok(valid),
-        Err((model, _)) => Err((model, ValidFault::NoMemory)),
+        Err((model, _)) => Err((model, ModelFault::NoMemory)),
     }
 }

@@ -8,8 +8,8 @@ ghost use Rattle.cl_runs.specs.Legal.{IsLegal};
 ghost use Rattle.cl_runs.specs.Chains.{HasWritten, IsEarliestReader, IsLatestWriter};
 ghost use Rattle.cl_runs.specs.RunChains.{run_moments};
 ghost use Rattle.cl_bound.specs.Hops.{forward_hop, backward_hop};
-ghost use Rattle.cl_bound.specs.Safe.{IsSettledChain};
-ghost use Rattle.cl_bound.specs.SettledTiming.{settled_timing};
+ghost use Rattle.cl_bound.specs.Bounds.{settled_timing};
+ghost use Rattle.cl_bound.specs.SettledChains.{IsSettledChain};
 
 /// Of two neighbouring groups x and y of a settled chain, the job of y arrives at most a hop later than that of x.
 pub fn hops_bound_arrivals()

@@ -3,7 +3,8 @@ ghost use Rattle.std.specs.Prelude.{List};
 ghost use Rattle.cl_model.specs.declared.group.Group.{Group};
 ghost use Rattle.cl_runs.specs.TaskTiming.{System, IsSound};
 ghost use Rattle.cl_bound.specs.Bounds.{bounds_of};
-ghost use Rattle.cl_bound.specs.Safe.{IsSettledChain, AreSafe};
+ghost use Rattle.cl_bound.specs.Promises.{AreSafe};
+ghost use Rattle.cl_bound.specs.SettledChains.{IsSettledChain};
 
 /// The bounds of a settled chain are at least the reaction, the age and the reduced age of each of its complete chains
 /// in each legal run, of any length.

@@ -1,22 +1,28 @@
-//! The sums behind the bounds: they are positive, and no greater than two of the greatest distances for each group.
-ghost use Rattle.std.specs.Prelude.{◌≡◌, ℕ, pos, ◌*◌, ◌≤◌, List, ◌∷◌, length, map};
+//! The sums behind the bounds: they are the bounds, positive, no greater than two of the greatest distances for each
+//! group, and the same for the reaction and the age.
+ghost use Rattle.std.specs.Prelude.{◌≡◌, ℕ, ◌*◌, ◌<◌, ◌≤◌, List, length};
 ghost use Rattle.cl_model.specs.declared.group.Group.{Group};
 ghost use Rattle.cl_runs.specs.TaskTiming.{System, IsSound};
-ghost use Rattle.cl_bound.specs.Bounds.{bounds_of, greatest_reaction, greatest_age, greatest_reduced};
-ghost use Rattle.cl_bound.specs.Safe.{IsSettledChain};
-ghost use Rattle.cl_bound.specs.SettledTiming.{settled_timing, AreWithin};
+ghost use Rattle.cl_bound.specs.declared.group_timing.GroupTiming.{GroupTiming};
+ghost use Rattle.cl_bound.specs.Bounds.{greatest_reaction, greatest_age, Lengths, AreBoundsOf, settled_timings, bounds_of};
+ghost use Rattle.cl_bound.specs.SettledChains.{IsSettledChain, AreWithin};
 
-/// The bounds of a settled chain are the signed sums themselves, and each is 1 tick or more.
-pub fn sums_are_positive()
-    ensures reaction { (system : System) → IsSound system → (first : Group) (groups : List Group) → IsSettledChain system (first ∷ groups)
-        → (pos (bounds_of system (first ∷ groups)).reaction ≡ greatest_reaction (settled_timing system first) (map (settled_timing system) groups))
-        × (1 ≤ (bounds_of system (first ∷ groups)).reaction) }
-    ensures age { (system : System) → IsSound system → (first : Group) (groups : List Group) → IsSettledChain system (first ∷ groups)
-        → (pos (bounds_of system (first ∷ groups)).age ≡ greatest_age (settled_timing system first) (map (settled_timing system) groups))
-        × (1 ≤ (bounds_of system (first ∷ groups)).age) }
-    ensures reduced { (system : System) → IsSound system → (first : Group) (groups : List Group) → IsSettledChain system (first ∷ groups)
-        → (pos (bounds_of system (first ∷ groups)).reduced ≡ greatest_reduced (settled_timing system first) (map (settled_timing system) groups))
-        × (1 ≤ (bounds_of system (first ∷ groups)).reduced) }
+/// What `bounds_of` gives for a settled chain are the signed sums themselves, and no other numbers are.
+pub fn bounds_are_sums()
+    ensures are { (system : System) → IsSound system → (groups : List Group) → IsSettledChain system groups
+        → AreBoundsOf (settled_timings system groups) (bounds_of system groups) }
+    ensures alone { (system : System) (groups : List Group) (bounds : Lengths)
+        → AreBoundsOf (settled_timings system groups) bounds → bounds ≡ bounds_of system groups }
+{}
+
+/// Each bound of a settled chain with some group is 1 tick or more.
+pub fn bounds_are_positive()
+    ensures reaction { (system : System) → IsSound system → (groups : List Group) → IsSettledChain system groups
+        → 0 < length groups → 1 ≤ (bounds_of system groups).reaction }
+    ensures age { (system : System) → IsSound system → (groups : List Group) → IsSettledChain system groups
+        → 0 < length groups → 1 ≤ (bounds_of system groups).age }
+    ensures reduced { (system : System) → IsSound system → (groups : List Group) → IsSettledChain system groups
+        → 0 < length groups → 1 ≤ (bounds_of system groups).reduced }
 {}
 
 /// The bounds of a settled chain are at most two of the greatest distances between arrivals for each group.
@@ -27,4 +33,11 @@ pub fn bounds_are_limited()
         → AreWithin system most groups → (bounds_of system groups).age ≤ 2 * length groups * most }
     ensures reduced { (system : System) → IsSound system → (groups : List Group) → IsSettledChain system groups → (most : ℕ)
         → AreWithin system most groups → (bounds_of system groups).reduced ≤ 2 * length groups * most }
+{}
+
+/// The bound on the reaction equals the bound on the age: of all groups, whatever their timing, and so of each settled
+/// chain of a sound system.
+pub fn reaction_equals_age()
+    ensures sums { (groups : List GroupTiming) → greatest_reaction groups ≡ greatest_age groups }
+    ensures bounds { (system : System) (groups : List Group) → (bounds_of system groups).reaction ≡ (bounds_of system groups).age }
 {}

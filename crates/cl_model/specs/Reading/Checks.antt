@@ -3,7 +3,7 @@
 use Rattle.std.specs.Prelude.{ℕ, ℤ, pos, negsuc, Bool, true, false, ◌&&◌, not, if◌then◌else◌, nat_le, List, [], ◌∷◌, length, map, Option, Some, None, is_some}
 use Rattle.std.specs.List.{list_any}
 use Rattle.std.specs.Str.{bytes_eq}
-use Rattle.toml.specs.Data.{Data, string, integer, array, table, Items, no_items, item, Members, no_members, member, get_member}
+use Rattle.toml.specs.Data.{Data, string, integer, boolean, array, table, Items, no_items, item, Members, no_members, member, get_member}
 use Rattle.cl_model.specs.declared.place.Key.{Key}
 use Rattle.cl_model.specs.declared.place.Place.{Place}
 use Rattle.cl_model.specs.declared.refusal.Code.TheVariants.{M4, M5, M6, M7, M8, M9, M10}
@@ -37,14 +37,19 @@ abbrev pub a_word : {X : Type 0} → List (List ℕ × X) → Check
 a_word words = a_string (λ place word. unless (is_some (meaning_of words word)) M9 place)
 
 -- the whole number is from low to high
-abbrev pub is_within : ℕ → ℕ → ℤ → Bool
+abbrev pub is_within : (low high : ℕ) → ℤ → Bool
 is_within low high (pos n) = nat_le low n && nat_le n high
 is_within low high (negsuc n) = false
 
 -- M6 where it isn't a whole number, M8 where that is out of its range
-abbrev pub a_number : ℕ → ℕ → Check
+abbrev pub a_number : (low high : ℕ) → Check
 a_number low high place (integer z) = unless (is_within low high z) M8 place
 a_number low high place _ = refuse M6 place
+
+-- M6 where it is neither true nor false
+abbrev pub a_boolean : Check
+a_boolean place (boolean b) = []
+a_boolean place _ = refuse M6 place
 
 -- the members of an array as a list
 abbrev pub members_of : Items → List Data
@@ -52,7 +57,7 @@ members_of no_items = []
 members_of (item d ds) = d ∷ members_of ds
 
 -- M6 where it isn't an array, M10 where that has more members than the limit, and then each member at its place
-abbrev pub an_array : ℕ → (ℕ → Place → Place) → Check → Check
+abbrev pub an_array : (limit : ℕ) → (ℕ → Place → Place) → Check → Check
 an_array limit at_member check place (array items) =
     in_order (unless (nat_le (length (members_of items)) limit) M10 place
     ∷ each_from 0 (λ n. check (at_member n place)) (members_of items)
@@ -60,7 +65,7 @@ an_array limit at_member check place (array items) =
 an_array limit at_member check place _ = refuse M6 place
 
 -- at most so many names
-abbrev pub names : ℕ → Check
+abbrev pub names : (limit : ℕ) → Check
 names limit = an_array limit at_spot a_name
 
 -- M6 where it isn't a table, and then what is asked of the table

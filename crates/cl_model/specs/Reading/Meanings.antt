@@ -1,6 +1,6 @@
 -- What the values of a model file mean where nothing is refused.
-use Rattle.std.specs.Prelude.{ℕ, pos, List, [], map, Option, Some, None, unwrap_or}
-use Rattle.toml.specs.Data.{Data, string, integer, array, table, Members, no_members}
+use Rattle.std.specs.Prelude.{ℕ, pos, Bool, false, List, [], map, Option, Some, None, unwrap_or}
+use Rattle.toml.specs.Data.{Data, string, integer, boolean, array, table, Members, no_members}
 use Rattle.cl_model.specs.declared.place.Key.{Key}
 use Rattle.cl_model.specs.Reading.Checks.{meaning_of, members_of, value_at, found_or}
 
@@ -13,6 +13,11 @@ text_of _ = []
 abbrev pub number_of : Data → ℕ
 number_of (integer (pos n)) = n
 number_of _ = 0
+
+-- true or false
+abbrev pub boolean_of : Data → Bool
+boolean_of (boolean b) = b
+boolean_of _ = false
 
 -- the members of an array
 abbrev pub list_of : Data → List Data
@@ -39,6 +44,10 @@ number_at = number_or 0
 -- the number at a key that may be absent
 abbrev pub number_if : Key → Members → Option ℕ
 number_if key ms = found_or None (λ d. Some (number_of d)) (value_at key ms)
+
+-- whether true stands at a key
+abbrev pub is_set : Key → Members → Bool
+is_set key ms = found_or false boolean_of (value_at key ms)
 
 -- what the word at a key stands for, by a list of words
 abbrev pub word_if : {X : Type 0} → List (List ℕ × X) → Key → Members → Option X

@@ -1,8 +1,8 @@
--- The tables of a model file, version 1: the keys of each in reading order, and what it means. Times are in ticks.
+-- The tables of a model file, versions 1 and 2: the keys of each in reading order, and what it means. Times are in ticks.
 -- Source: this project's profile.
-use Rattle.std.specs.Prelude.{ℕ, List, [], ◌∷◌, ◌++◌, map, Option, Some, None, codes}
+use Rattle.std.specs.Prelude.{ℕ, ◌==◌, if◌then◌else◌, List, [], ◌∷◌, ◌++◌, map, Option, Some, None, codes}
 use Rattle.toml.specs.Data.{Members}
-use Rattle.cl_model.specs.declared.limits.TheConstants.{MOST_TICKS, MOST_REQUIRED, MOST_PRIORITY, MOST_RUNNABLES, MOST_ACCESSES, MOST_STEPS, MOST_HOPS}
+use Rattle.cl_model.specs.declared.limits.TheConstants.{MOST_TICKS, MOST_REQUIRED, MOST_PRIORITY, MOST_RUNNABLES, MOST_ACCESSES, MOST_STEPS, MOST_HOPS, LEAST_JOBS_OF_BURST, MOST_JOBS_OF_BURST}
 use Rattle.cl_model.specs.declared.place.Key.TheVariants as key
 use Rattle.cl_model.specs.declared.place.Place.{Place}
 use Rattle.cl_model.specs.declared.refusal.Code.TheVariants.{M4}
@@ -11,7 +11,7 @@ use Rattle.cl_model.specs.declared.model.CoreDef.{CoreDef}
 use Rattle.cl_model.specs.declared.model.LabelDef.{LabelDef}
 use Rattle.cl_model.specs.declared.stimulus.StimulusDef.{StimulusDef}
 use Rattle.cl_model.specs.declared.stimulus.StimulusKind.{StimulusKind}
-use Rattle.cl_model.specs.declared.stimulus.StimulusKind.TheVariants.{Periodic, Sporadic}
+use Rattle.cl_model.specs.declared.stimulus.StimulusKind.TheVariants.{Periodic, Sporadic, Burst}
 use Rattle.cl_model.specs.declared.task.AccessKind.{AccessKind}
 use Rattle.cl_model.specs.declared.task.AccessKind.TheVariants.{Explicit, Implicit, Timed}
 use Rattle.cl_model.specs.declared.task.RunnableDef.{RunnableDef}
@@ -20,10 +20,10 @@ use Rattle.cl_model.specs.declared.chain.LengthKind.{LengthKind}
 use Rattle.cl_model.specs.declared.chain.LengthKind.TheVariants.{Reaction, Age, Reduced}
 use Rattle.cl_model.specs.declared.chain.ChainDef.{ChainDef}
 use Rattle.cl_model.specs.declared.chain.RequirementDef.{RequirementDef}
-use Rattle.cl_model.specs.Reading.Checks.{Check, a_name, a_word, a_number, names, an_array, a_table_of, Field, required, optional, field_checks, keys_of, has_only}
+use Rattle.cl_model.specs.Reading.Checks.{Check, a_name, a_word, a_number, a_boolean, names, an_array, a_table_of, Field, required, optional, field_checks, keys_of, has_only}
 use Rattle.cl_model.specs.Place.{at_sub}
 use Rattle.cl_model.specs.Refusals.{unless, in_order}
-use Rattle.cl_model.specs.Reading.Meanings.{text_at, number_at, number_or, number_if, word_if, word_at, names_at, tables_at}
+use Rattle.cl_model.specs.Reading.Meanings.{text_at, number_at, number_or, number_if, is_set, word_if, word_at, names_at, tables_at}
 
 -- a time from 1 up, and one from 0 up
 abbrev pub a_time : Check
@@ -69,30 +69,46 @@ sporadic_form = record {
   meaning = λ ms. Sporadic (number_at key.Least ms) (number_at key.Greatest ms);
 }
 
--- the kinds, by their words
-abbrev pub stimulus_forms : List (List ℕ × StimulusForm)
-stimulus_forms = (codes "periodic", periodic_form) ∷ (codes "sporadic", sporadic_form) ∷ []
+-- a burst stimulus
+abbrev pub burst_form : StimulusForm
+burst_form = record {
+  fields =
+      required key.Period a_time
+      ∷ optional key.Offset a_time_or_zero
+      ∷ required key.Count (a_number LEAST_JOBS_OF_BURST MOST_JOBS_OF_BURST)
+      ∷ required key.Distance a_time
+      ∷ [];
+  meaning = λ ms. Burst (number_at key.Period ms) (number_or 0 key.Offset ms) (number_at key.Count ms) (number_at key.Distance ms);
+}
+
+-- the kinds that version 2 adds, by their words
+abbrev pub later_forms : (version : ℕ) → List (List ℕ × StimulusForm)
+later_forms version = if version == 2 then (codes "burst", burst_form) ∷ [] else []
+
+-- the kinds of a version, by their words
+abbrev pub stimulus_forms : (version : ℕ) → List (List ℕ × StimulusForm)
+stimulus_forms version = (codes "periodic", periodic_form) ∷ (codes "sporadic", sporadic_form) ∷ later_forms version
 
 -- the keys that every stimulus has
-abbrev pub stimulus_fields : List Field
-stimulus_fields = required key.Name a_name ∷ required key.Kind (a_word stimulus_forms) ∷ []
+abbrev pub stimulus_fields : (version : ℕ) → List Field
+stimulus_fields version = required key.Name a_name ∷ required key.Kind (a_word (stimulus_forms version)) ∷ []
 
 -- M4 where the table has a key that no stimulus of its kind has, and then the keys of that kind; nothing where the kind isn't known
 abbrev pub form_checks : Place → Members → Option StimulusForm → List Refusal
 form_checks place ms None = []
 form_checks place ms (Some form) =
-    in_order (unless (has_only (keys_of (stimulus_fields ++ form.fields)) ms) M4 place ∷ map (field_checks place ms) form.fields)
+    in_order (unless (has_only (key.Name ∷ key.Kind ∷ keys_of form.fields) ms) M4 place ∷ map (field_checks place ms) form.fields)
 
 -- `name` and `kind`, and then what the kind asks
-unfoldable pub stimulus_checks : Place → Members → List Refusal
-stimulus_checks place ms =
-    in_order (map (field_checks place ms) stimulus_fields ++ form_checks place ms (word_if stimulus_forms key.Kind ms) ∷ [])
+unfoldable pub stimulus_entry_checks : (version : ℕ) → Place → Members → List Refusal
+stimulus_entry_checks version place ms =
+    in_order (map (field_checks place ms) (stimulus_fields version) ++ form_checks place ms (word_if (stimulus_forms version) key.Kind ms) ∷ [])
 
 -- what the keys of a stimulus mean
-unfoldable pub stimulus_meaning : Members → StimulusDef
-stimulus_meaning ms = record {
+unfoldable pub stimulus_meaning : (version : ℕ) → Members → StimulusDef
+stimulus_meaning version ms = record {
   name = text_at key.Name ms;
-  kind = (word_at stimulus_forms periodic_form key.Kind ms).meaning ms;
+  kind = (word_at (stimulus_forms version) periodic_form key.Kind ms).meaning ms;
 }
 
 -- ---- tasks and their runnables
@@ -103,6 +119,7 @@ runnable_fields =
     required key.Name a_name
     ∷ required key.Least a_time
     ∷ required key.Greatest a_time
+    ∷ optional key.Whole a_boolean
     ∷ optional key.Reads (names MOST_ACCESSES)
     ∷ optional key.Writes (names MOST_ACCESSES)
     ∷ []
@@ -112,6 +129,7 @@ runnable_meaning ms = record {
   name = text_at key.Name ms;
   least = number_at key.Least ms;
   greatest = number_at key.Greatest ms;
+  whole = is_set key.Whole ms;
   reads = names_at key.Reads ms;
   writes = names_at key.Writes ms;
 }

@@ -1,18 +1,32 @@
-//! The window of a task, in words.
+//! The window of a task, in words, and as a fixpoint of its demand.
 ghost use Rattle.std.specs.Prelude.{◌≡◌, ℕ, ◌-◌, ◌<◌, ◌≤◌, Some, None};
 ghost use Rattle.cl_resp.specs.declared.question.Question.{Question};
-ghost use Rattle.cl_resp.specs.Response.{demand, window_of, IsWindow};
+ghost use Rattle.cl_resp.specs.Response.{demand, busy_window, IsWindow, IsLeastFixpoint, HasNoFixpoint};
 
 /// The window of a task is the least width that holds its own demand, and there is none exactly where no width from 1
 /// up to the deadline without the jitter does.
 pub fn windows_are_least()
-    ensures found { (question : Question) (width : ℕ) → window_of question ≡ Some width → IsWindow question width }
-    ensures is_found { (question : Question) (width : ℕ) → IsWindow question width → window_of question ≡ Some width }
-    ensures none { (question : Question) → window_of question ≡ None
+    ensures found { (question : Question) (width : ℕ) → busy_window question ≡ Some width → IsWindow question width }
+    ensures is_found { (question : Question) (width : ℕ) → IsWindow question width → busy_window question ≡ Some width }
+    ensures none { (question : Question) → busy_window question ≡ None
         → (width : ℕ) → 1 ≤ width → width ≤ question.deadline - question.jitter → width < demand question width }
     ensures is_none { (question : Question)
         → ((width : ℕ) → 1 ≤ width → width ≤ question.deadline - question.jitter → width < demand question width)
-        → window_of question ≡ None }
+        → busy_window question ≡ None }
+{}
+
+/// The window of a task that takes 1 tick or more, as each task of a sound system does, is the least fixpoint of its
+/// demand, and there is none exactly where there is no fixpoint within the deadline: where there is no fixpoint there, no
+/// width there holds its own demand.
+pub fn windows_are_fixpoints()
+    ensures found { (question : Question) → 1 ≤ question.time → (width : ℕ)
+        → busy_window question ≡ Some width → IsLeastFixpoint question width }
+    ensures is_found { (question : Question) → 1 ≤ question.time → (width : ℕ)
+        → IsLeastFixpoint question width → busy_window question ≡ Some width }
+    ensures none { (question : Question) → busy_window question ≡ None → HasNoFixpoint question }
+    ensures is_none { (question : Question) → 1 ≤ question.time → HasNoFixpoint question → busy_window question ≡ None }
+    ensures short { (question : Question) → 1 ≤ question.time → HasNoFixpoint question
+        → (width : ℕ) → 1 ≤ width → width ≤ question.deadline - question.jitter → width < demand question width }
 {}
 
 /// The demand never falls as the window grows.

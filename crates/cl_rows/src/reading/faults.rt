@@ -174,8 +174,8 @@ pub(super) const ABSENT_ROWS: [Row; 28] = [
         "M5 task[0].runnable[0].least",
     ),
     (
-        "greatest = 1000000000000\nreads",
-        "reads",
+        "greatest = 1000000000000\nwhole",
+        "whole",
         "M5 task[0].runnable[0].greatest",
     ),
     ("name = \"only\"\n", "", "M5 chain[0].name"),
@@ -213,7 +213,7 @@ pub(super) const UNKNOWN_ROWS: [Row; 15] = [
     ("deadline = 1000000000000\n", "period = 1\n", "M4 task[0]"),
     (
         "name = \"f\"\n",
-        "name = \"f\"\nwhole = 1\n",
+        "name = \"f\"\nkind = \"whole\"\n",
         "M4 task[0].runnable[0]",
     ),
     ("labels = []\n", "labels = []\nmost = 1\n", "M4 chain[0]"),
@@ -244,7 +244,13 @@ pub(super) const UNKNOWN_ROWS: [Row; 15] = [
 ];
 
 /// The same with a value of another kind.
-pub(super) const KIND_ROWS: [Row; 30] = [
+pub(super) const KIND_ROWS: [Row; 32] = [
+    ("whole = true", "whole = 1", "M6 task[0].runnable[0].whole"),
+    (
+        "whole = true",
+        "whole = \"yes\"",
+        "M6 task[0].runnable[0].whole",
+    ),
     ("\"c0\"", "7", "M6 core[0].name"),
     ("\"far\"", "[\"far\"]", "M6 stimulus[0].name"),
     ("\"periodic\"", "1", "M6 stimulus[0].kind"),
@@ -292,8 +298,8 @@ pub(super) const KIND_ROWS: [Row; 30] = [
         "M6 task[0].runnable[0].least",
     ),
     (
-        "greatest = 1000000000000\nreads",
-        "greatest = {}\nreads",
+        "greatest = 1000000000000\nwhole",
+        "greatest = {}\nwhole",
         "M6 task[0].runnable[0].greatest",
     ),
     (

@@ -80,7 +80,7 @@ pub(super) const RANGE_ROWS: [Row; 41] = [
         "M8 stimulus[0].period",
     ),
     ("offset = 0\n", "offset = -1\n", "M8 stimulus[0].offset"),
-    ("offset = 0\n", "offset = 0\n", NOT_BUILT),
+    ("offset = 0\n", "offset = 1\n", NOT_BUILT),
     ("offset = 0\n", "offset = 999999999999\n", NOT_BUILT),
     (
         "offset = 0\n",
@@ -88,7 +88,7 @@ pub(super) const RANGE_ROWS: [Row; 41] = [
         "M8 stimulus[0].offset",
     ),
     ("jitter = 0\n", "jitter = -1\n", "M8 stimulus[0].jitter"),
-    ("jitter = 0\n", "jitter = 0\n", NOT_BUILT),
+    ("jitter = 0\n", "jitter = 1\n", NOT_BUILT),
     ("jitter = 0\n", "jitter = 999999999999\n", NOT_BUILT),
     (
         "jitter = 0\n",
@@ -101,7 +101,7 @@ pub(super) const RANGE_ROWS: [Row; 41] = [
         NOT_BUILT,
     ),
     ("least = 1\n", "least = 0\n", "M8 stimulus[1].least"),
-    ("least = 1\n", "least = 1\n", NOT_BUILT),
+    ("least = 1\n", "least = 2\n", NOT_BUILT),
     ("least = 1\n", "least = 1000000000000\n", NOT_BUILT),
     (
         "least = 1\n",
@@ -116,7 +116,7 @@ pub(super) const RANGE_ROWS: [Row; 41] = [
     ("greatest = 1000000000000\n", "greatest = 1\n", NOT_BUILT),
     (
         "greatest = 1000000000000\n",
-        "greatest = 1000000000000\n",
+        "greatest = 999999999999\n",
         NOT_BUILT,
     ),
     (
@@ -130,7 +130,7 @@ pub(super) const RANGE_ROWS: [Row; 41] = [
         "M8 task[0].priority",
     ),
     ("priority = 1000000\n", "priority = 0\n", NOT_BUILT),
-    ("priority = 1000000\n", "priority = 1000000\n", NOT_BUILT),
+    ("priority = 1000000\n", "priority = 999999\n", NOT_BUILT),
     (
         "priority = 1000000\n",
         "priority = 1000001\n",
@@ -149,7 +149,7 @@ pub(super) const RANGE_ROWS: [Row; 41] = [
     ("deadline = 1000000000000\n", "deadline = 1\n", NOT_BUILT),
     (
         "deadline = 1000000000000\n",
-        "deadline = 1000000000000\n",
+        "deadline = 999999999999\n",
         NOT_BUILT,
     ),
     (
@@ -162,7 +162,7 @@ pub(super) const RANGE_ROWS: [Row; 41] = [
         "\"f\"\nleast = 0\n",
         "M8 task[0].runnable[0].least",
     ),
-    ("\"f\"\nleast = 1\n", "\"f\"\nleast = 1\n", NOT_BUILT),
+    ("\"f\"\nleast = 1\n", "\"f\"\nleast = 2\n", NOT_BUILT),
     (
         "\"f\"\nleast = 1\n",
         "\"f\"\nleast = 1000000000000\n",
@@ -174,23 +174,23 @@ pub(super) const RANGE_ROWS: [Row; 41] = [
         "M8 task[0].runnable[0].least",
     ),
     (
-        "greatest = 1000000000000\nreads",
-        "greatest = 0\nreads",
+        "greatest = 1000000000000\nwhole",
+        "greatest = 0\nwhole",
         "M8 task[0].runnable[0].greatest",
     ),
     (
-        "greatest = 1000000000000\nreads",
-        "greatest = 1\nreads",
+        "greatest = 1000000000000\nwhole",
+        "greatest = 1\nwhole",
         NOT_BUILT,
     ),
     (
-        "greatest = 1000000000000\nreads",
-        "greatest = 1000000000000\nreads",
+        "greatest = 1000000000000\nwhole",
+        "greatest = 999999999999\nwhole",
         NOT_BUILT,
     ),
     (
-        "greatest = 1000000000000\nreads",
-        "greatest = 1000000000001\nreads",
+        "greatest = 1000000000000\nwhole",
+        "greatest = 1000000000001\nwhole",
         "M8 task[0].runnable[0].greatest",
     ),
     (
@@ -201,7 +201,7 @@ pub(super) const RANGE_ROWS: [Row; 41] = [
     ("most = 1000000000000000\n", "most = 0\n", NOT_BUILT),
     (
         "most = 1000000000000000\n",
-        "most = 1000000000000000\n",
+        "most = 999999999999999\n",
         NOT_BUILT,
     ),
     (

@@ -1,71 +1,65 @@
 //! Files that read, in other ways to write them.
-use crate::texts::{ACCEPTED, Row};
+use crate::texts::Change;
 
-/// The model of two tasks in other ways to write it.
-pub(super) const WRITING_ROWS: [Row; 21] = [
-    (
-        "version = 1\n",
-        "# a comment\nversion = 1 # another\n\n#",
-        ACCEPTED,
-    ),
-    (
-        "format = \"chainlat\"",
-        "\"format\" = \"chainlat\"",
-        ACCEPTED,
-    ),
-    ("format = \"chainlat\"", "'format' = 'chainlat'", ACCEPTED),
-    (
-        "format = \"chainlat\"",
-        "format = \"\"\"\nchainlat\"\"\"",
-        ACCEPTED,
-    ),
-    ("format = \"chainlat\"", "format = '''chainlat'''", ACCEPTED),
+/// The model of two tasks in other ways to write it, which change nothing of it.
+pub(super) const WRITINGS: [Change; 20] = [
+    ("version = 1\n", "# a comment\nversion = 1 # another\n\n#"),
+    ("format = \"chainlat\"", "\"format\" = \"chainlat\""),
+    ("format = \"chainlat\"", "'format' = 'chainlat'"),
+    ("format = \"chainlat\"", "format = \"\"\"\nchainlat\"\"\""),
+    ("format = \"chainlat\"", "format = '''chainlat'''"),
     (
         "format = \"chainlat\"",
         "format = \"\"\"chain\\\n    lat\"\"\"",
-        ACCEPTED,
     ),
-    (
-        "format = \"chainlat\"",
-        "format = \"chain\\u006cat\"",
-        ACCEPTED,
-    ),
-    ("[[task.runnable]]", "[[ task . \"runnable\" ]]", ACCEPTED),
-    ("[[core]]", "[[ 'core' ]] # the first", ACCEPTED),
+    ("format = \"chainlat\"", "format = \"chain\\u006cat\""),
+    ("[[task.runnable]]", "[[ task . \"runnable\" ]]"),
+    ("[[core]]", "[[ 'core' ]] # the first"),
     (
         "[[core]]\nname = \"c0\"\n\n[[core]]\nname = \"c1\"\n",
         "core = [{ name = \"c0\" }, { 'name' = \"c1\" }]\n",
-        ACCEPTED,
     ),
     (
         "[[core]]\nname = \"c0\"\n\n[[core]]\nname = \"c1\"\n",
         "core = [\n  { name = \"c0\" }, # the first\n  {\n    name = \"c1\",\n  },\n]\n",
-        ACCEPTED,
     ),
     (
         "\n[[task.runnable]]\nname = \"a\"\nleast = 2\ngreatest = 3\nwrites = [\"x\"]\n",
         "runnable = [{ name = \"a\", least = 2, greatest = 3, writes = [\"x\"] }]\n",
-        ACCEPTED,
     ),
     (
         "runnables = [\"a\", \"b\"]",
         "runnables = [\n  \"a\", # the first\n  'b',\n]",
-        ACCEPTED,
     ),
-    ("period = 10\n", "period = 1_0\n", ACCEPTED),
-    ("period = 10\n", "period = +10\n", ACCEPTED),
-    ("period = 10\n", "period = 0xa\n", ACCEPTED),
-    ("period = 10\n", "period = 0o12\n", ACCEPTED),
-    ("period = 10\n", "period = 0b1010\n", ACCEPTED),
+    ("period = 10\n", "period = 1_0\n"),
+    ("period = 10\n", "period = +10\n"),
+    ("period = 10\n", "period = 0xa\n"),
+    ("period = 10\n", "period = 0o12\n"),
+    ("period = 10\n", "period = 0b1010\n"),
     (
         "name = \"s10\"\nkind = \"periodic\"\nperiod = 10\n",
         "\tperiod\t=\t10\nkind=\"periodic\"\n  name = \"s10\"  \n",
-        ACCEPTED,
     ),
-    (
-        "[[core]]\nname = \"c0\"\n\n[[core]]\nname = \"c1\"\n",
-        "[[chain]]\nname = \"early\"\nrunnables = [\"a\"]\n\n[[core]]\nname = \"c0\"\n\n[[core]]\nname = \"c1\"\n",
-        ACCEPTED,
-    ),
-    ("labels = [\"x\"]\n", "labels = [\"x\"]", ACCEPTED),
+    ("labels = [\"x\"]\n", "labels = [\"x\"]"),
 ];
+
+/// Another chain of it, before all other tables.
+pub(super) const EARLY_CHAIN: Change = (
+    "[[core]]\nname = \"c0\"\n\n[[core]]\nname = \"c1\"\n",
+    "[[chain]]\nname = \"early\"\nrunnables = [\"a\"]\n\n[[core]]\nname = \"c0\"\n\n[[core]]\nname = \"c1\"\n",
+);
+
+/// The report of the model of two tasks.
+pub(super) const TWO_REPORT: &str = "chainlat report 1
+task A response 3 deadline 10
+task B response 5 deadline 20
+chain ab reaction 37 age 37 reduced 17
+";
+
+/// The report with the other chain. Its bounds are those of one group: the distance between arrivals and the response.
+pub(super) const EARLY_REPORT: &str = "chainlat report 1
+task A response 3 deadline 10
+task B response 5 deadline 20
+chain early reaction 13 age 13 reduced 3
+chain ab reaction 37 age 37 reduced 17
+";

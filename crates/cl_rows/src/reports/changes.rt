@@ -1,7 +1,5 @@
 //! Changes of the models of two tasks, by what they make of them.
-
-/// A text of a file that must be there, and what stands in its place.
-pub(super) type Change = (&'static str, &'static str);
+use crate::texts::Change;
 
 pub(super) const NO_CORE_C1: Change = ("[[core]]\nname = \"c1\"\n", "");
 
@@ -19,6 +17,12 @@ pub(super) const S10_PERIOD_4: Change = ("period = 10\n", "period = 4\n");
 pub(super) const S10_JITTER_2: Change = ("period = 10\n", "period = 10\njitter = 2\n");
 
 pub(super) const S10_JITTER_3: Change = ("period = 10\n", "period = 10\njitter = 3\n");
+
+/// An offset that is another number than the jitter.
+pub(super) const S10_OFFSET_7_JITTER_2: Change = (
+    "period = 10\n",
+    "period = 10\noffset = 7\njitter = 2\n",
+);
 
 pub(super) const S10_SPORADIC: Change = (
     "kind = \"periodic\"\nperiod = 10\n",

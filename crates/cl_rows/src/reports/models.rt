@@ -153,3 +153,60 @@ name = "sfa"
 runnables = ["sense", "fuse", "act"]
 labels = ["sensed", "fused"]
 "#;
+
+/// A sensor with a period and a valve that is set at its deadline, at distances that vary.
+pub(super) const VALVE: &str = r#"format = "chainlat"
+version = 1
+
+[[core]]
+name = "c0"
+
+[[core]]
+name = "c1"
+
+[[stimulus]]
+name = "fast"
+kind = "periodic"
+period = 5000
+
+[[stimulus]]
+name = "crank"
+kind = "sporadic"
+least = 8000
+greatest = 12000
+
+[[label]]
+name = "speed"
+
+[[task]]
+name = "Sense"
+core = "c0"
+stimulus = "fast"
+priority = 3
+access = "implicit"
+
+[[task.runnable]]
+name = "read_speed"
+least = 300
+greatest = 500
+writes = ["speed"]
+
+[[task]]
+name = "Act"
+core = "c1"
+stimulus = "crank"
+priority = 1
+access = "timed"
+deadline = 8000
+
+[[task.runnable]]
+name = "set_valve"
+least = 400
+greatest = 900
+reads = ["speed"]
+
+[[chain]]
+name = "speed_to_valve"
+runnables = ["read_speed", "set_valve"]
+labels = ["speed"]
+"#;

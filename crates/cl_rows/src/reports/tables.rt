@@ -1,17 +1,18 @@
 //! Files with their reports, and files whose analysis isn't built yet.
 use super::changes::{
     A_PRIORITY_1, A_TAKES_1, A_TAKES_3, A_TIMED, B_EXPLICIT_LATER, B_ON_C0, B_PRIORITY_2,
-    B_TAKES_1, B_TAKES_4_TO_21, B_TAKES_5, B_TAKES_6, B_TIMED, Change, NO_CHAIN, NO_CORE_C1,
-    REQUIRED, S10_JITTER_2, S10_JITTER_3, S10_PERIOD_1, S10_PERIOD_4, S10_SPORADIC, S20_OFFSET_12,
-    S20_PERIOD_15, S20_PERIOD_24, S20_PERIOD_1000000,
+    B_TAKES_1, B_TAKES_4_TO_21, B_TAKES_5, B_TAKES_6, B_TIMED, NO_CHAIN, NO_CORE_C1, REQUIRED,
+    S10_JITTER_2, S10_JITTER_3, S10_OFFSET_7_JITTER_2, S10_PERIOD_1, S10_PERIOD_4, S10_SPORADIC,
+    S20_OFFSET_12, S20_PERIOD_15, S20_PERIOD_24, S20_PERIOD_1000000,
 };
-use super::models::{ROUND, SENSE_TO_ACT, SPORADIC};
+use super::models::{ROUND, SENSE_TO_ACT, SPORADIC, VALVE};
 use crate::base::{EMPTY, ONE, TWO};
+use crate::texts::Change;
 
 /// A base, what is changed in it, and the lines of the file's report after the title.
 pub(super) type ReportRow = (&'static str, &'static [Change], &'static [&'static str]);
 
-pub(super) const REPORT_ROWS: [ReportRow; 18] = [
+pub(super) const REPORT_ROWS: [ReportRow; 20] = [
     (EMPTY, &[], &[]),
     (
         TWO,
@@ -94,6 +95,22 @@ pub(super) const REPORT_ROWS: [ReportRow; 18] = [
             B_TAKES_5,
             NO_CHAIN,
             S10_JITTER_2,
+        ],
+        &[
+            "task A response 5 deadline 10",
+            "task B response 8 deadline 20",
+        ],
+    ),
+    // An offset isn't taken for the jitter, nor the jitter for the offset.
+    (
+        TWO,
+        &[
+            NO_CORE_C1,
+            B_ON_C0,
+            A_TAKES_3,
+            B_TAKES_5,
+            NO_CHAIN,
+            S10_OFFSET_7_JITTER_2,
         ],
         &[
             "task A response 5 deadline 10",
@@ -184,6 +201,16 @@ pub(super) const REPORT_ROWS: [ReportRow; 18] = [
             "task Act response 1400 deadline 20000",
             "task Fuse response 2500 deadline 10000",
             "chain sfa reaction 46898 age 46898 reduced 26898",
+        ],
+    ),
+    // 5000 + (12000 - 1 + 500) + 8000, and 12000 + 8000 + (5000 - 1 + 500)
+    (
+        VALVE,
+        &[],
+        &[
+            "task Sense response 500 deadline 5000",
+            "task Act response 900 deadline 8000",
+            "chain speed_to_valve reaction 25499 age 25499 reduced 13499",
         ],
     ),
 ];

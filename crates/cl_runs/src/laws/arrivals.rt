@@ -1,25 +1,34 @@
-//! What it means for a list of jobs to be lawful, in the words of each arrival pattern.
-ghost use Rattle.std.specs.Prelude.{◌≡◌, ℕ, List};
-ghost use Rattle.cl_model.specs.declared.stimulus.StimulusKind.TheVariants.{Periodic, Sporadic};
-ghost use Rattle.cl_runs.specs.TaskTiming.{Timing};
+//! What it means for a list of jobs to follow a pattern, in the words of each kind of pattern.
+ghost use Rattle.std.specs.Prelude.{ℕ, List};
+ghost use Rattle.cl_model.specs.declared.stimulus.StimulusKind.TheVariants.{Periodic, Sporadic, Burst};
 ghost use Rattle.cl_runs.specs.declared.job.Job.{Job};
-ghost use Rattle.cl_runs.specs.Table.{AreLawfulJobs};
-ghost use Rattle.cl_runs.specs.Arrivals.{FollowsPeriod, FollowsGaps};
+ghost use Rattle.cl_runs.specs.Pattern.{IsPattern};
+ghost use Rattle.cl_runs.specs.Arrivals.{FollowPattern};
+ghost use Rattle.cl_runs.specs.ArrivalsByKind.{FollowsPeriod, FollowsGaps, FollowsBursts};
 
-/// The jobs of a periodic task are lawful exactly where job `k` is one that arrives at `offset + k * period`, and the
-/// next arrival isn't due in the run.
+/// Jobs follow a periodic pattern exactly where job `k` arrives at `offset + k * period`, and the next arrival isn't due
+/// in the run.
 pub fn periodic_arrivals()
-    ensures lawful { (task : Timing) (ticks period offset jitter : ℕ) → task.pattern ≡ Periodic period offset jitter
-        → (jobs : List Job) → AreLawfulJobs task ticks jobs → FollowsPeriod task ticks period offset jobs }
-    ensures follows { (task : Timing) (ticks period offset jitter : ℕ) → task.pattern ≡ Periodic period offset jitter
-        → (jobs : List Job) → FollowsPeriod task ticks period offset jobs → AreLawfulJobs task ticks jobs }
+    ensures follow { (ticks period offset jitter : ℕ) (jobs : List Job)
+        → FollowPattern (Periodic period offset jitter) ticks jobs → FollowsPeriod ticks period offset jitter jobs }
+    ensures back { (ticks period offset jitter : ℕ) (jobs : List Job)
+        → FollowsPeriod ticks period offset jitter jobs → FollowPattern (Periodic period offset jitter) ticks jobs }
 {}
 
-/// The jobs of a sporadic task are lawful exactly where the first arrives below the greatest gap, the gaps lie between
-/// the least and the greatest, and no further arrival is due in the run.
+/// Jobs follow a sporadic pattern exactly where the first arrives below the greatest gap, the gaps lie between the
+/// least and the greatest, and no further arrival is due in the run.
 pub fn sporadic_arrivals()
-    ensures lawful { (task : Timing) (ticks least greatest : ℕ) → task.pattern ≡ Sporadic least greatest
-        → (jobs : List Job) → AreLawfulJobs task ticks jobs → FollowsGaps task ticks least greatest jobs }
-    ensures follows { (task : Timing) (ticks least greatest : ℕ) → task.pattern ≡ Sporadic least greatest
-        → (jobs : List Job) → FollowsGaps task ticks least greatest jobs → AreLawfulJobs task ticks jobs }
+    ensures follow { (ticks least greatest : ℕ) (jobs : List Job)
+        → FollowPattern (Sporadic least greatest) ticks jobs → FollowsGaps ticks least greatest jobs }
+    ensures back { (ticks least greatest : ℕ) (jobs : List Job)
+        → FollowsGaps ticks least greatest jobs → FollowPattern (Sporadic least greatest) ticks jobs }
+{}
+
+/// Jobs follow well-formed bursts exactly where job `q * count + r`, with `r < count`, arrives and is released at
+/// `offset + q * period + r * distance`, and the next arrival isn't due in the run.
+pub fn burst_arrivals()
+    ensures follow { (ticks period offset count distance : ℕ) → IsPattern (Burst period offset count distance) → (jobs : List Job)
+        → FollowPattern (Burst period offset count distance) ticks jobs → FollowsBursts ticks period offset count distance jobs }
+    ensures back { (ticks period offset count distance : ℕ) → IsPattern (Burst period offset count distance) → (jobs : List Job)
+        → FollowsBursts ticks period offset count distance jobs → FollowPattern (Burst period offset count distance) ticks jobs }
 {}

@@ -7,7 +7,9 @@ ghost use Rattle.cl_model.specs.declared.group.Group.{Group};
 ghost use Rattle.cl_model.specs.declared.group.Step.{Step};
 ghost use Rattle.cl_model.specs.Groups.{groups};
 ghost use Rattle.cl_runs.specs.Chains.{JobChain, first_job, last_job, IsForwardChain, IsAgeChain, IsReducedChain};
-ghost use Rattle.cl_runs.specs.RunChains.{run_moments};
+ghost use Rattle.cl_runs.specs.RunChains.{run_moments, ideal_moments};
+ghost use Rattle.cl_runs.specs.MomentOrder.{AreGroupsOf};
+ghost use Rattle.cl_runs.specs.Measured.{Measured, IsMeasured};
 
 /// A run has at most one complete forward chain for a first job, and at most one complete backward chain for a last job.
 pub fn complete_chains_are_unique()
@@ -30,4 +32,35 @@ pub fn complete_chains_end_later()
         → IsAgeChain (run_moments system run) (groups steps) chain → chain.from < chain.to }
     ensures reduced { (system : System) → IsSound system → (run : Run) → IsLegal system run → (steps : List Step) (chain : JobChain)
         → IsReducedChain (run_moments system run) (groups steps) chain → chain.from < chain.to }
+{}
+
+/// So are chains over the ideal moments of periodic timed tasks.
+pub fn ideal_chains_are_unique()
+    ensures forward { (system : System) (groups : List Group) (one other : JobChain)
+        → IsForwardChain (ideal_moments system) groups one → IsForwardChain (ideal_moments system) groups other
+        → first_job one ≡ first_job other → one ≡ other }
+    ensures age { (system : System) (groups : List Group) (one other : JobChain)
+        → IsAgeChain (ideal_moments system) groups one → IsAgeChain (ideal_moments system) groups other
+        → last_job one ≡ last_job other → one ≡ other }
+    ensures reduced { (system : System) (groups : List Group) (one other : JobChain)
+        → IsReducedChain (ideal_moments system) groups one → IsReducedChain (ideal_moments system) groups other
+        → last_job one ≡ last_job other → one ≡ other }
+{}
+
+/// And they end after they begin.
+pub fn ideal_chains_end_later()
+    ensures forward { (system : System) → IsSound system → (groups : List Group) → AreGroupsOf system groups → (chain : JobChain)
+        → IsForwardChain (ideal_moments system) groups chain → chain.from < chain.to }
+    ensures age { (system : System) → IsSound system → (groups : List Group) → AreGroupsOf system groups → (chain : JobChain)
+        → IsAgeChain (ideal_moments system) groups chain → chain.from < chain.to }
+    ensures reduced { (system : System) → IsSound system → (groups : List Group) → AreGroupsOf system groups → (chain : JobChain)
+        → IsReducedChain (ideal_moments system) groups chain → chain.from < chain.to }
+{}
+
+/// What is measured in a run, or over ideal moments, is unique.
+pub fn what_is_measured_is_unique()
+    ensures run { (system : System) (run : Run) (groups : List Group) (one other : Measured)
+        → IsMeasured (run_moments system run) groups one → IsMeasured (run_moments system run) groups other → one ≡ other }
+    ensures ideal { (system : System) (groups : List Group) (one other : Measured)
+        → IsMeasured (ideal_moments system) groups one → IsMeasured (ideal_moments system) groups other → one ≡ other }
 {}

@@ -1,18 +1,23 @@
 //! Not empty, and extension: a legal run goes on to every greater length, and what has happened stays.
 ghost use Rattle.std.specs.Prelude.{◌≡◌, ℕ, ◌<◌, ◌≤◌, List};
 ghost use Rattle.cl_runs.specs.TaskTiming.{System, IsSound};
+ghost use Rattle.cl_runs.specs.declared.job.JobTable.{JobTable};
+ghost use Rattle.cl_runs.specs.Table.{IsLawful};
 ghost use Rattle.cl_runs.specs.Run.{Run, empty_run};
 ghost use Rattle.cl_runs.specs.Legal.{IsLegal};
 ghost use Rattle.cl_runs.specs.Moments.{Starts, Finishes, Reads, Writes};
 ghost use Rattle.cl_runs.specs.GoesOn.{GoesOn};
+ghost use Rattle.cl_runs.specs.Continuation.{IsContinuation, HasContinuation};
 ghost use Rattle.cl_model.specs.declared.group.Group.{Group};
 ghost use Rattle.cl_runs.specs.Chains.{JobChain, IsForwardChain, IsAgeChain, IsReducedChain};
 ghost use Rattle.cl_runs.specs.RunChains.{run_moments};
 
-/// The run of no ticks is legal, so each sound system has a legal run of every length.
+/// The run of no ticks is legal, each lawful table has a legal run, and so a sound system has one of every length.
 pub fn there_are_legal_runs()
     ensures empty { (system : System) → IsLegal system (empty_run system) }
     ensures every_length { (system : System) → IsSound system → (ticks : ℕ) → (run : Run) × (run.table.ticks ≡ ticks) × IsLegal system run }
+    ensures every_table { (system : System) → IsSound system → (table : JobTable) → IsLawful system table
+        → (run : Run) × (run.table ≡ table) × IsLegal system run }
 {}
 
 /// Each legal run goes on to a legal run of every greater length.
@@ -61,4 +66,13 @@ pub fn complete_chains_stay()
     ensures reduced { (system : System) → IsSound system → (shorter longer : Run) → IsLegal system shorter → IsLegal system longer
         → GoesOn shorter longer → (groups : List Group) (chain : JobChain)
         → IsReducedChain (run_moments system shorter) groups chain → IsReducedChain (run_moments system longer) groups chain }
+{}
+
+/// A legal run that goes on from a legal run of a sound system has its moments and chains, and there is one of every
+/// greater length.
+pub fn legal_runs_have_continuations()
+    ensures continuation { (system : System) → IsSound system → (shorter : Run) → IsLegal system shorter
+        → (longer : Run) → IsLegal system longer → GoesOn shorter longer → IsContinuation system shorter longer }
+    ensures every_length { (system : System) → IsSound system → (run : Run) → IsLegal system run
+        → (ticks : ℕ) → run.table.ticks ≤ ticks → HasContinuation system run ticks }
 {}

@@ -1,9 +1,11 @@
 //! Moments are unique, a job that has written has read, and moments rise with the job number.
-ghost use Rattle.std.specs.Prelude.{◌≡◌, ℕ, ◌<◌, ◌≤◌, length};
+ghost use Rattle.std.specs.Prelude.{◌≡◌, ℕ, ◌+◌, ◌<◌, ◌≤◌, length};
+ghost use Rattle.cl_model.specs.declared.task.AccessKind.TheVariants.{Timed};
 ghost use Rattle.cl_runs.specs.TaskTiming.{System, timing_at, IsSound};
-ghost use Rattle.cl_runs.specs.Run.{Run};
+ghost use Rattle.cl_runs.specs.Table.{job_at};
+ghost use Rattle.cl_runs.specs.Run.{Run, jobs_of};
 ghost use Rattle.cl_runs.specs.Legal.{IsLegal};
-ghost use Rattle.cl_runs.specs.Moments.{Starts, Finishes, Reads, Writes};
+ghost use Rattle.cl_runs.specs.Moments.{Starts, Finishes, JobFinishes, Reads, HasReadBefore, Writes};
 
 /// A runnable of a job starts, finishes, reads and writes at most once.
 pub fn moments_are_unique()
@@ -32,10 +34,22 @@ pub fn writers_have_read()
         → (r : ℕ) × (r < t) × Reads system run i k p r }
 {}
 
+/// In a legal run the jobs before one that has read have read before, at each runnable.
+pub fn earlier_jobs_have_read()
+    ensures { (system : System) → IsSound system → (run : Run) → IsLegal system run → (i k p l q t : ℕ)
+        → k < l → p < length (timing_at system i).ranges → Reads system run i l q t → HasReadBefore system run i k p t }
+{}
+
 /// In a legal run reads rise strictly with the job number, and so do the writes of jobs that write.
 pub fn moments_rise()
     ensures reads { (system : System) → IsSound system → (run : Run) → IsLegal system run → (i k p l q s t : ℕ)
         → k < l → Reads system run i k p s → Reads system run i l q t → s < t }
     ensures writes { (system : System) → IsSound system → (run : Run) → IsLegal system run → (i k p l q s t : ℕ)
         → k < l → Writes system run i k p s → Writes system run i l q t → s < t }
+{}
+
+/// A timed job that finishes after its deadline writes nothing.
+pub fn late_timed_jobs_write_nothing()
+    ensures { (system : System) (run : Run) (i k p f t : ℕ) → (timing_at system i).access ≡ Timed → JobFinishes system run i k f
+        → (job_at (jobs_of run i) k).arrival + (timing_at system i).deadline < f → Writes system run i k p t → ⊥ }
 {}

@@ -1,9 +1,28 @@
 //! Progress: executed ticks never exceed released work, and a finish is where they reach the work up to it.
-ghost use Rattle.std.specs.Prelude.{ℕ, ◌<◌, ◌≤◌, length};
+ghost use Rattle.std.specs.Prelude.{◌≡◌, ℕ, suc, Some, ◌+◌, ◌-◌, ◌<◌, ◌≤◌, length};
 ghost use Rattle.cl_runs.specs.TaskTiming.{System, timing_at, IsSound};
-ghost use Rattle.cl_runs.specs.Run.{Run, jobs_of, executed};
+ghost use Rattle.cl_runs.specs.Table.{job_at};
+ghost use Rattle.cl_runs.specs.Run.{Run, jobs_of, core_entries, entry_at, executed};
 ghost use Rattle.cl_runs.specs.Legal.{released, IsLegal};
-ghost use Rattle.cl_runs.specs.Moments.{work_through, Finishes};
+ghost use Rattle.cl_runs.specs.Work.{work_before, work_through};
+ghost use Rattle.cl_runs.specs.Moments.{Starts, Finishes, HasStartedBefore};
+
+/// The executed ticks of a task grow by one in each tick in which it runs, and stay in each other tick.
+pub fn executed_ticks_grow_where_a_task_runs()
+    ensures none { (system : System) (run : Run) (i : ℕ) → executed system run i 0 ≡ 0 }
+    // over one tick
+    ensures runs { (system : System) (run : Run) (i t : ℕ) → t < length (core_entries run (timing_at system i).core)
+        → entry_at run (timing_at system i).core t ≡ Some i → executed system run i (suc t) ≡ suc (executed system run i t) }
+    ensures rests { (system : System) (run : Run) (i t : ℕ) → t < length (core_entries run (timing_at system i).core)
+        → (entry_at run (timing_at system i).core t ≡ Some i → ⊥) → executed system run i (suc t) ≡ executed system run i t }
+    // over a stretch of ticks
+    ensures runs_on { (system : System) (run : Run) (i s t : ℕ) → s ≤ t → t ≤ length (core_entries run (timing_at system i).core)
+        → ((u : ℕ) → s ≤ u → u < t → entry_at run (timing_at system i).core u ≡ Some i)
+        → executed system run i t ≡ executed system run i s + (t - s) }
+    ensures rests_on { (system : System) (run : Run) (i s t : ℕ) → s ≤ t → t ≤ length (core_entries run (timing_at system i).core)
+        → ((u : ℕ) → s ≤ u → u < t → entry_at run (timing_at system i).core u ≡ Some i → ⊥)
+        → executed system run i t ≡ executed system run i s }
+{}
 
 /// In a legal run no more is executed than is released.
 pub fn executed_within_released()
@@ -23,4 +42,40 @@ pub fn finish_reaches_work()
     ensures exists { (system : System) (run : Run) (i k p t : ℕ) → k < length (jobs_of run i) → p < length (timing_at system i).ranges
         → t ≤ run.table.ticks → work_through (jobs_of run i) k p ≤ executed system run i t
         → (f : ℕ) × (f ≤ t) × Finishes system run i k p f }
+{}
+
+/// A runnable starts at the moment from which on more is executed than the work before it.
+pub fn start_begins_work()
+    // from its start on, more is executed
+    ensures begun { (system : System) (run : Run) (i k p s t : ℕ) → Starts system run i k p s → s < t
+        → work_before (jobs_of run i) k p < executed system run i t }
+    // and not before
+    ensures earliest { (system : System) (run : Run) (i k p s t : ℕ) → Starts system run i k p s
+        → work_before (jobs_of run i) k p < executed system run i t → s < t }
+    // and in a legal run it has started where more is executed
+    ensures exists { (system : System) → IsSound system → (run : Run) → IsLegal system run → (i k p t : ℕ)
+        → k < length (jobs_of run i) → p < length (timing_at system i).ranges
+        → work_before (jobs_of run i) k p < executed system run i t → HasStartedBefore system run i k p t }
+    // hence where the work up to it is
+    ensures through { (system : System) → IsSound system → (run : Run) → IsLegal system run → (i k p t : ℕ)
+        → k < length (jobs_of run i) → p < length (timing_at system i).ranges
+        → work_through (jobs_of run i) k p ≤ executed system run i t → HasStartedBefore system run i k p t }
+    // and where a later job has started
+    ensures earlier { (system : System) → IsSound system → (run : Run) → IsLegal system run → (i k p l q t : ℕ)
+        → k < l → p < length (timing_at system i).ranges → Starts system run i l q t → HasStartedBefore system run i k p t }
+{}
+
+/// In a legal run a job takes its time: a runnable starts after its job's release and the job's work before it, and
+/// finishes after that and its own.
+pub fn jobs_take_their_time()
+    ensures start { (system : System) → IsSound system → (run : Run) → IsLegal system run → (i : ℕ) → i < length system.tasks
+        → (k p t : ℕ) → Starts system run i k p t
+        → (job_at (jobs_of run i) k).release + work_before (jobs_of run i) k p ≤ t + work_before (jobs_of run i) k 0 }
+    ensures finish { (system : System) → IsSound system → (run : Run) → IsLegal system run → (i : ℕ) → i < length system.tasks
+        → (k p t : ℕ) → Finishes system run i k p t
+        → (job_at (jobs_of run i) k).release + work_through (jobs_of run i) k p ≤ t + work_before (jobs_of run i) k 0 }
+    // and two runnables finish as far apart as the work between them
+    ensures apart { (system : System) (run : Run) (i k p q s t : ℕ) → Finishes system run i k p s → Finishes system run i k q t
+        → work_through (jobs_of run i) k p ≤ work_through (jobs_of run i) k q
+        → s + work_through (jobs_of run i) k q ≤ t + work_through (jobs_of run i) k p }
 {}

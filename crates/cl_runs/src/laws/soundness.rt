@@ -1,8 +1,18 @@
-//! What the laws of runs ask of a system holds of each valid model.
+//! The system of a model: what the laws of runs ask of a system holds of each valid model.
+ghost use Rattle.std.specs.Prelude.{◌≡◌, ℕ, ◌<◌, length};
 ghost use Rattle.cl_model.specs.declared.model.SystemModel.{SystemModel};
+ghost use Rattle.cl_model.specs.ByNumber.{task_at};
 ghost use Rattle.cl_model.specs.Validity.{IsValid};
-ghost use Rattle.cl_runs.specs.TaskTiming.{IsSound};
-ghost use Rattle.cl_runs.specs.SystemOf.{system_of};
+ghost use Rattle.cl_runs.specs.TaskTiming.{timing_at, IsSound};
+ghost use Rattle.cl_runs.specs.SystemOf.{timing_of, system_of};
+
+/// The system of a model has the timing of each task at the task's place, and the model's number of cores.
+pub fn systems_have_the_tasks_of_their_models()
+    ensures cores { (model : SystemModel) → (system_of model).cores ≡ length model.cores }
+    ensures tasks { (model : SystemModel) → length (system_of model).tasks ≡ length model.tasks }
+    ensures timing { (model : SystemModel) (i : ℕ) → i < length model.tasks
+        → timing_at (system_of model) i ≡ timing_of model (task_at model i) }
+{}
 
 /// The timings of a valid model are sound.
 pub fn valid_models_are_sound()

@@ -1,4 +1,4 @@
-use Rattle.cl_analyse.proofs.Lists.{findings_are}
+use Rattle.cl_analyse.proofs.AnswerLists.{findings_are}
 use Rattle.cl_analyse.proofs.SafeFindings.{findings_safe}
 use Rattle.cl_analyse.proofs.analysing.analyse.Goals as goal
 

@@ -1,5 +1,5 @@
 use Rattle.std.proofs.Common.{arith}
-use Rattle.cl_analyse.proofs.Lists.{more_chains}
+use Rattle.cl_analyse.proofs.AnswerLists.{more_chains}
 use Rattle.cl_analyse.proofs.analysing.answer_chains.Goals as goal
 
 pub loop-chain-preserved : goal.loop-chain-preserved

@@ -1,5 +1,5 @@
 use Rattle.std.proofs.Common.{◌∙◌, arith}
-use Rattle.cl_analyse.proofs.Lists.{more_tasks, all_tasks}
+use Rattle.cl_analyse.proofs.AnswerLists.{more_tasks, all_tasks}
 use Rattle.cl_analyse.proofs.analysing.answer_tasks.Goals as goal
 
 pub loop-task-preserved : goal.loop-task-preserved

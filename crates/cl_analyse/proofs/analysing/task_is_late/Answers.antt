@@ -3,5 +3,5 @@ use Rattle.std.proofs.lemmas.Option.{gets}
 use Rattle.std.proofs.lemmas.Grind.{common_steps}
 use Rattle.cl_analyse.proofs.analysing.task_is_late.Goals as goal
 
-pub returns : goal.returns
-returns c = grind (arith, common_steps, gets)
+pub returns-in-None : goal.returns-in-None
+returns-in-None c = grind (arith, common_steps, gets)

@@ -9,7 +9,7 @@ loop-written-preserved g c =
     let answer = c.in-Ok.ensures.answer in
     record {
       fits = omega (arith, answer);
-      taken = answer.2 ∙ ap (λ w. appended w (take c.in-Ok.taken (take (length piece - c.loop-written.written) (drop c.loop-written.written piece)))) c.loop-written.invariant.taken ∙ appended-take _ c.loop-written.written c.in-Ok.taken piece;
-      faults = omega (arith, c.in-Ok.ensures.faults, c.loop-written.invariant.faults);
+      taken = answer.3 ∙ ap (λ w. appended w (take c.in-Ok.taken (take (length piece - c.loop-written.written) (drop c.loop-written.written piece)))) c.loop-written.invariant.taken ∙ appended-take _ c.loop-written.written c.in-Ok.taken piece;
+      faults = answer.2 ∙ c.loop-written.invariant.faults;
       untouched = λ h. absurd (omega (arith, answer));
     }

@@ -7,7 +7,7 @@ abbrev pub invariant-loop-written : goal.invariant-loop-written
 invariant-loop-written g l = record {
   fits : l.written ≤ length l.piece;
   taken : g.K.Sink.written l.sink ≡ appended (g.K.Sink.written l.fn.sink) (take l.written l.piece);
-  faults : g.K.Sink.faults l.fn.sink ≤ g.K.Sink.faults l.sink;
+  faults : g.K.Sink.faults l.sink ≡ g.K.Sink.faults l.fn.sink;
   untouched : l.written ≡ 0 → l.sink ≡ l.fn.sink;
 }
 

@@ -1,5 +1,5 @@
 use Rattle.std.proofs.Common.{◌≡◌, ◌++◌}
-use Rattle.cl_model.specs.Steps.{steps_in}
+use Rattle.cl_model.specs.Inner.StepTable.{steps_in}
 use Rattle.cl_model.proofs.groups.push_steps.Given as goal
 
 -- the steps so far stand behind the others

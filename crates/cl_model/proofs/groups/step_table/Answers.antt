@@ -1,4 +1,4 @@
-use Rattle.cl_model.proofs.ValidFacts.{runnables_pass}
+use Rattle.cl_model.proofs.NamesApart.{runnables_pass}
 use Rattle.cl_model.proofs.groups.step_table.Goals as goal
 
 pub names_of_runnables-requires : goal.names_of_runnables-requires

@@ -1,5 +1,5 @@
 use Rattle.std.proofs.Common.{◌≡◌, map, take}
-use Rattle.cl_model.specs.Steps.{step_in}
+use Rattle.cl_model.specs.Inner.StepTable.{step_in}
 use Rattle.cl_model.proofs.groups.steps_named.Given as goal
 
 -- the steps of the names so far

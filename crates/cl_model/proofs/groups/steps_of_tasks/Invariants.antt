@@ -1,5 +1,5 @@
 use Rattle.std.proofs.Common.{◌≡◌, take}
-use Rattle.cl_model.specs.Steps.{steps_from}
+use Rattle.cl_model.specs.Inner.StepTable.{steps_from}
 use Rattle.cl_model.proofs.groups.steps_of_tasks.Given as goal
 
 -- the steps of the tasks so far

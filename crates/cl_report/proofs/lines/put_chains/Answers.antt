@@ -1,7 +1,5 @@
-use Rattle.std.proofs.Common.{rules}
-use Rattle.std.proofs.lemmas.Result.{IfOk-equal}
 use Rattle.cl_report.specs.Report.{chain_line}
-use Rattle.cl_report.proofs.OneMore.{line_more}
+use Rattle.cl_report.proofs.ReportLines.{line_more}
 use Rattle.cl_report.proofs.lines.put_chains.Goals as goal
 
 pub loop-chain-preserved : goal.loop-chain-preserved

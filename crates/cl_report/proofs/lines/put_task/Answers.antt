@@ -2,7 +2,7 @@ use Rattle.std.proofs.Common.{rules}
 use Rattle.std.proofs.lemmas.List.{append_assoc}
 use Rattle.std.proofs.lemmas.Result.{IfOk-equal}
 use Rattle.cl_report.specs.Report.{task_line}
-use Rattle.cl_report.proofs.OneMore.{task_within, task_answer}
+use Rattle.cl_report.proofs.ReportLines.{task_within, task_answer}
 use Rattle.cl_report.proofs.lines.put_task.Goals as goal
 
 pub bounds-as_slice-task : goal.bounds-as_slice-task

@@ -1,9 +1,9 @@
 use Rattle.std.proofs.lemmas.Result.{IfOk-weaker}
-use Rattle.cl_top.specs.Fetch.{given}
-use Rattle.cl_top.proofs.Coming.{analysed_comes}
+use Rattle.cl_top.proofs.OfAnalyse.{analysis_comes, stop_comes}
 use Rattle.cl_top.proofs.running.analyse_file.Goals as goal
 
-pub returns : goal.returns
-returns g c =
-    let shelf = g.S.Shelf in
-    IfOk-weaker c.analysed.result _ _ (λ found follows. analysed_comes c.args.words.now (shelf.held c.args.shelf.now) (shelf.faults c.args.shelf.now) (shelf.faults c.fetch_file.new.shelf) (shelf.longest c.fetch_file.new.shelf) (given c.in_ok-fetch.fetch) found c.requires c.in_ok-fetch.ensures.gave follows) c.analysed.ensures
+pub returns-in-Valid-clause-comes : goal.returns-in-Valid-clause-comes
+returns-in-Valid-clause-comes g c = IfOk-weaker c.analysed.result _ _ (λ found is. analysis_comes _ _ _ _ _ c.requires found c.in_ok-model.ensures.opened.0 c.in_ok-model.ensures.opened.1 c.in-Valid.model _ c.in_ok-model.ensures.opened.2 c.in-Valid.is is) c.analysed.ensures.outcome
+
+pub returns-in-Stopped-clause-comes : goal.returns-in-Stopped-clause-comes
+returns-in-Stopped-clause-comes g c = stop_comes _ _ _ _ _ c.requires _ c.in_ok-model.ensures.opened.0 c.in_ok-model.ensures.opened.1 _ c.in_ok-model.ensures.opened.2 c.in-Stopped.is

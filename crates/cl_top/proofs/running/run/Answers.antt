@@ -1,11 +1,41 @@
-use Rattle.cl_io.specs.Counts.{Rose}
-use Rattle.cl_top.proofs.SafeReport.{reports_safely}
+use Rattle.std.proofs.Common.{inr}
+use Rattle.cl_top.proofs.Endings.{words_refused_by, no_command_ends, read_fault_ends, long_file_ends, write_fault_ends, no_memory_ends, other_status_ends, unfailed_ends}
+use Rattle.cl_top.proofs.SafeReport.{reports_some, reports_told}
+use Rattle.cl_top.proofs.Tellings.{told_ends, told_keeps}
 use Rattle.cl_top.proofs.running.run.Goals as goal
 
+pub returns-in-Ok-clause-words_refused : goal.returns-in-Ok-clause-words_refused
+returns-in-Ok-clause-words_refused g c = words_refused_by _ _ _ _ _ _ _ _ _ _ _ c.in-Ok.ensures.comes c.carry_out.ensures
+
+pub returns-in-Ok-clause-no_command : goal.returns-in-Ok-clause-no_command
+returns-in-Ok-clause-no_command g c = no_command_ends _ _ _ _ _ _ _ _ _ _ _ c.in-Ok.ensures.comes c.carry_out.ensures
+
+pub returns-in-Ok-clause-read_fault : goal.returns-in-Ok-clause-read_fault
+returns-in-Ok-clause-read_fault g c = read_fault_ends _ _ _ _ _ _ _ _ _ _ _ c.in-Ok.ensures.comes c.carry_out.ensures
+
+pub returns-in-Ok-clause-long_file : goal.returns-in-Ok-clause-long_file
+returns-in-Ok-clause-long_file g c = long_file_ends _ _ _ _ _ _ _ _ _ _ _ c.in-Ok.ensures.comes c.carry_out.ensures
+
+pub returns-in-Ok-clause-write_fault : goal.returns-in-Ok-clause-write_fault
+returns-in-Ok-clause-write_fault g c = write_fault_ends _ _ _ _ _ _ _ _ _ _ _ c.in-Ok.ensures.comes c.carry_out.ensures
+
+pub returns-in-Ok-clause-out_of_memory : goal.returns-in-Ok-clause-out_of_memory
+returns-in-Ok-clause-out_of_memory g c = no_memory_ends _ _ _ _ _ _ _ _ _ _ _ c.in-Ok.ensures.comes c.carry_out.ensures
+
+pub returns-in-Ok-clause-other_status : goal.returns-in-Ok-clause-other_status
+returns-in-Ok-clause-other_status g c = other_status_ends _ _ _ _ _ _ _ _ _ _ _ c.in-Ok.ensures.comes c.carry_out.ensures
+
+pub returns-in-Ok-clause-unfailed : goal.returns-in-Ok-clause-unfailed
+returns-in-Ok-clause-unfailed g c = unfailed_ends _ _ _ _ _ _ _ _ _ _ _ c.in-Ok.ensures.comes c.carry_out.ensures
+
+pub returns-in-Ok-clause-told_files : goal.returns-in-Ok-clause-told_files
+returns-in-Ok-clause-told_files g c = λ contents tells. inr (told_ends _ _ _ _ _ contents _ _ _ _ _ _ c.in-Ok.ensures.comes c.carry_out.ensures tells)
+
+pub returns-in-Ok-clause-told : goal.returns-in-Ok-clause-told
+returns-in-Ok-clause-told g c = λ none unfailed contents tells. inr (told_keeps _ _ _ _ _ contents _ _ _ _ _ _ c.in-Ok.ensures.comes c.carry_out.ensures none unfailed tells)
+
+pub returns-in-Ok-clause-reported : goal.returns-in-Ok-clause-reported
+returns-in-Ok-clause-reported g c = reports_some _ _ _ _ _ _ _ _ _ _ _ c.in-Ok.ensures.comes c.carry_out.ensures
+
 pub returns-in-Ok-clause-headline : goal.returns-in-Ok-clause-headline
-returns-in-Ok-clause-headline g c =
-    let shelf = g.S.Shelf in
-    let sink = g.K.Sink in
-    reports_safely c.args.words.now (shelf.held c.args.shelf.now) (shelf.faults c.args.shelf.now) (shelf.faults c.find_outcome.new.shelf) (shelf.longest c.find_outcome.new.shelf)
-    sink.written (Rose (sink.faults c.args.sink.now) (sink.faults c.carry_out.new.sink)) c.args.sink.now c.carry_out.new.sink c.in-Ok.outcome c.carry_out.result
-    c.in-Ok.ensures c.carry_out.ensures
+returns-in-Ok-clause-headline g c = λ done analyse bytes tells. reports_told _ _ _ _ bytes (reports_some _ _ _ _ _ _ _ _ _ _ _ c.in-Ok.ensures.comes c.carry_out.ensures done analyse) tells

@@ -1,8 +1,8 @@
-use Rattle.std.proofs.Common.{◌≡◌, [], take}
-use Rattle.cl_model.specs.Refusals.{each}
-use Rattle.cl_valid.specs.Kept.{kept_hop_check}
+use Rattle.std.proofs.Common.{◌≡◌, drop}
+use Rattle.cl_model.specs.Refusals.{each, each_from}
+use Rattle.cl_valid.specs.Inner.ChainsByTable.{use_hop_check}
 use Rattle.cl_valid.proofs.chains.check_hops.Given as goal
 
--- nothing is refused so far
+-- what is refused in all is what is refused in the rest
 abbrev pub invariant-loop-k : goal.invariant-loop-k
-invariant-loop-k l = each (kept_hop_check l.runnables l.accesses l.chain l.place) (take l.k l.labels) ≡ []
+invariant-loop-k l = each (use_hop_check l.runnables l.uses l.chain l.place) l.chain.labels ≡ each_from l.k (use_hop_check l.runnables l.uses l.chain l.place) (drop l.k l.labels)

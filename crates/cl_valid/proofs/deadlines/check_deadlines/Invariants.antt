@@ -1,8 +1,8 @@
-use Rattle.std.proofs.Common.{◌≡◌, [], take}
-use Rattle.cl_model.specs.Refusals.{each}
+use Rattle.std.proofs.Common.{◌≡◌, drop}
+use Rattle.cl_model.specs.Refusals.{each, each_from}
 use Rattle.cl_model.specs.ValidTasks.{deadline_check}
 use Rattle.cl_valid.proofs.deadlines.check_deadlines.Given as goal
 
--- nothing is refused so far
+-- what is refused in all is what is refused in the rest
 abbrev pub invariant-loop-i : goal.invariant-loop-i
-invariant-loop-i l = each (deadline_check l.model) (take l.i l.tasks) ≡ []
+invariant-loop-i l = each (deadline_check l.model) l.model.tasks ≡ each_from l.i (deadline_check l.model) (drop l.i l.tasks)

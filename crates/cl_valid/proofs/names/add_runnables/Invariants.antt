@@ -1,18 +1,11 @@
-use Rattle.std.proofs.Common.{◌≡◌, [], ◌++◌, take}
 use Rattle.cl_model.specs.declared.place.Key.TheVariants as key
 use Rattle.cl_model.specs.declared.place.Part.TheVariants as part
 use Rattle.cl_model.specs.declared.refusal.Code.TheVariants.{M24}
 use Rattle.cl_model.specs.Named.{runnable_names}
 use Rattle.cl_model.specs.Place.{entry_of, at_key, at_sub}
-use Rattle.cl_model.specs.Refusals.{each}
-use Rattle.cl_model.specs.ValidNames.{repeat_check}
+use Rattle.cl_valid.proofs.AddedNames.{AreAdded}
 use Rattle.cl_valid.proofs.names.add_runnables.Given as goal
 
 -- the names so far are new, and they are added
 abbrev pub invariant-loop-p : goal.invariant-loop-p
-invariant-loop-p l =
-    let all = runnable_names l.runnables in
-    record {
-      names : l.names ≡ l.fn.names ++ take l.p all;
-      none : each (repeat_check M24 (λ p. at_key key.Name (at_sub p (entry_of part.Task l.i))) l.fn.names all) (take l.p all) ≡ [];
-    }
+invariant-loop-p l = AreAdded M24 (λ p. at_key key.Name (at_sub p (entry_of part.Task l.i))) l.fn.names (runnable_names l.runnables) l.p l.names

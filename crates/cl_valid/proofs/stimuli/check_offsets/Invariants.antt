@@ -1,8 +1,8 @@
-use Rattle.std.proofs.Common.{◌≡◌, [], take}
-use Rattle.cl_model.specs.Refusals.{each}
+use Rattle.std.proofs.Common.{◌≡◌, drop}
+use Rattle.cl_model.specs.Refusals.{each, each_from}
 use Rattle.cl_model.specs.ValidNames.{offset_check}
 use Rattle.cl_valid.proofs.stimuli.check_offsets.Given as goal
 
--- nothing is refused so far
+-- what is refused in all is what is refused in the rest
 abbrev pub invariant-loop-i : goal.invariant-loop-i
-invariant-loop-i l = each offset_check (take l.i l.stimuli) ≡ []
+invariant-loop-i l = each offset_check l.stimuli ≡ each_from l.i offset_check (drop l.i l.stimuli)

@@ -2,10 +2,10 @@ use Rattle.cl_bound.proofs.SettledChains.{limited}
 use Rattle.cl_bound.proofs.laws.sums.bounds_are_limited.Goals as goal
 
 pub returns-clause-reaction : goal.returns-clause-reaction
-returns-clause-reaction c = λ system sound groups chain most within. (limited system sound groups chain most within).0
+returns-clause-reaction c = λ system sound groups chain most within. (limited system sound groups chain most within).reaction
 
 pub returns-clause-age : goal.returns-clause-age
-returns-clause-age c = λ system sound groups chain most within. (limited system sound groups chain most within).1
+returns-clause-age c = λ system sound groups chain most within. (limited system sound groups chain most within).age
 
 pub returns-clause-reduced : goal.returns-clause-reduced
-returns-clause-reduced c = λ system sound groups chain most within. (limited system sound groups chain most within).2
+returns-clause-reduced c = λ system sound groups chain most within. (limited system sound groups chain most within).reduced

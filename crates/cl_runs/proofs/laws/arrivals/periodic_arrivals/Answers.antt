@@ -1,8 +1,8 @@
-use Rattle.cl_runs.proofs.PatternLaws.{lawful_periodic, periodic_lawful}
+use Rattle.cl_runs.proofs.PatternLaws.{pattern_period, period_pattern}
 use Rattle.cl_runs.proofs.laws.arrivals.periodic_arrivals.Goals as goal
 
-pub returns-clause-lawful : goal.returns-clause-lawful
-returns-clause-lawful c = lawful_periodic
+pub returns-clause-follow : goal.returns-clause-follow
+returns-clause-follow c = pattern_period
 
-pub returns-clause-follows : goal.returns-clause-follows
-returns-clause-follows c = periodic_lawful
+pub returns-clause-back : goal.returns-clause-back
+returns-clause-back c = period_pattern

@@ -1,8 +1,8 @@
-use Rattle.cl_runs.proofs.PatternLaws.{lawful_sporadic, sporadic_lawful}
+use Rattle.cl_runs.proofs.PatternLaws.{pattern_gaps, gaps_pattern}
 use Rattle.cl_runs.proofs.laws.arrivals.sporadic_arrivals.Goals as goal
 
-pub returns-clause-lawful : goal.returns-clause-lawful
-returns-clause-lawful c = lawful_sporadic
+pub returns-clause-follow : goal.returns-clause-follow
+returns-clause-follow c = pattern_gaps
 
-pub returns-clause-follows : goal.returns-clause-follows
-returns-clause-follows c = sporadic_lawful
+pub returns-clause-back : goal.returns-clause-back
+returns-clause-back c = gaps_pattern

@@ -1,4 +1,4 @@
-use Rattle.cl_runs.proofs.ChainsOrdered.{run_forward_ordered, run_age_ordered, run_reduced_ordered}
+use Rattle.cl_runs.proofs.ChainsOfRuns.{run_forward_ordered, run_age_ordered, run_reduced_ordered}
 use Rattle.cl_runs.proofs.laws.chains.complete_chains_end_later.Goals as goal
 
 pub returns-clause-forward : goal.returns-clause-forward

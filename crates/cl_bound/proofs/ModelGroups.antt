@@ -1,0 +1,90 @@
+-- The groups of a model's chains in the model's system: they are groups of it, and their timings by field.
+use Rattle.std.proofs.Common.{◌≡◌, ℕ, ◌<◌, Bool, false, List, length, get_or, sym, ap, ◌∙◌, arith}
+use Rattle.std.specs.Prelude.{All}
+use Rattle.std.proofs.lemmas.List.{get_or_default}
+use Rattle.std.proofs.lemmas.List.Elements.{All-weaker}
+use Rattle.std.proofs.Math.ListN.{length-map}
+use Rattle.cl_model.specs.declared.model.SystemModel.{SystemModel}
+use Rattle.cl_model.specs.declared.group.Group.{Group}
+use Rattle.cl_model.specs.declared.task.TaskDef.{TaskDef}
+use Rattle.cl_model.specs.Groups.{IsGroupOf}
+use Rattle.cl_model.specs.ByNumber.{task_at, core_of, jitter_of, stimulus_of}
+use Rattle.cl_model.specs.Timing.{greatest_distance, greatest_jitter}
+use Rattle.cl_runs.specs.TaskTiming.{Timing, timing_at}
+use Rattle.cl_runs.specs.SystemOf.{range_of, system_of}
+use Rattle.cl_runs.proofs.ModelSystem.{timing_is, count_is}
+use Rattle.cl_comm.specs.AccessMoments.{is_timed}
+use Rattle.cl_comm.specs.Windows.{window_at}
+use Rattle.cl_resp.specs.Response.{IsSettled}
+use Rattle.cl_bound.specs.declared.answer.TaskAnswer.{TaskAnswer}
+use Rattle.cl_bound.specs.declared.answer.TaskAnswer.TheVariants.{Late}
+use Rattle.cl_bound.specs.Answers.{answers_of, answer_to, answer_at, is_late, response_in, NoneIsLate}
+use Rattle.cl_bound.proofs.SettledTasks.{settled_task}
+use Rattle.cl_bound.specs.declared.group_timing.GroupTiming.{GroupTiming}
+use Rattle.cl_bound.specs.Hops.{group_timing}
+use Rattle.cl_bound.specs.Bounds.{settled_timing}
+use Rattle.cl_bound.specs.SettledChains.{IsGroupOfTask, IsSettledChain}
+
+-- a task has as many ranges as runnables
+pub ranges_of_task : (model : SystemModel) (i : ℕ) → i < length model.tasks → length (timing_at (system_of model) i).ranges ≡ length (task_at model i).runnables
+ranges_of_task model i h = ap (λ (task : Timing). length task.ranges) (timing_is model i h) ∙ length-map (task_at model i).runnables range_of
+
+-- a group of a model is one of its system
+pub group_of_system : (model : SystemModel) (group : Group) → IsGroupOf model group → IsGroupOfTask (system_of model) group
+group_of_system model group is = record {
+  is_task = omega (arith, is.known, count_is model);
+  ordered = is.ordered;
+  is_runnable = omega (arith, is.within, ranges_of_task model group.task is.known);
+}
+
+-- a chain of a model, none of whose tasks is late
+pub settled_chain : (model : SystemModel) (chain : List Group) → All (IsGroupOf model) chain → NoneIsLate (answers_of (system_of model)) chain
+    → IsSettledChain (system_of model) chain
+settled_chain model chain are timely =
+    record { groups_of = All-weaker (IsGroupOf model) (IsGroupOfTask (system_of model)) (group_of_system model) chain are; settled = timely }
+
+abbrev timing_with : (task core priority : ℕ) (timed : Bool) (jitter distance read write : ℕ) → GroupTiming
+timing_with task core priority timed jitter distance read write =
+    record { task = task; core = core; priority = priority; is_timed = timed; jitter = jitter; distance = distance; read = read; write = write }
+
+same_timing : (task c p : ℕ) (r : Bool) (j d a b core priority : ℕ) (timed : Bool) (jitter distance read write : ℕ)
+    → c ≡ core → p ≡ priority → r ≡ timed → j ≡ jitter → d ≡ distance → a ≡ read → b ≡ write
+    → timing_with task c p r j d a b ≡ timing_with task core priority timed jitter distance read write
+same_timing task c p r j d a b core priority timed jitter distance read write e f g h i k l = cc
+
+-- the timing of a group, by its fields
+pub timing_of_group : (model : SystemModel) (group : Group) (response : ℕ) (task : TaskDef) → IsGroupOf model group → task ≡ task_at model group.task
+    → response ≡ response_in (answer_at (answers_of (system_of model)) group.task) → (core jitter distance read write : ℕ) (timed : Bool)
+    → core ≡ core_of model group.task → timed ≡ is_timed task.access → jitter ≡ jitter_of model group.task
+    → distance ≡ greatest_distance (stimulus_of model group.task)
+    → read ≡ (window_at (timing_at (system_of model) group.task) group.first response).rlo
+    → write ≡ (window_at (timing_at (system_of model) group.task) group.last response).whi
+    → ◌≡◌ {A = GroupTiming} (record { task = group.task; core = core; priority = task.priority; is_timed = timed; jitter = jitter; distance = distance; read = read; write = write })
+    (settled_timing (system_of model) group)
+unfolding group_timing
+timing_of_group model group response task is task_is responds core jitter distance read write timed core_is timed_is jitter_is distance_is read_is write_is =
+    let timing = sym (timing_is model group.task is.known) in
+    same_timing _ _ _ _ _ _ _ _ _ _ _ _ _ _ _
+    (core_is ∙ ap (λ (t : Timing). t.core) timing)
+    (ap (λ (t : TaskDef). t.priority) task_is ∙ ap (λ (t : Timing). t.priority) timing)
+    (timed_is ∙ ap (λ (t : TaskDef). is_timed t.access) task_is ∙ ap (λ (t : Timing). is_timed t.access) timing)
+    (jitter_is ∙ ap (λ (t : Timing). greatest_jitter t.pattern) timing)
+    (distance_is ∙ ap (λ (t : Timing). greatest_distance t.pattern) timing)
+    (read_is ∙ ap (λ (r : ℕ). (window_at (timing_at (system_of model) group.task) group.first r).rlo) responds)
+    (write_is ∙ ap (λ (r : ℕ). (window_at (timing_at (system_of model) group.task) group.last r).whi) responds)
+
+-- the response of a task, from its answer in the list of all answers
+pub response_found : (model : SystemModel) (answers : List TaskAnswer) (i : ℕ) (answer : TaskAnswer) (response : ℕ) → i < length model.tasks
+    → answers ≡ answers_of (system_of model) → answer ≡ get_or answers i answer → response ≡ response_in answer
+    → response ≡ response_in (answer_at (answers_of (system_of model)) i)
+unfolding answers_of
+response_found model answers i answer response lt are at is =
+    let within : i < length answers = omega (arith, lt, count_is model, ap length are, length-map (system_of model).tasks (answer_to (system_of model))) in
+    is ∙ ap response_in (at ∙ get_or_default answers i answer Late within ∙ ap (λ (list : List TaskAnswer). answer_at list i) are)
+
+pub settled_response : (model : SystemModel) (answers : List TaskAnswer) (i : ℕ) (answer : TaskAnswer) (response : ℕ) → i < length model.tasks
+    → answers ≡ answers_of (system_of model) → is_late (answer_at answers i) ≡ false → answer ≡ get_or answers i answer → response ≡ response_in answer
+    → IsSettled (system_of model) i response
+settled_response model answers i answer response lt are timely at is =
+    rw (response_found model answers i answer response lt are at is)
+    (settled_task (system_of model) i (omega (arith, lt, count_is model)) (rw are at timely))

@@ -1,0 +1,28 @@
+-- A task that isn't late is settled.
+use Rattle.std.proofs.Common.{◌≡◌, ℕ, ◌<◌, false, Option, Some, None, length, refl, sym, ap, ◌∙◌, subst}
+use Rattle.std.proofs.lemmas.Bool.{true≢false}
+use Rattle.std.proofs.lemmas.List.{get_or-map}
+use Rattle.cl_runs.specs.TaskTiming.{System, timing_at, no_timing}
+use Rattle.cl_resp.specs.Question.{question_of}
+use Rattle.cl_resp.specs.Response.{Response, response_to, IsSettled}
+use Rattle.cl_bound.specs.declared.answer.TaskAnswer.{TaskAnswer}
+use Rattle.cl_bound.specs.declared.answer.TaskAnswer.TheVariants.{Late}
+use Rattle.cl_bound.specs.Answers.{answer_with, answer_to, answers_of, is_late, response_in, answer_at}
+
+-- the response in an answer that isn't late is the one that it was made with
+answered : (response : Option Response) (answer : TaskAnswer) → answer ≡ answer_with response → is_late answer ≡ false
+    → (window : ℕ) × (response ≡ Some (record { window = window; response = response_in answer }))
+answered (Some response) answer is timely = (
+  response.window,
+  subst (λ (a : TaskAnswer). Some response ≡ Some (record { window = response.window; response = response_in a })) (sym is) refl,
+)
+answered None answer is timely = absurd (true≢false (sym (ap is_late is) ∙ timely))
+
+-- a task that isn't late is settled
+pub settled_task : (system : System) (i : ℕ) → i < length system.tasks → is_late (answer_at (answers_of system) i) ≡ false
+    → IsSettled system i (response_in (answer_at (answers_of system) i))
+unfolding answers_of
+settled_task system i is timely =
+    let (window, found) = answered (response_to (question_of system (timing_at system i))) (answer_at (answers_of system) i)
+    (get_or-map (answer_to system) system.tasks i no_timing Late is) timely in
+    record { is_task = is; window = window; answered = found }

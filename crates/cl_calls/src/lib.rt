@@ -1,0 +1,27 @@
+//! The public calls of single crates, each once on its happy path and at its limits: tests alone.
+#![tactic(auto)]
+
+#[cfg(test)]
+mod access;
+#[cfg(test)]
+mod lanes;
+#[cfg(test)]
+mod models;
+#[cfg(test)]
+mod numbers;
+#[cfg(test)]
+mod outside;
+#[cfg(test)]
+mod reading;
+#[cfg(test)]
+mod responses;
+#[cfg(test)]
+mod runs;
+#[cfg(test)]
+mod stimuli;
+#[cfg(test)]
+mod texts;
+#[cfg(test)]
+mod valid_models;
+#[cfg(test)]
+mod validity;

@@ -1,0 +1,6 @@
+pub mod ExampleFacts
+pub mod ExampleRun
+pub mod WholeRun
+pub mod DividedRun
+pub mod ExampleChains
+pub mod ModelOfExample

@@ -1,0 +1,4 @@
+pub mod Examples
+pub mod WholeExample
+pub mod ExampleModel
+pub mod WholeModel

@@ -1,0 +1,76 @@
+//! What the definitions say of small examples.
+ghost use Rattle.std.specs.Prelude.{◌≡◌, ◌⊎◌, take};
+ghost use Rattle.cl_runs.specs.TaskTiming.{IsSound};
+ghost use Rattle.cl_runs.specs.Table.{AreLawfulJobs, IsLawful};
+ghost use Rattle.cl_runs.specs.Legal.{IsLegal};
+ghost use Rattle.cl_runs.specs.Chains.{JobChain, first_job, IsEarliestReader, IsForwardChain, IsAgeChain, IsReducedChain};
+ghost use Rattle.cl_runs.specs.Measured.{IsMeasured};
+ghost use Rattle.cl_model.specs.Groups.{groups_of, group_at};
+ghost use Rattle.cl_runs.specs.SystemOf.{system_of};
+ghost use Rattle.cl_examples.specs.ExampleModel.{two_tasks_model, chain_ab};
+ghost use Rattle.cl_examples.specs.WholeModel.{one_core_model};
+ghost use Rattle.cl_examples.specs.WholeExample.{one_core, one_core_table, whole_run, broken_run, one_core_divided};
+ghost use Rattle.cl_examples.specs.Examples.{sporadic_task, two_jobs, two_tasks, jobs_of_b, table_with, two_tasks_run, two_tasks_moments, from_a_to_b, chain_of, two_tasks_measured};
+
+/// With gaps from 5 to 8, arrivals at 0 and 8 are lawful for 16 ticks, and not for 17, since a third was due.
+pub fn arrivals_at_0_and_8()
+    ensures for_16_ticks { AreLawfulJobs sporadic_task 16 two_jobs }
+    ensures not_for_17_ticks { AreLawfulJobs sporadic_task 17 two_jobs → ⊥ }
+{}
+
+/// The system of a model of two tasks, and the groups of its chain.
+pub fn model_of_two_tasks()
+    ensures system { system_of two_tasks_model ≡ two_tasks }
+    ensures groups { groups_of two_tasks_model chain_ab ≡ from_a_to_b }
+{}
+
+/// Of two tasks with arrivals at 0, 10, 20 and 30 and at 12 and 32 the table is lawful for 37 ticks. Without the last
+/// job it isn't, since its arrival was due.
+pub fn table_of_two_tasks()
+    ensures lawful { IsLawful two_tasks (table_with jobs_of_b) }
+    ensures not_without_the_last { IsLawful two_tasks (table_with (take 1 jobs_of_b)) → ⊥ }
+{}
+
+/// The run of that table in which each job runs as it is released is legal.
+pub fn run_of_two_tasks()
+    ensures sound { IsSound two_tasks }
+    ensures legal { IsLegal two_tasks two_tasks_run }
+{}
+
+/// Its complete forward chains are those of the jobs 1 and 1, with a reaction of 37, and 2 and 1, with one of 27.
+pub fn forward_chains_of_two_tasks()
+    ensures reaction_37 { IsForwardChain two_tasks_moments from_a_to_b (chain_of 1 1 0 37) }
+    ensures reaction_27 { IsForwardChain two_tasks_moments from_a_to_b (chain_of 2 1 10 37) }
+    ensures no_other { (chain : JobChain) → IsForwardChain two_tasks_moments from_a_to_b chain
+        → (chain ≡ chain_of 1 1 0 37) ⊎ (chain ≡ chain_of 2 1 10 37) }
+{}
+
+/// The start-up chain isn't complete: B's job 0 is the earliest reader of A's job 0, and no complete forward chain
+/// begins with job 0.
+pub fn start_up_chains_are_not_complete()
+    ensures linked { IsEarliestReader two_tasks_moments (group_at from_a_to_b 0) (group_at from_a_to_b 1) 0 0 }
+    ensures not_complete { (chain : JobChain) → first_job chain ≡ 0 → IsForwardChain two_tasks_moments from_a_to_b chain → ⊥ }
+{}
+
+/// Its complete backward chain is that of the jobs 0 and 0, with an age of 37 and a reduced age of 17.
+pub fn backward_chain_of_two_tasks()
+    ensures age_37 { IsAgeChain two_tasks_moments from_a_to_b (chain_of 0 0 0 37) }
+    ensures reduced_17 { IsReducedChain two_tasks_moments from_a_to_b (chain_of 0 0 0 17) }
+    ensures no_other { (chain : JobChain) → IsAgeChain two_tasks_moments from_a_to_b chain → chain ≡ chain_of 0 0 0 37 }
+{}
+
+/// What is measured in that run.
+pub fn measured_of_two_tasks()
+    ensures { IsMeasured two_tasks_moments from_a_to_b two_tasks_measured }
+{}
+
+/// Of two tasks on one core, where the lower one begins before the higher arrives and its runnable is whole, the run in
+/// which it isn't interrupted is legal. The run of the same lawful table in which it is interrupted isn't legal, but is
+/// so for the same tasks with no whole runnable.
+pub fn runs_of_a_whole_runnable()
+    ensures system { system_of one_core_model ≡ one_core }
+    ensures lawful { IsLawful one_core one_core_table }
+    ensures legal { IsLegal one_core whole_run }
+    ensures not_interrupted { IsLegal one_core broken_run → ⊥ }
+    ensures interrupted_where_divided { IsLegal one_core_divided broken_run }
+{}

@@ -1,0 +1,13 @@
+//! The greatest gap between ends and their starts, and the first place that has a given gap.
+//!
+//! Ends and starts are moments in ticks, paired by place. Both calls look at eight places at a time,
+//! on lanes, and at the rest one by one. Neither takes memory.
+#![tactic(auto)]
+
+mod first;
+mod greatest;
+mod lanes;
+pub mod laws;
+
+pub use first::first_gap;
+pub use greatest::greatest_gap;

@@ -1,0 +1,70 @@
+-- The names that tasks and chains of a valid model name are known.
+use Rattle.std.proofs.Common.{◌≡◌, ℕ, ◌+◌, ◌<◌, true, List, [], length, get_or, sym, ap, ◌∙◌, arith}
+use Rattle.std.specs.Prelude.{Option, None, is_some, All}
+use Rattle.cl_model.specs.declared.chain.ChainDef.{ChainDef}
+use Rattle.cl_model.specs.declared.model.SystemModel.{SystemModel}
+use Rattle.cl_model.specs.declared.place.Part.TheVariants as part
+use Rattle.cl_model.specs.declared.stimulus.StimulusKind.{StimulusKind}
+use Rattle.cl_model.specs.declared.task.TaskDef.{TaskDef}
+use Rattle.std.proofs.lemmas.Bool.{eqb-true}
+use Rattle.std.proofs.Math.ListN.{length-map}
+use Rattle.cl_model.proofs.NamePlaces.{place_within}
+use Rattle.cl_model.specs.declared.place.Key.TheVariants as key
+use Rattle.cl_model.specs.Place.{entry_of, at_key}
+use Rattle.cl_model.specs.Named.{has_name, core_names, kind_named, runnable_names, all_runnables}
+use Rattle.cl_model.specs.ByNumber.{no_task, core_of}
+use Rattle.cl_model.specs.Refusals.{each}
+use Rattle.cl_model.specs.ValidTasks.{naming_checks, task_checks}
+use Rattle.cl_model.specs.Validity.{IsValid, lengths_check, step_check, chain_check}
+use Rattle.cl_model.proofs.Refused.{none_before, none_behind, unless_none, each_none}
+use Rattle.cl_model.proofs.PassedChecks.{tasks_pass, chains_pass, naming_passes}
+
+-- a chain has one label fewer than steps
+pub chain_lengths : (model : SystemModel) → IsValid model → (i : ℕ) (d : ChainDef) → i < length model.chains
+    → length (get_or model.chains i d).labels + 1 ≡ length (get_or model.chains i d).runnables
+unfolding chain_check
+chain_lengths model valid i d lt =
+    eqb-true _ _ (unless_none _ _ _ (none_before _ _ (each_none (chain_check model) model.chains i d (chains_pass model valid) lt)))
+
+-- the steps of a chain are known
+pub steps_known : (model : SystemModel) → IsValid model → (i : ℕ) (d : ChainDef) → i < length model.chains
+    → All (λ name. has_name name (runnable_names (all_runnables model.tasks)) ≡ true) (get_or model.chains i d).runnables
+unfolding chain_check
+steps_known model valid i d lt k e k_lt =
+    let chain = get_or model.chains i d in
+    let place = at_key key.Runnables (entry_of part.Chain i) in
+    let checks = none_behind (lengths_check i chain) _ (each_none (chain_check model) model.chains i d (chains_pass model valid) lt) in
+    unless_none _ _ _ (each_none (step_check model place) chain.runnables k e (none_before (each (step_check model place) chain.runnables) _ checks) k_lt)
+
+-- the core and the stimulus of a task are known
+pub core_is_known : (model : SystemModel) → task_checks model ≡ [] → (i : ℕ) (d : TaskDef) → i < length model.tasks → has_name (get_or model.tasks i d).core (core_names model) ≡ true
+unfolding naming_checks
+core_is_known model none i d lt = unless_none _ _ _ (none_before _ _ (naming_passes model none i d lt))
+
+pub stimulus_is_known : (model : SystemModel) → task_checks model ≡ [] → (i : ℕ) (d : TaskDef) → i < length model.tasks → is_some (kind_named model (get_or model.tasks i d).stimulus) ≡ true
+unfolding naming_checks
+stimulus_is_known model none i d lt = unless_none _ _ _ (none_before _ _ (none_behind _ _ (naming_passes model none i d lt)))
+
+pub core_known : (model : SystemModel) → IsValid model → (i : ℕ) (d : TaskDef) → i < length model.tasks → has_name (get_or model.tasks i d).core (core_names model) ≡ true
+core_known model valid = core_is_known model (tasks_pass model valid)
+
+pub stimulus_known : (model : SystemModel) → IsValid model → (i : ℕ) (d : TaskDef) → i < length model.tasks → is_some (kind_named model (get_or model.tasks i d).stimulus) ≡ true
+stimulus_known model valid = stimulus_is_known model (tasks_pass model valid)
+
+-- ---- the same at a task that stands in the list
+
+pub core_known_at : (model : SystemModel) → IsValid model → (tasks : List TaskDef) (i : ℕ) (task : TaskDef) → tasks ≡ model.tasks → i < length tasks → task ≡ get_or tasks i task → has_name task.core (core_names model) ≡ true
+core_known_at model valid tasks i task same lt at =
+    let e : task ≡ get_or model.tasks i task = at ∙ ap (λ ts. get_or ts i task) same in
+    ap (λ t. has_name t.core (core_names model)) e ∙ core_known model valid i task (rw same at lt)
+
+pub stimulus_missing : (model : SystemModel) → IsValid model → (tasks : List TaskDef) (i : ℕ) (task : TaskDef) (found : Option StimulusKind) → tasks ≡ model.tasks → i < length tasks → task ≡ get_or tasks i task → found ≡ kind_named model task.stimulus → found ≡ None → ⊥
+stimulus_missing model valid tasks i task found same lt at is none =
+    let e : task ≡ get_or model.tasks i task = at ∙ ap (λ ts. get_or ts i task) same in
+    let f : is_some {T = StimulusKind} None ≡ true =
+    ap is_some (sym none ∙ is) ∙ ap (λ t. is_some (kind_named model t.stimulus)) e ∙ stimulus_known model valid i task (rw same at lt) in
+    cc
+
+pub core_within : (model : SystemModel) → IsValid model → (i : ℕ) → i < length model.tasks → core_of model i < length model.cores
+core_within model valid i lt =
+    omega (arith, place_within (get_or model.tasks i no_task).core (core_names model) (core_known model valid i no_task lt), length-map model.cores (λ core. core.name))

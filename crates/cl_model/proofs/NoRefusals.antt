@@ -1,0 +1,14 @@
+-- Lists of checks that refuse nothing, by their parts.
+use Rattle.std.proofs.Common.{◌≡◌, List, [], ◌∷◌}
+use Rattle.cl_model.specs.declared.refusal.Refusal.{Refusal}
+use Rattle.cl_model.specs.Refusals.{in_order}
+use Rattle.cl_model.proofs.Refused.{none_before, none_behind}
+
+-- none in each of the lists
+abbrev pub AllNone : List (List Refusal) → Type 0
+AllNone [] = Unit {0}
+AllNone (checks ∷ others) = (checks ≡ []) × AllNone others
+
+pub all_none : (lists : List (List Refusal)) → in_order lists ≡ [] → AllNone lists
+all_none [] none = tt
+all_none (checks ∷ others) none = (none_before checks (in_order others) none, all_none others (none_behind checks (in_order others) none))

@@ -1,0 +1,93 @@
+-- What a model says of its tasks, chains and cores, by their numbers. Times are in ticks.
+use Rattle.std.specs.Prelude.{ℕ, ◌==◌, false, List, [], length, slice_index_or, filter, sum_by, Option, None, unwrap_or}
+use Rattle.std.specs.List.{range_with_len}
+use Rattle.cl_model.specs.declared.model.SystemModel.{SystemModel}
+use Rattle.cl_model.specs.declared.chain.ChainDef.{ChainDef}
+use Rattle.cl_model.specs.declared.group.Step.{Step}
+use Rattle.cl_model.specs.declared.stimulus.StimulusKind.{StimulusKind}
+use Rattle.cl_model.specs.declared.stimulus.StimulusKind.TheVariants.{Sporadic}
+use Rattle.cl_model.specs.declared.task.AccessKind.TheVariants.{Explicit}
+use Rattle.cl_model.specs.declared.task.RunnableDef.{RunnableDef}
+use Rattle.cl_model.specs.declared.task.TaskDef.{TaskDef}
+use Rattle.cl_model.specs.Named.{index_of, core_names, task_names, chain_names, kind_named}
+use Rattle.cl_model.specs.Timing.{greatest_jitter, deadline_under}
+
+-- stands for a task past the last one
+unfoldable pub no_task : TaskDef
+no_task = record { name = []; core = []; stimulus = []; priority = 0; access = Explicit; deadline = None; runnables = [] }
+
+-- stands for a chain past the last one
+unfoldable pub no_chain : ChainDef
+no_chain = record { name = []; runnables = []; labels = [] }
+
+-- stands for a runnable past the last one of its task
+unfoldable pub no_runnable : RunnableDef
+no_runnable = record { name = []; least = 0; greatest = 0; whole = false; reads = []; writes = [] }
+
+-- stands for a stimulus that isn't known
+unfoldable pub no_stimulus : StimulusKind
+no_stimulus = Sporadic 0 0
+
+-- the task of that number
+abbrev pub task_at : SystemModel → (i : ℕ) → TaskDef
+task_at model i = slice_index_or model.tasks i no_task
+
+-- the runnable at a place of a task
+abbrev pub runnable_at : SystemModel → Step → RunnableDef
+runnable_at model step = slice_index_or (task_at model step.task).runnables step.place no_runnable
+
+-- the chain of that number
+abbrev pub chain_at : SystemModel → (chain : ℕ) → ChainDef
+chain_at model chain = slice_index_or model.chains chain no_chain
+
+-- the number of the core that a task names
+abbrev pub core_number : SystemModel → TaskDef → ℕ
+core_number model task = unwrap_or (index_of task.core (core_names model)) 0
+
+-- the kind of the stimulus that a task names
+abbrev pub stimulus_kind : SystemModel → TaskDef → StimulusKind
+stimulus_kind model task = unwrap_or (kind_named model task.stimulus) no_stimulus
+
+-- the greatest execution time of a job of a task
+abbrev pub greatest_time : TaskDef → ℕ
+greatest_time task = sum_by (λ (runnable : RunnableDef). runnable.greatest) task.runnables
+
+-- ---- of task i
+
+-- the number of its core
+abbrev pub core_of : SystemModel → (i : ℕ) → ℕ
+core_of model i = core_number model (task_at model i)
+
+-- the kind of its stimulus
+abbrev pub stimulus_of : SystemModel → (i : ℕ) → StimulusKind
+stimulus_of model i = stimulus_kind model (task_at model i)
+
+-- its deadline, given or not
+abbrev pub deadline_of : SystemModel → (i : ℕ) → ℕ
+deadline_of model i = deadline_under (stimulus_of model i) (task_at model i)
+
+-- its greatest jitter
+abbrev pub jitter_of : SystemModel → (i : ℕ) → ℕ
+jitter_of model i = greatest_jitter (stimulus_of model i)
+
+-- the number of the task of that name
+abbrev pub task_named : SystemModel → List ℕ → Option ℕ
+task_named model name = index_of name (task_names model)
+
+-- the number of the chain of that name
+abbrev pub chain_named : SystemModel → List ℕ → Option ℕ
+chain_named model name = index_of name (chain_names model)
+
+-- the greatest execution time of a job of it
+abbrev pub time_of : SystemModel → (i : ℕ) → ℕ
+time_of model i = greatest_time (task_at model i)
+
+-- ---- of a core
+
+-- the numbers of its tasks among the first n, in file order
+abbrev pub tasks_of_core_below : SystemModel → (n core : ℕ) → List ℕ
+tasks_of_core_below model n core = filter (λ i. core_of model i == core) (range_with_len 0 n)
+
+-- the numbers of its tasks, in file order
+abbrev pub tasks_of_core : SystemModel → (core : ℕ) → List ℕ
+tasks_of_core model core = tasks_of_core_below model (length model.tasks) core

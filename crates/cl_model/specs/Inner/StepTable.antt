@@ -1,0 +1,26 @@
+-- The steps of all runnables of a model, in order, and the look-up of a step by its name in the table that is built of them.
+use Rattle.std.specs.Prelude.{◌≡◌, ℕ, ◌+◌, List, [], ◌∷◌, ◌++◌, length, map, slice_index_or, unwrap_or}
+use Rattle.std.specs.List.{range_with_len}
+use Rattle.cl_model.specs.declared.group.Step.{Step}
+use Rattle.cl_model.specs.declared.groups.StepTable.{StepTable}
+use Rattle.cl_model.specs.declared.task.TaskDef.{TaskDef}
+use Rattle.cl_model.specs.Groups.{no_step}
+use Rattle.cl_model.specs.Named.{index_of, runnable_names, all_runnables}
+
+-- the steps of the runnables of one task, which are so many
+abbrev pub steps_in : (task count : ℕ) → List Step
+steps_in task count = map (λ place. record { task = task; place = place }) (range_with_len 0 count)
+
+-- the steps of the runnables of tasks, of which the first has the number i
+abbrev pub steps_from : (i : ℕ) → List TaskDef → List Step
+steps_from i [] = []
+steps_from i (task ∷ tasks) = steps_in i (length task.runnables) ++ steps_from (i + 1) tasks
+
+-- the step of that name in a table
+abbrev pub step_in : StepTable → List ℕ → Step
+step_in table name = slice_index_or table.steps.items (unwrap_or (index_of name table.names) 0) no_step
+
+-- the table is that of the tasks of a model
+pub record AreStepsOf (tasks : List TaskDef) (table : StepTable) : Type 0 where
+  pub names : table.names ≡ runnable_names (all_runnables tasks)
+  pub steps : table.steps.items ≡ steps_from 0 tasks

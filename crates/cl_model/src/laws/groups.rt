@@ -1,0 +1,23 @@
+//! The groups of chains: what they are of any steps, and of those of the chains of a valid model.
+ghost use Rattle.std.specs.Prelude.{◌≡◌, ℕ, ◌<◌, List, length, All};
+ghost use Rattle.cl_model.specs.declared.group.Group.{Group};
+ghost use Rattle.cl_model.specs.declared.group.Step.{Step};
+ghost use Rattle.cl_model.specs.declared.model.SystemModel.{SystemModel};
+ghost use Rattle.cl_model.specs.ByNumber.{chain_at};
+ghost use Rattle.cl_model.specs.Groups.{groups, steps_of, groups_at, IsGroupOf};
+ghost use Rattle.cl_model.specs.MaximalRuns.{AreMaximalRuns};
+ghost use Rattle.cl_model.specs.Validity.{IsValid};
+
+/// Each group of a chain stands in a task, and each chain has a group.
+pub fn groups_are_of_tasks()
+    ensures within { (model : SystemModel) → IsValid model → (chain : ℕ) → All (IsGroupOf model) (groups_at model chain) }
+    ensures some { (model : SystemModel) → IsValid model → (chain : ℕ) → chain < length model.chains
+        → 0 < length (groups_at model chain) }
+{}
+
+/// The groups of steps are their maximal runs of inner hops, and nothing else is.
+pub fn groups_are_maximal_runs()
+    ensures runs { (steps : List Step) → AreMaximalRuns steps (groups steps) }
+    ensures only { (steps : List Step) (made : List Group) → AreMaximalRuns steps made → made ≡ groups steps }
+    ensures of_chain { (model : SystemModel) (chain : ℕ) → AreMaximalRuns (steps_of model (chain_at model chain)) (groups_at model chain) }
+{}

@@ -1,0 +1,152 @@
+//! What is kept beside a valid model, so that it answers in constant time.
+ghost use Rattle.std.specs.Prelude.{◌≡◌, ◌<◌, ◌^◌, [], ◌∷◌, ◌++◌, length, map, replicate, slice_index_or, slice_set, IfOk, OnOk, All};
+ghost use Rattle.std.specs.List.{range_with_len};
+ghost use Rattle.cl_model.specs.Named.{stimulus_names, kind_named};
+ghost use Rattle.cl_model.specs.ByNumber.{core_number, stimulus_kind, greatest_time, tasks_of_core};
+ghost use Rattle.cl_model.specs.Ranges.{IsTaskInRange};
+ghost use Rattle.cl_model.specs.Inner.LookUps.{AreLookUpsOf};
+ghost use Rattle.cl_model.specs.Validity.{IsValid};
+
+use crate::entries::name_numbers;
+use crate::group::Group;
+use crate::groups::groups_of_chains;
+use crate::list::List;
+use crate::model::SystemModel;
+use crate::name::Name;
+use crate::name_set::NameSet;
+use crate::stimulus::StimulusKind;
+use crate::task::TaskDef;
+use cl_time::NoMemory;
+use std::alloc::Global;
+
+/// The kind of the stimulus of that name, where the names of the stimuli are numbered.
+pub fn kind_named(model: &SystemModel, stimuli: &NameSet, name: &Name) -> Option<StimulusKind>
+    requires { stimuli.now ≡ stimulus_names model.now }
+    ensures { result ≡ kind_named model.now name.now }
+{
+    let number = stimuli.number_of(name)?;
+    let stimulus = model.stimuli.at(number)?;
+    Some(stimulus.kind)
+}
+
+fn core_numbers(alloc: Global, model: &SystemModel) -> Result<Vec<u32>, NoMemory>
+    requires { IsValid model.now }
+    ensures { IfOk result (λ numbers. numbers.items ≡ map (core_number model.now) model.now.tasks) }
+{
+    let cores = name_numbers(alloc, model.cores.as_slice())?;
+    let mut numbers = Vec::new(alloc);
+    for task in model.tasks.as_slice() {
+        let Some(number) = cores.number_of(&task.core) else {
+            unreachable!();
+        };
+        numbers.push(number as u32)?;
+    }
+    Ok(numbers)
+}
+
+fn stimulus_kinds(alloc: Global, model: &SystemModel) -> Result<Vec<StimulusKind>, NoMemory>
+    requires { IsValid model.now }
+    ensures { IfOk result (λ kinds. kinds.items ≡ map (stimulus_kind model.now) model.now.tasks) }
+{
+    let stimuli = name_numbers(alloc, model.stimuli.as_slice())?;
+    let mut kinds = Vec::new(alloc);
+    for task in model.tasks.as_slice() {
+        let Some(kind) = kind_named(model, &stimuli, &task.stimulus) else {
+            unreachable!();
+        };
+        kinds.push(kind)?;
+    }
+    Ok(kinds)
+}
+
+fn greatest_time(task: &TaskDef) -> u64
+    requires { greatest_time task.now < 2 ^ 64 }
+    ensures { result ≡ greatest_time task.now }
+{
+    task.runnables
+        .iter()
+        .map(|runnable| runnable.greatest)
+        .sum()
+}
+
+fn greatest_times(alloc: Global, tasks: &[TaskDef]) -> Result<Vec<u64>, NoMemory>
+    requires { All IsTaskInRange tasks.now }
+    ensures { IfOk result (λ times. times.items ≡ map greatest_time tasks.now) }
+{
+    let mut times = Vec::new(alloc);
+    for task in tasks {
+        times.push(greatest_time(task))?;
+    }
+    Ok(times)
+}
+
+fn no_tasks(alloc: Global, cores: usize) -> Result<Vec<List<u32>>, NoMemory>
+    ensures { IfOk result (λ lists. lists.items ≡ replicate cores []) }
+{
+    let mut lists = Vec::new(alloc);
+    for _ in 0..cores {
+        lists.push(List::new(alloc))?;
+    }
+    Ok(lists)
+}
+
+fn put(lists: &mut Vec<List<u32>>, core: usize, task: u32) -> Result<(), NoMemory>
+    requires { core < length lists.old.items }
+    ensures { OnOk result (lists.new.items ≡ slice_set lists.old.items core (slice_index_or lists.old.items core [] ++ task ∷ [])) }
+{
+    lists[core].push(task)
+}
+
+fn tasks_of_cores(
+    alloc: Global,
+    model: &SystemModel,
+    core_numbers: &[u32],
+) -> Result<Vec<List<u32>>, NoMemory>
+    requires valid { IsValid model.now }
+    requires numbers { core_numbers.now ≡ map (core_number model.now) model.now.tasks }
+    ensures { IfOk result (λ lists. lists.items ≡ map (tasks_of_core model.now) (range_with_len 0 (length model.now.cores))) }
+{
+    let mut lists = no_tasks(alloc, model.cores.len())?;
+    for (task, core) in core_numbers.iter().enumerate() {
+        put(&mut lists, *core as usize, task as u32)?;
+    }
+    Ok(lists)
+}
+
+/// What is kept beside a model.
+#[derive(Drop)]
+pub struct LookUps {
+    /// The number of the core of each task.
+    pub cores: Vec<u32>,
+    /// The kind of the stimulus of each task.
+    pub stimuli: Vec<StimulusKind>,
+    /// The names of the tasks.
+    pub tasks: NameSet,
+    /// The names of the chains.
+    pub chains: NameSet,
+    /// The greatest execution time of a job of each task.
+    pub times: Vec<u64>,
+    /// The numbers of the tasks of each core.
+    pub on_cores: Vec<List<u32>>,
+    /// The groups of each chain.
+    pub groups: Vec<List<Group>>,
+}
+
+/// What is kept beside a valid model, in time linear in the size of the model.
+pub fn look_ups_of(alloc: Global, model: &SystemModel) -> Result<LookUps, NoMemory>
+    requires { IsValid model.now }
+    ensures { IfOk result (AreLookUpsOf model.now) }
+{
+    let tasks = model.tasks.as_slice();
+    let cores = core_numbers(alloc, model)?;
+    let on_cores = tasks_of_cores(alloc, model, cores.as_slice())?;
+    Ok(LookUps {
+        cores,
+        stimuli: stimulus_kinds(alloc, model)?,
+        tasks: name_numbers(alloc, tasks)?,
+        chains: name_numbers(alloc, model.chains.as_slice())?,
+        times: greatest_times(alloc, tasks)?,
+        on_cores,
+        groups: groups_of_chains(alloc, model)?,
+    })
+}

@@ -1,0 +1,16 @@
+use Rattle.std.proofs.Common.{◌≡◌, take, sym, ap, ◌∙◌, take_all, arith}
+use Rattle.std.specs.Prelude.{filter}
+use Rattle.cl_model.specs.ByNumber.{tasks_of_core}
+use Rattle.cl_resp.specs.Question.{greatest_by}
+use Rattle.cl_resp.proofs.Questions.{hold_at, is_no_higher, block_is}
+use Rattle.cl_resp.proofs.asking.block_of.Goals as goal
+
+pub returns : goal.returns
+returns c =
+    let model = c.args.model.now in
+    let others = c.tasks_of_core-other-items.result.now in
+    let all : take c.loop-other.other-index others ≡ others = take_all c.loop-other.other-index others (omega (arith, c.loop-other-test.false)) in
+    c.loop-other.invariant
+    ∙ ap (λ list. greatest_by (hold_at model) (filter (is_no_higher model c.args.task) list))
+    (all ∙ c.tasks_of_core-other-items.ensures.tasks ∙ ap (tasks_of_core model) c.core_of.ensures.core)
+    ∙ sym (block_is model c.args.task)

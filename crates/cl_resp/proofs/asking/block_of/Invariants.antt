@@ -1,0 +1,9 @@
+use Rattle.std.proofs.Common.{◌≡◌, take}
+use Rattle.std.specs.Prelude.{filter}
+use Rattle.cl_resp.specs.Question.{greatest_by}
+use Rattle.cl_resp.proofs.Questions.{hold_at, is_no_higher}
+use Rattle.cl_resp.proofs.asking.block_of.Given as goal
+
+-- the longest hold of the tasks so far that have no higher priority
+abbrev pub invariant-loop-other : goal.invariant-loop-other
+invariant-loop-other l = l.block ≡ greatest_by (hold_at l.model) (filter (is_no_higher l.model l.task) (take l.other-index l.other-items))

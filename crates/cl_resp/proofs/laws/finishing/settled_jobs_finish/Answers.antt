@@ -1,5 +1,0 @@
-use Rattle.cl_resp.proofs.BusyWindowTask.{settled_finish}
-use Rattle.cl_resp.proofs.laws.finishing.settled_jobs_finish.Goals as goal
-
-pub returns : goal.returns
-returns c = settled_finish

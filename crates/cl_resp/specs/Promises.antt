@@ -1,0 +1,24 @@
+-- What a response promises of legal runs.
+use Rattle.std.specs.Prelude.{◌≡◌, ℕ, ◌+◌, ◌<◌, ◌≤◌, length}
+use Rattle.cl_runs.specs.TaskTiming.{System, timing_at, IsSound}
+use Rattle.cl_runs.specs.Table.{job_at}
+use Rattle.cl_runs.specs.Run.{Run, jobs_of}
+use Rattle.cl_runs.specs.Legal.{IsLegal}
+use Rattle.cl_runs.specs.Moments.{JobFinishes}
+use Rattle.cl_resp.specs.declared.question.Question.{Question}
+use Rattle.cl_resp.specs.Question.{question_of}
+
+-- each job of a task that arrives `response` or more before the end of a run finishes within `response` of its arrival
+pub record FinishesWithin (system : System) (run : Run) (task response : ℕ) : Type 0 where
+  pub each : (job : ℕ) → job < length (jobs_of run task) → (job_at (jobs_of run task) job).arrival + response ≤ run.table.ticks
+      → (finish : ℕ) × JobFinishes system run task job finish × (finish ≤ (job_at (jobs_of run task) job).arrival + response)
+
+-- in every legal run of the system, of any length, each job of a task finishes within the response
+abbrev pub AlwaysFinishesWithin : System → (task response : ℕ) → Type 0
+AlwaysFinishesWithin system task response = (run : Run) → IsLegal system run → FinishesWithin system run task response
+
+-- so it is for each task of each sound system (as those of valid models are) whose question this is
+abbrev pub AnswersFor : Question → (response : ℕ) → Type 0
+AnswersFor question response =
+    (system : System) → IsSound system → (task : ℕ) → task < length system.tasks
+    → question ≡ question_of system (timing_at system task) → AlwaysFinishesWithin system task response

@@ -1,0 +1,23 @@
+//! The jobs of a settled task finish within its response, which lies between its greatest execution time and its deadline.
+ghost use Rattle.std.specs.Prelude.{ℕ, ◌+◌, ◌≤◌};
+ghost use Rattle.cl_model.specs.Timing.{greatest_jitter};
+ghost use Rattle.cl_runs.specs.TaskTiming.{System, timing_at, IsSound};
+ghost use Rattle.cl_resp.specs.Question.{greatest_execution};
+ghost use Rattle.cl_resp.specs.Promises.{AlwaysFinishesWithin};
+ghost use Rattle.cl_resp.specs.Response.{IsSettled};
+
+/// Each job of a settled task finishes within the response of its arrival, in every legal run that lasts so long,
+/// whether or not tasks of higher priority are late.
+pub fn settled_jobs_finish()
+    ensures { (system : System) → IsSound system → (task response : ℕ) → IsSettled system task response
+        → AlwaysFinishesWithin system task response }
+{}
+
+/// The response of a settled task of a sound system is at most its deadline, and at least its greatest execution time:
+/// it holds that after the greatest jitter.
+pub fn responses_lie_between()
+    ensures execution { (system : System) (task response : ℕ) → IsSettled system task response
+        → greatest_jitter (timing_at system task).pattern + greatest_execution (timing_at system task) ≤ response }
+    ensures deadline { (system : System) → IsSound system → (task response : ℕ) → IsSettled system task response
+        → response ≤ (timing_at system task).deadline }
+{}

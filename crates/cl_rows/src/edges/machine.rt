@@ -1,0 +1,245 @@
+//! A machine of values: its arguments, its one file and its output.
+ghost use Rattle.std.specs.Prelude.{◌≤◌, length, IfOk};
+ghost use Rattle.std.specs.Io.{WritesAtMost};
+
+use std::alloc::{Allocator, Global};
+use std::cell::Cell;
+use std::env::FillError;
+use std::fmt::Display;
+use std::fs::{Metadata, OpenFile, OpenOptions};
+use std::io;
+use std::io::{ErrorKind, Read, Seek, SeekFrom, Write};
+use std::rt::{Env, Files};
+
+/// How many bytes the machine's output can hold.
+pub(crate) const OUTPUT: usize = 256;
+
+/// How a read, or a write, fails once no more bytes are left for it.
+pub(crate) type Failure = Option<ErrorKind>;
+
+/// A machine with a file under one name, whose reads give `step` bytes each and then the end or an error, and with an
+/// output that takes `room` bytes, seven at a time, and then nothing or an error.
+#[derive(Drop)]
+pub(crate) struct Machine<'a> {
+    pub(crate) alloc: Global,
+    pub(crate) arguments: &'a [&'a [u8]],
+    pub(crate) name: &'a str,
+    pub(crate) content: &'a [u8],
+    pub(crate) step: usize,
+    pub(crate) read_failure: Failure,
+    pub(crate) room: Cell<usize>,
+    pub(crate) write_failure: Failure,
+    pub(crate) output: Cell<[u8; OUTPUT]>,
+    pub(crate) written: Cell<usize>,
+}
+
+impl<'a> Machine<'a> {
+    /// A machine whose file is read whole, and whose output takes all that it can hold.
+    pub(crate) fn new(
+        alloc: Global,
+        arguments: &'a [&'a [u8]],
+        name: &'a str,
+        content: &'a [u8],
+    ) -> Machine<'a> {
+        Machine {
+            alloc,
+            arguments,
+            name,
+            content,
+            step: 4096,
+            read_failure: None,
+            room: Cell::new(OUTPUT),
+            write_failure: None,
+            output: Cell::new([0; OUTPUT]),
+            written: Cell::new(0),
+        }
+    }
+
+    /// All that was written to the output.
+    pub(crate) fn output(&self) -> ([u8; OUTPUT], usize)
+        ensures { result.1 ≤ 256 }
+    {
+        (self.output.get(), self.written.get().min(OUTPUT))
+    }
+}
+
+impl Alloc for Machine<'_> {
+    type A = Global;
+
+    fn alloc(&self) -> Global {
+        self.alloc
+    }
+}
+
+impl Env for Machine<'_> {
+    fn arg(&self, i: usize, buf: &mut [u8]) -> Result<usize, FillError>
+        ensures bound { WritesAtMost result buf.new }
+    {
+        let Some(argument) = self.arguments.get(i) else {
+            return Err(FillError::NotPresent);
+        };
+        if argument.len() > buf.len() {
+            return Err(FillError::TooLong);
+        }
+        buf[..argument.len()].copy_from_slice(argument);
+        Ok(argument.len())
+    }
+
+    fn var(&self, _name: &str, buf: &mut [u8]) -> Result<usize, FillError>
+        ensures bound { WritesAtMost result buf.new }
+    {
+        Err(FillError::NotPresent)
+    }
+
+    fn var_at(&self, _i: usize, buf: &mut [u8]) -> Result<usize, FillError>
+        ensures bound { WritesAtMost result buf.new }
+    {
+        Err(FillError::NotPresent)
+    }
+}
+
+impl Print for Machine<'_> {
+    fn print<D: Display + Drop>(&self, _value: D) -> io::Result<()> {
+        Err(unsupported())
+    }
+
+    fn println<D: Display + Drop>(&self, _value: D) -> io::Result<()> {
+        Err(unsupported())
+    }
+
+    fn write_all(&self, _bytes: &[u8]) -> io::Result<()> {
+        Err(unsupported())
+    }
+
+    fn write_some(&self, bytes: &[u8]) -> io::Result<usize>
+        ensures bound { IfOk result (λ n. n ≤ length bytes.now) }
+    {
+        let start = self.written.get().min(OUTPUT);
+        let left = self.room.get().min(OUTPUT - start);
+        if left == 0
+            && let Some(kind) = self.write_failure
+        {
+            return Err(io::Error::from(kind));
+        }
+        let taken = bytes.len().min(left).min(7);
+        let mut output = self.output.get();
+        output[start..start + taken].copy_from_slice(&bytes[..taken]);
+        self.output.set(output);
+        self.written.set(start + taken);
+        self.room.set(left - taken);
+        Ok(taken)
+    }
+}
+
+/// What is left of the machine's file.
+#[derive(Drop)]
+pub(crate) struct MachineFile<'a> {
+    left: &'a [u8],
+    step: usize,
+    failure: Failure,
+}
+
+impl Read for MachineFile<'_> {
+    fn read(&mut self, buf: &mut [u8]) -> io::Result<usize> {
+        if self.left.is_empty()
+            && let Some(kind) = self.failure
+        {
+            return Err(io::Error::from(kind));
+        }
+        let given = self.left.len().min(self.step).min(buf.len());
+        buf[..given].copy_from_slice(&self.left[..given]);
+        self.left = &self.left[given..];
+        Ok(given)
+    }
+}
+
+impl Write for MachineFile<'_> {
+    fn write(&mut self, _buf: &[u8]) -> io::Result<usize> {
+        Err(unsupported())
+    }
+
+    fn flush(&mut self) -> io::Result<()> {
+        Err(unsupported())
+    }
+}
+
+impl Seek for MachineFile<'_> {
+    fn seek(&mut self, _to: SeekFrom) -> io::Result<u64> {
+        Err(unsupported())
+    }
+}
+
+impl OpenFile for MachineFile<'_> {
+    fn metadata(&self) -> io::Result<Metadata> {
+        Err(unsupported())
+    }
+
+    fn set_len(&self, _size: u64) -> io::Result<()> {
+        Err(unsupported())
+    }
+
+    fn sync_all(&self) -> io::Result<()> {
+        Err(unsupported())
+    }
+
+    fn sync_data(&self) -> io::Result<()> {
+        Err(unsupported())
+    }
+}
+
+impl<'a> Files for Machine<'a> {
+    type File = MachineFile<'a>;
+
+    type Dir = MachineFile<'a>;
+
+    fn open_file(&self, _how: &OpenOptions, path: &str) -> io::Result<MachineFile<'a>> {
+        if path != self.name {
+            return Err(io::Error::from(ErrorKind::NotFound));
+        }
+        Ok(MachineFile {
+            left: self.content,
+            step: self.step,
+            failure: self.read_failure,
+        })
+    }
+
+    fn open_dir(&self, _path: &str) -> io::Result<MachineFile<'a>> {
+        Err(unsupported())
+    }
+
+    fn metadata(&self, _path: &str) -> io::Result<Metadata> {
+        Err(unsupported())
+    }
+
+    fn symlink_metadata(&self, _path: &str) -> io::Result<Metadata> {
+        Err(unsupported())
+    }
+
+    fn copy(&self, _from: &str, _to: &str) -> io::Result<u64> {
+        Err(unsupported())
+    }
+
+    fn rename(&self, _from: &str, _to: &str) -> io::Result<()> {
+        Err(unsupported())
+    }
+
+    fn remove_file(&self, _path: &str) -> io::Result<()> {
+        Err(unsupported())
+    }
+
+    fn create_dir(&self, _path: &str) -> io::Result<()> {
+        Err(unsupported())
+    }
+
+    fn remove_dir(&self, _path: &str) -> io::Result<()> {
+        Err(unsupported())
+    }
+
+    fn remove_dir_all<B: Allocator>(&self, _alloc: B, _path: &str) -> io::Result<()> {
+        Err(unsupported())
+    }
+}
+
+fn unsupported() -> io::Error {
+    io::Error::from(ErrorKind::Unsupported)
+}

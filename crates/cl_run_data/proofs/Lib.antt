@@ -1,0 +1,3 @@
+pub mod StretchFacts
+pub mod OneStretchList
+pub mod StretchEntries

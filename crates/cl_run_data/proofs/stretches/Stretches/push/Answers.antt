@@ -1,0 +1,6 @@
+use Rattle.std.proofs.Common.{arith, ap, length}
+use Rattle.cl_run_data.proofs.StretchFacts.{length-entries}
+use Rattle.cl_run_data.proofs.stretches.Stretches.push.Goals as goal
+
+pub overflow_add-end : goal.overflow_add-end
+overflow_add-end c = rw (c.end_of.ensures, c.as_slice.ensures.value) (omega (arith, length-entries _ 0 c.self.invariant, ap length c.self.view_is, c.requires))

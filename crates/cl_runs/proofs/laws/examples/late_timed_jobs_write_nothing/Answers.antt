@@ -1,5 +1,0 @@
-use Rattle.cl_runs.proofs.ExampleFacts.{late_writes_nothing}
-use Rattle.cl_runs.proofs.laws.examples.late_timed_jobs_write_nothing.Goals as goal
-
-pub returns : goal.returns
-returns c = late_writes_nothing

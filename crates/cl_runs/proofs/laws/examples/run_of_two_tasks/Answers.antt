@@ -1,8 +1,0 @@
-use Rattle.cl_runs.proofs.ExampleRun.{two_tasks_sound, run_legal}
-use Rattle.cl_runs.proofs.laws.examples.run_of_two_tasks.Goals as goal
-
-pub returns-clause-sound : goal.returns-clause-sound
-returns-clause-sound c = two_tasks_sound
-
-pub returns-clause-legal : goal.returns-clause-legal
-returns-clause-legal c = run_legal

@@ -1,6 +1,0 @@
-use Rattle.std.proofs.Common.{arith, ap, length}
-use Rattle.cl_runs.proofs.StretchFacts.{length-entries}
-use Rattle.cl_runs.proofs.stretches.Stretches.push.Goals as goal
-
-pub overflow_add-end : goal.overflow_add-end
-overflow_add-end c = rw (c.end_of.ensures, c.as_slice.ensures.value) (omega (arith, length-entries _ 0 c.self.invariant, ap length c.self.view_is, c.requires))

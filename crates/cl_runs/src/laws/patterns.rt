@@ -1,0 +1,39 @@
+//! The gaps of well-formed patterns, and what holds of the jobs that follow one.
+ghost use Rattle.std.specs.Prelude.{ℕ, suc, ◌+◌, ◌<◌, ◌≤◌, List, length};
+ghost use Rattle.cl_model.specs.declared.stimulus.StimulusKind.{StimulusKind};
+ghost use Rattle.cl_model.specs.Timing.{least_distance, greatest_distance, greatest_jitter};
+ghost use Rattle.cl_runs.specs.declared.job.Job.{Job};
+ghost use Rattle.cl_runs.specs.Pattern.{IsPattern, first_least, first_greatest, least_gap, greatest_gap};
+ghost use Rattle.cl_runs.specs.Arrivals.{FollowPattern};
+ghost use Rattle.cl_runs.specs.Table.{job_at};
+
+/// The gaps after a job lie between the least and the greatest distance, which is at least one tick.
+pub fn gaps_lie_within_the_distances()
+    ensures some { (pattern : StimulusKind) → IsPattern pattern → 1 ≤ least_distance pattern }
+    ensures first { (pattern : StimulusKind) → IsPattern pattern → first_least pattern ≤ first_greatest pattern }
+    ensures least { (pattern : StimulusKind) → IsPattern pattern → (k : ℕ) → least_distance pattern ≤ least_gap pattern k }
+    ensures ordered { (pattern : StimulusKind) → IsPattern pattern → (k : ℕ) → least_gap pattern k ≤ greatest_gap pattern k }
+    ensures greatest { (pattern : StimulusKind) → IsPattern pattern → (k : ℕ) → greatest_gap pattern k ≤ greatest_distance pattern }
+{}
+
+/// Each later job arrives at least the least distance later.
+pub fn arrivals_lie_apart()
+    ensures { (pattern : StimulusKind) → IsPattern pattern → (ticks : ℕ) (jobs : List Job) → FollowPattern pattern ticks jobs
+        → (k l : ℕ) → k < l → l < length jobs → (job_at jobs k).arrival + least_distance pattern ≤ (job_at jobs l).arrival }
+{}
+
+/// The next job arrives within the greatest distance, and there is one where that distance ends in the first ticks.
+pub fn next_jobs_arrive_in_time()
+    ensures within { (pattern : StimulusKind) → IsPattern pattern → (ticks : ℕ) (jobs : List Job) → FollowPattern pattern ticks jobs
+        → (k : ℕ) → suc k < length jobs → (job_at jobs (suc k)).arrival ≤ (job_at jobs k).arrival + greatest_distance pattern }
+    ensures due { (pattern : StimulusKind) → IsPattern pattern → (ticks : ℕ) (jobs : List Job) → FollowPattern pattern ticks jobs
+        → (k : ℕ) → k < length jobs → (job_at jobs k).arrival + greatest_distance pattern < ticks → suc k < length jobs }
+{}
+
+/// A job is released at its arrival or at most the jitter later.
+pub fn releases_lie_within_the_jitter()
+    ensures not_early { (pattern : StimulusKind) (ticks : ℕ) (jobs : List Job) → FollowPattern pattern ticks jobs
+        → (k : ℕ) → k < length jobs → (job_at jobs k).arrival ≤ (job_at jobs k).release }
+    ensures not_late { (pattern : StimulusKind) (ticks : ℕ) (jobs : List Job) → FollowPattern pattern ticks jobs
+        → (k : ℕ) → k < length jobs → (job_at jobs k).release ≤ (job_at jobs k).arrival + greatest_jitter pattern }
+{}

@@ -1,5 +1,0 @@
--- the ledger is the one that the blank is of
-use Rattle.cl_time.proofs.steps.tests.a_counter_takes_no_bytes.Given as goal
-
-abbrev pub ghosts-bytes_of_a_counter : goal.ghosts-bytes_of_a_counter
-ghosts-bytes_of_a_counter g a = record { name = a.blank.name; parts = a.blank.parts }

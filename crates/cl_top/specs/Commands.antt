@@ -1,0 +1,2 @@
+-- What each command comes to, once its files are open.
+pub mod Analyse

@@ -1,0 +1,3 @@
+//! What a reader may rely on, whatever the code does.
+pub mod numbers;
+pub mod outcomes;

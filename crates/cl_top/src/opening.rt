@@ -1,0 +1,124 @@
+//! The opening of a command's files: what a fetch gave, and the valid model that a file holds.
+ghost use Rattle.std.specs.Prelude.{◌≡◌, ◌<◌, ◌≤◌, ℕ, length, IfOk};
+ghost use Rattle.cl_io.specs.Counts.{Rose, RisesAlone};
+ghost use Rattle.cl_io.specs.Names.{SameAtEach};
+ghost use Rattle.cl_model.specs.Ranges.{IsInRange};
+ghost use Rattle.cl_model.specs.Reading.{model_of};
+ghost use Rattle.cl_model.specs.Validity.{refusal_of};
+ghost use Rattle.cl_top.specs.Command.{word};
+ghost use Rattle.cl_top.specs.Files.{Fetched, Bytes, MayGive};
+ghost use Rattle.cl_top.specs.Inner.Opened.{given, IsOpenedAs, IsValidatedAs};
+
+use crate::Outcome;
+use cl_io::{FetchFault, Shelf, Words};
+use cl_model::{SystemModel, ValidModel};
+use cl_read::{ReadFault, read_model};
+use cl_time::NoMemory;
+use cl_valid::{ValidFault, validate};
+use std::alloc::Global;
+
+/// The most bytes that a model file may have.
+pub const FILE_LIMIT: u64 = 16_777_216;
+
+/// What the fetch of a file gave.
+#[derive(Drop)]
+pub(crate) enum FileFetch {
+    Bytes(Vec<u8>),
+    Fault,
+    TooLong,
+}
+
+/// What the opening of a model gave.
+#[derive(Drop)]
+pub(crate) enum Opened {
+    Valid(ValidModel),
+    /// There is none, and this is the outcome of the command.
+    Stopped(Outcome),
+}
+
+/// Fetches the file that the word at a place names, of at most so many bytes.
+pub(crate) fn fetch_file<S: Shelf>(
+    alloc: Global,
+    words: &Words,
+    place: usize,
+    limit: u64,
+    shelf: &mut S,
+) -> Result<FileFetch, NoMemory>
+    requires { place < length words.now }
+    ensures same { SameAtEach (S.held shelf.old) (S.held shelf.new) }
+    ensures faults { RisesAlone (word words.now place) (S.faults shelf.old) (S.faults shelf.new) }
+    ensures longest { RisesAlone (word words.now place) (S.longest shelf.old) (S.longest shelf.new) }
+    ensures gave { IfOk result (λ fetch. let name = word words.now place in
+        MayGive (S.held shelf.old name) limit (Rose (S.faults shelf.old name) (S.faults shelf.new name)) (S.longest shelf.new name) (given fetch)) }
+{
+    match shelf.fetch(alloc, word_at(words, place), limit) {
+        Ok(bytes) => Ok(FileFetch::Bytes(bytes)),
+        Err(FetchFault::Failed) => Ok(FileFetch::Fault),
+        Err(FetchFault::Long { .. }) => Ok(FileFetch::TooLong),
+        Err(FetchFault::NoMemory) => Err(NoMemory),
+    }
+}
+
+fn word_at(words: &Words, place: usize) -> &str
+    requires { place < length words.now }
+    ensures { result.now ≡ word words.now place }
+{
+    words.at(place).unwrap()
+}
+
+/// Opens the model file that the word at a place names: its valid model, or the outcome of its fault or its refusal.
+pub(crate) fn open_model<S: Shelf>(
+    alloc: Global,
+    words: &Words,
+    place: usize,
+    shelf: &mut S,
+) -> Result<Opened, NoMemory>
+    requires { place < length words.now }
+    ensures same { SameAtEach (S.held shelf.old) (S.held shelf.new) }
+    ensures faults { RisesAlone (word words.now place) (S.faults shelf.old) (S.faults shelf.new) }
+    ensures longest { RisesAlone (word words.now place) (S.longest shelf.old) (S.longest shelf.new) }
+    ensures opened { IfOk result (λ opened. let name = word words.now place in (fetch : Fetched)
+        × MayGive (S.held shelf.old name) FILE_LIMIT (Rose (S.faults shelf.old name) (S.faults shelf.new name)) (S.longest shelf.new name) fetch
+        × IsOpenedAs place fetch opened) }
+{
+    let fetch = fetch_file(alloc, words, place, FILE_LIMIT, shelf)?;
+    open_fetched(alloc, &fetch, place as u64)
+}
+
+/// What the fetch of the model file at a place comes to.
+fn open_fetched(alloc: Global, fetch: &FileFetch, place: u64) -> Result<Opened, NoMemory>
+    ensures { IfOk result (IsOpenedAs place (given fetch.now)) }
+{
+    match fetch {
+        FileFetch::Bytes(bytes) => open_bytes(alloc, bytes.as_slice(), place),
+        FileFetch::Fault => Ok(Opened::Stopped(Outcome::read_fault(alloc, place)?)),
+        FileFetch::TooLong => Ok(Opened::Stopped(Outcome::long_file(alloc, place)?)),
+    }
+}
+
+/// What a model file of these bytes comes to.
+fn open_bytes(alloc: Global, bytes: &[u8], place: u64) -> Result<Opened, NoMemory>
+    ensures { IfOk result (IsOpenedAs place (Bytes bytes.now)) }
+{
+    match read_model(alloc, bytes) {
+        Ok(model) => open_read(alloc, model),
+        Err(ReadFault::Refused(refusal)) => {
+            Ok(Opened::Stopped(Outcome::model_refused(alloc, refusal)?))
+        }
+        Err(ReadFault::NoMemory) => Err(NoMemory),
+    }
+}
+
+/// What a model that was read comes to.
+fn open_read(alloc: Global, model: SystemModel) -> Result<Opened, NoMemory>
+    requires { IsInRange model }
+    ensures { IfOk result (IsValidatedAs model (refusal_of model)) }
+{
+    match validate(alloc, model) {
+        Ok(model) => Ok(Opened::Valid(model)),
+        Err((_, ValidFault::Refused(refusal))) => {
+            Ok(Opened::Stopped(Outcome::model_refused(alloc, refusal)?))
+        }
+        Err((_, ValidFault::NoMemory)) => Err(NoMemory),
+    }
+}

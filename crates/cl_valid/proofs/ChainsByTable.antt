@@ -1,0 +1,66 @@
+-- The checks of chains over tables are those of the model.
+use Rattle.std.proofs.Common.{◌≡◌, ℕ, ◌+◌, not, ◌||◌, List, [], ◌++◌, map, Option, Some, None, refl, ap, ◌∙◌}
+use Rattle.std.specs.Prelude.{slice_get}
+use Rattle.std.specs.Option.{option_map, option_and_then}
+use Rattle.std.proofs.lemmas.Option.{slice_get-map}
+use Rattle.cl_model.specs.declared.chain.ChainDef.{ChainDef}
+use Rattle.cl_model.specs.declared.model.SystemModel.{SystemModel}
+use Rattle.cl_model.specs.declared.place.Place.{Place}
+use Rattle.cl_model.specs.declared.place.Part.TheVariants as part
+use Rattle.cl_model.specs.declared.place.Key.TheVariants as key
+use Rattle.cl_model.specs.declared.refusal.Code.TheVariants.{M45}
+use Rattle.cl_model.specs.declared.task.RunnableDef.{RunnableDef}
+use Rattle.cl_model.specs.Named.{has_name, is_some_and, index_of, entry_named, runnable_names, all_runnables}
+use Rattle.cl_model.specs.Place.{entry_of, at_key, at_spot}
+use Rattle.cl_model.specs.Refusals.{when, each}
+use Rattle.cl_model.proofs.Refused.{each_same}
+use Rattle.cl_model.specs.Validity.{lengths_check, step_of, misses_label, hop_check, chain_check}
+use Rattle.cl_valid.specs.declared.runnables.LabelUse.{LabelUse}
+use Rattle.cl_valid.specs.Inner.ChainsByTable.{use_of_step, misses_use, use_hop_check, known_steps_check, use_hops_check, use_chain_check}
+use Rattle.cl_valid.specs.Inner.Tables.{names_of, use_of, uses_of}
+use Rattle.cl_valid.specs.declared.names.Names.{Names}
+
+found_is : {X Y : Type 0} (h : X → Y) (xs : List X) (q : Option ℕ) → option_and_then (slice_get (map h xs)) q ≡ option_map h (option_and_then (slice_get xs) q)
+found_is h xs None = refl
+found_is h xs (Some i) = slice_get-map h xs i
+
+step_from : (all : List RunnableDef) (name : Option (List ℕ)) → option_and_then (λ n. entry_named n (runnable_names all) (map use_of all)) name ≡ option_map use_of (option_and_then (λ n. entry_named n (runnable_names all) all) name)
+step_from all None = refl
+step_from all (Some n) = found_is use_of all (index_of n (runnable_names all))
+
+writes_is : (label : List ℕ) (step : Option RunnableDef) → is_some_and (option_map use_of step) (λ writer. not (has_name label writer.writes)) ≡ is_some_and step (λ writer. not (has_name label writer.writes))
+writes_is label None = refl
+writes_is label (Some r) = refl
+
+reads_is : (label : List ℕ) (step : Option RunnableDef) → is_some_and (option_map use_of step) (λ reader. not (has_name label reader.reads)) ≡ is_some_and step (λ reader. not (has_name label reader.reads))
+reads_is label None = refl
+reads_is label (Some r) = refl
+
+misses_is : (model : SystemModel) (chain : ChainDef) (k : ℕ) (label : List ℕ) → misses_use (runnable_names (all_runnables model.tasks)) (map use_of (all_runnables model.tasks)) chain k label ≡ misses_label model chain k label
+misses_is model chain k label =
+    let all : List RunnableDef = all_runnables model.tasks in
+    let here = step_from all (slice_get chain.runnables k) in
+    let next = step_from all (slice_get chain.runnables (k + 1)) in
+    let first : is_some_and (use_of_step (runnable_names all) (map use_of all) chain k) (λ w. not (has_name label w.writes)) ≡ is_some_and (step_of model chain k) (λ w. not (has_name label w.writes)) =
+    ap (λ s. is_some_and s (λ w. not (has_name label w.writes))) here ∙ writes_is label (step_of model chain k) in
+    let second : is_some_and (use_of_step (runnable_names all) (map use_of all) chain (k + 1)) (λ r. not (has_name label r.reads)) ≡ is_some_and (step_of model chain (k + 1)) (λ r. not (has_name label r.reads)) =
+    ap (λ s. is_some_and s (λ r. not (has_name label r.reads))) next ∙ reads_is label (step_of model chain (k + 1)) in
+    ap (λ b. b || is_some_and (use_of_step (runnable_names all) (map use_of all) chain (k + 1)) (λ r. not (has_name label r.reads))) first
+    ∙ ap (λ b. is_some_and (step_of model chain k) (λ w. not (has_name label w.writes)) || b) second
+
+-- M43 to M45 of a chain
+chain_is : (model : SystemModel) (i : ℕ) (chain : ChainDef) → use_chain_check (runnable_names (all_runnables model.tasks)) (uses_of (all_runnables model.tasks)) i chain ≡ chain_check model i chain
+unfolding chain_check use_chain_check use_hop_check
+chain_is model i chain =
+    let all : List RunnableDef = all_runnables model.tasks in
+    let place : Place = at_key key.Labels (entry_of part.Chain i) in
+    let hops : use_hops_check (runnable_names all) (uses_of all) i chain ≡ each (hop_check model chain place) chain.labels =
+    each_same 0 (use_hop_check (runnable_names all) (uses_of all) chain place) (hop_check model chain place) chain.labels
+    (λ k label. ap (λ b. when b M45 (at_spot k place)) (misses_is model chain k label)) in
+    ap (λ l. lengths_check i chain ++ (known_steps_check (runnable_names all) i chain ++ (l ++ []))) hops
+
+-- M43 to M45 of each chain
+pub chains_are : (model : SystemModel) (names : Names) (uses : List LabelUse) → names ≡ names_of model → uses ≡ uses_of (all_runnables model.tasks)
+    → each (use_chain_check names.runnables uses) model.chains ≡ each (chain_check model) model.chains
+chains_are model names uses named used =
+    rw (named, used) (each_same 0 (use_chain_check (runnable_names (all_runnables model.tasks)) (uses_of (all_runnables model.tasks))) (chain_check model) model.chains (chain_is model))

@@ -1,6 +1,0 @@
-use Rattle.std.proofs.Common.{◌≡◌, [], replicate}
-use Rattle.cl_valid.proofs.groups.Groups.new.Given as goal
-
--- the cores so far have no tasks
-abbrev pub invariant-loop : goal.invariant-loop
-invariant-loop l = l.groups.items ≡ replicate l.counter []

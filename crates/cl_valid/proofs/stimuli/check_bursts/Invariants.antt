@@ -1,0 +1,8 @@
+use Rattle.std.proofs.Common.{◌≡◌, drop}
+use Rattle.cl_model.specs.Refusals.{each, each_from}
+use Rattle.cl_model.specs.ValidNames.{burst_check}
+use Rattle.cl_valid.proofs.stimuli.check_bursts.Given as goal
+
+-- what is refused in all is what is refused in the rest
+abbrev pub invariant-loop-i : goal.invariant-loop-i
+invariant-loop-i l = each burst_check l.stimuli ≡ each_from l.i burst_check (drop l.i l.stimuli)

@@ -1,0 +1,198 @@
+//! The checks of what runnables read and write.
+ghost use Rattle.std.specs.Prelude.{◌≡◌, ◌<◌, ◌^◌, ◌++◌, length, map, IfOk, OnOk};
+ghost use Rattle.cl_model.specs.declared.place.Key.TheVariants as keys;
+ghost use Rattle.cl_model.specs.Answers.{Answers};
+ghost use Rattle.cl_model.specs.Named.{labels_written};
+ghost use Rattle.cl_model.specs.NameSets.{AreNew};
+ghost use Rattle.cl_model.specs.Place.{at_key};
+ghost use Rattle.cl_model.specs.Ranges.{IsRunnableInRange, IsTaskInRange};
+ghost use Rattle.cl_model.specs.Refusals.{each};
+ghost use Rattle.cl_model.specs.ValidTasks.{label_check, writer_check, times_check, reads_check, writes_check, twice_check, contest_check, runnable_checks, body_checks};
+ghost use Rattle.cl_valid.specs.Inner.Tables.{use_of, uses_of};
+
+use crate::places::{at_spot, at_sub};
+use cl_model::{
+    Code, Key, List, ModelFault, Name, NameSet, Place, RunnableDef, TaskDef, add_new,
+    refuse_unless, refuse_when,
+};
+use cl_time::NoMemory;
+use std::alloc::Global;
+
+/// What one runnable reads and writes.
+#[derive(Drop)]
+pub struct LabelUse {
+    pub reads: NameSet,
+    pub writes: NameSet,
+}
+
+/// What the runnables so far read and write.
+#[derive(Drop)]
+pub struct LabelUses {
+    /// The labels that they write.
+    pub written: NameSet,
+    /// Each of them, in order.
+    pub each: List<LabelUse>,
+}
+
+fn check_label(
+    known: &NameSet,
+    code: Code,
+    place: Place,
+    k: usize,
+    label: &Name,
+) -> Result<(), ModelFault>
+    requires { k < 2 ^ 32 }
+    ensures { Answers result (label_check code place known.now k label.now) tt }
+{
+    refuse_unless(known.contains(label), code, at_spot(place, k))
+}
+
+fn check_writer(written: &NameSet, place: Place, k: usize, label: &Name) -> Result<(), ModelFault>
+    requires { k < 2 ^ 32 }
+    ensures { Answers result (writer_check place written.now k label.now) tt }
+{
+    refuse_when(written.contains(label), Code::M40, at_spot(place, k))
+}
+
+/// Checks that each label is known.
+#[tactic(auto, using(cl_model::proofs::FirstRefusals::loop_faults))]
+fn check_known(known: &NameSet, code: Code, place: Place, labels: &[Name]) -> Result<(), ModelFault>
+    requires { length labels.now < 2 ^ 32 }
+    ensures { Answers result (each (label_check code place known.now) labels.now) tt }
+{
+    for (k, label) in labels.iter().enumerate() {
+        check_label(known, code, place, k, label)?;
+    }
+    Ok(())
+}
+
+/// Checks M39: the labels of a list, each of which stands there once.
+fn distinct(alloc: Global, place: Place, labels: &[Name]) -> Result<NameSet, ModelFault>
+    requires { length labels.now < 2 ^ 32 }
+    ensures { Answers result (twice_check place labels.now) labels.now }
+{
+    let mut set = NameSet::new(alloc);
+    for (k, label) in labels.iter().enumerate() {
+        add_new(&mut set, label, Code::M39, at_spot(place, k))?;
+    }
+    Ok(set)
+}
+
+/// Checks M40: no label is written yet.
+#[tactic(auto, using(cl_model::proofs::FirstRefusals::loop_faults))]
+fn check_unwritten(written: &NameSet, place: Place, labels: &[Name]) -> Result<(), ModelFault>
+    requires { length labels.now < 2 ^ 32 }
+    ensures { Answers result (each (writer_check place written.now) labels.now) tt }
+{
+    for (k, label) in labels.iter().enumerate() {
+        check_writer(written, place, k, label)?;
+    }
+    Ok(())
+}
+
+/// Adds labels that are new.
+fn add_written(written: &mut NameSet, labels: &[Name]) -> Result<(), NoMemory>
+    requires { AreNew written.old labels.now }
+    ensures { OnOk result (written.new ≡ written.old ++ labels.now) }
+{
+    for label in labels {
+        let _ = written.add(label)?;
+    }
+    Ok(())
+}
+
+fn check_times(place: Place, runnable: &RunnableDef) -> Result<(), ModelFault>
+    ensures { Answers result (times_check place runnable.now) tt }
+{
+    let place = place.at_key(Key::Greatest);
+    refuse_when(runnable.greatest < runnable.least, Code::M36, place)
+}
+
+fn check_reads(known: &NameSet, place: Place, runnable: &RunnableDef) -> Result<(), ModelFault>
+    requires { IsRunnableInRange runnable.now }
+    ensures { Answers result (reads_check known.now place runnable.now) tt }
+{
+    let place = place.at_key(Key::Reads);
+    check_known(known, Code::M37, place, runnable.reads.as_slice())
+}
+
+fn check_writes(known: &NameSet, place: Place, runnable: &RunnableDef) -> Result<(), ModelFault>
+    requires { IsRunnableInRange runnable.now }
+    ensures { Answers result (writes_check known.now place runnable.now) tt }
+{
+    let place = place.at_key(Key::Writes);
+    check_known(known, Code::M38, place, runnable.writes.as_slice())
+}
+
+fn distinct_reads(
+    alloc: Global,
+    place: Place,
+    runnable: &RunnableDef,
+) -> Result<NameSet, ModelFault>
+    requires { IsRunnableInRange runnable.now }
+    ensures { Answers result (twice_check (at_key keys.Reads place) runnable.now.reads) runnable.now.reads }
+{
+    distinct(alloc, place.at_key(Key::Reads), runnable.reads.as_slice())
+}
+
+fn distinct_writes(
+    alloc: Global,
+    place: Place,
+    runnable: &RunnableDef,
+) -> Result<NameSet, ModelFault>
+    requires { IsRunnableInRange runnable.now }
+    ensures { Answers result (twice_check (at_key keys.Writes place) runnable.now.writes) runnable.now.writes }
+{
+    distinct(alloc, place.at_key(Key::Writes), runnable.writes.as_slice())
+}
+
+fn check_contest(written: &NameSet, place: Place, runnable: &RunnableDef) -> Result<(), ModelFault>
+    requires { IsRunnableInRange runnable.now }
+    ensures { Answers result (contest_check written.now place runnable.now) tt }
+{
+    let place = place.at_key(Key::Writes);
+    check_unwritten(written, place, runnable.writes.as_slice())
+}
+
+/// Checks M36 to M40 for the runnable at a place.
+fn checked_use(
+    alloc: Global,
+    known: &NameSet,
+    written: &NameSet,
+    place: Place,
+    runnable: &RunnableDef,
+) -> Result<LabelUse, ModelFault>
+    requires { IsRunnableInRange runnable.now }
+    ensures checked { Answers result (runnable_checks known.now written.now place runnable.now) (use_of runnable.now) }
+    ensures new { OnOk result (AreNew written.now runnable.now.writes) }
+{
+    check_times(place, runnable)?;
+    check_reads(known, place, runnable)?;
+    check_writes(known, place, runnable)?;
+    let reads = distinct_reads(alloc, place, runnable)?;
+    let writes = distinct_writes(alloc, place, runnable)?;
+    check_contest(written, place, runnable)?;
+    Ok(LabelUse { reads, writes })
+}
+
+/// Checks M36 to M40 for each runnable of the task at a place.
+pub fn check_body(
+    alloc: Global,
+    known: &NameSet,
+    uses: &mut LabelUses,
+    place: Place,
+    task: &TaskDef,
+) -> Result<(), ModelFault>
+    requires { IsTaskInRange task.now }
+    ensures checked { Answers result (body_checks known.now uses.old.written place task.now) tt }
+    ensures written { OnOk result (uses.new.written ≡ uses.old.written ++ labels_written task.now.runnables) }
+    ensures each { OnOk result (uses.new.each ≡ uses.old.each ++ uses_of task.now.runnables) }
+{
+    let runnables = task.runnables.as_slice();
+    for (p, runnable) in runnables.iter().enumerate() {
+        let label_use = checked_use(alloc, known, &uses.written, at_sub(place, p), runnable)?;
+        uses.each.push(label_use)?;
+        add_written(&mut uses.written, runnable.writes.as_slice())?;
+    }
+    Ok(())
+}
