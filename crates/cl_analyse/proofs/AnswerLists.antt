@@ -1,9 +1,11 @@
 -- The lists of answers, one answer after the other.
-use Rattle.std.proofs.Common.{◌≡◌, ℕ, ◌+◌, ◌<◌, ◌≤◌, List, [], ◌∷◌, ◌++◌, length, get_or, take, map, sym, ap, ◌∙◌, arith}
-use Rattle.std.proofs.lemmas.List.{take_more, take_all, get_or-map}
+use Rattle.std.proofs.Common.{◌≡◌, ℕ, ◌+◌, ◌<◌, ◌≤◌, List, [], ◌∷◌, ◌++◌, length, get_or, take, map, refl, sym, ap, subst, ◌∙◌, arith, below_more, length-append, inl, inr}
+use Rattle.std.proofs.lemmas.List.{take_more, take_all, get_or-map, get_or_append_left, get_or_past}
+use Rattle.std.proofs.lemmas.Option.{slice_get_cases}
+use Rattle.std.proofs.Math.Seq.{get_or-append_seam}
 use Rattle.std.proofs.Math.ListN.{length-map}
 use Rattle.cl_model.specs.declared.model.SystemModel.{SystemModel}
-use Rattle.std.specs.Prelude.{Option, Some, None}
+use Rattle.std.specs.Prelude.{Option, Some, None, slice_get}
 use Rattle.cl_model.specs.declared.chain.ChainDef.{ChainDef}
 use Rattle.cl_model.specs.Groups.{steps_of, groups_of}
 use Rattle.cl_model.specs.ByNumber.{no_chain}
@@ -15,8 +17,11 @@ use Rattle.cl_bound.specs.Answers.{answer_to, answers_of}
 use Rattle.cl_bound.specs.Bounds.{Lengths, bounds_of}
 use Rattle.cl_analyse.specs.declared.findings.ChainAnswer.{ChainAnswer}
 use Rattle.cl_analyse.specs.declared.findings.ChainAnswer.TheVariants.{Bounds, Late}
-use Rattle.cl_analyse.specs.declared.findings.Findings.{Findings}
-use Rattle.cl_analyse.specs.Findings.{first_late, chain_answer, chain_answer_of, findings_of}
+use Rattle.cl_analyse.specs.declared.findings.ExactAnswer.{ExactAnswer}
+use Rattle.cl_analyse.specs.declared.findings.ExactAnswer.TheVariants.{ChainLate}
+use Rattle.cl_analyse.specs.declared.findings.Verdict.{Verdict}
+use Rattle.cl_analyse.specs.ChainAnswers.{first_late, chain_answer, chain_answer_of, chain_answers_of, exact_answer_at, IsExactAnswer, AreExactAnswers}
+use Rattle.cl_analyse.specs.Verdicts.{verdict_of, verdicts_of, no_requirement}
 
 -- one more of a mapped list
 more_mapped : {X Y : Type 0} (f : X → Y) (xs : List X) (n : ℕ) (d : X) (old new : List Y) (next : Y) → n < length xs → old ≡ take n (map f xs)
@@ -45,6 +50,16 @@ more_chains model n = more_mapped (chain_answer_of model) model.chains n no_chai
 pub all_chains : (model : SystemModel) (n : ℕ) → length model.chains ≤ n → take n (map (chain_answer_of model) model.chains) ≡ map (chain_answer_of model) model.chains
 all_chains model n = all_mapped (chain_answer_of model) model.chains n
 
+-- a look-up finds nothing past the end
+pub nothing_at : {X : Type 0} (xs : List X) (i : ℕ) (d : X) → None ≡ slice_get xs i → get_or xs i d ≡ d
+nothing_at xs i d none = elim (slice_get_cases xs i).1 [
+  | inl found ↦ absurd (some_is_none found.0 (sym found.2 ∙ sym none))
+  | inr past ↦ get_or_past xs i d past.0
+]
+  where
+    some_is_none : {X : Type 0} (x : X) → Some x ≡ None → ⊥
+    some_is_none x is = cc
+
 -- the answer for a chain, from its first late task or from its bounds
 pub late_answer : (model : SystemModel) (answers : List TaskAnswer) (chain : ChainDef) (task : ℕ) → answers ≡ answers_of (system_of model)
     → first_late answers (steps_of model chain) ≡ Some task → Late task ≡ chain_answer_of model chain
@@ -61,11 +76,46 @@ bounds_answer model answers chain bounds are timely is =
     ∙ sym (ap (λ (list : List TaskAnswer). chain_answer (first_late list (steps_of model chain)) (bounds_of (system_of model) (groups_of model chain))) (sym are)
     ∙ ap (λ (o : Option ℕ). chain_answer o (bounds_of (system_of model) (groups_of model chain))) timely)
 
-same_findings : (t tasks : List TaskAnswer) (c chains : List ChainAnswer) → t ≡ tasks → c ≡ chains
-    → ◌≡◌ {A = Findings} (record { tasks = t; chains = c }) (record { tasks = tasks; chains = chains })
-same_findings t tasks c chains e f = cc
+-- the answer for a chain is at its place
+pub chain_answer_found : (model : SystemModel) (chains : List ChainAnswer) (i : ℕ) (answer : ChainAnswer) → chains ≡ chain_answers_of model → i < length model.chains
+    → answer ≡ get_or chains i answer → answer ≡ chain_answer_of model (get_or model.chains i no_chain)
+chain_answer_found model chains i answer are within at =
+    at ∙ ap (λ (list : List ChainAnswer). get_or list i answer) are ∙ get_or-map (chain_answer_of model) model.chains i no_chain answer within
 
-pub findings_are : (model : SystemModel) (tasks : List TaskAnswer) (chains : List ChainAnswer) → tasks ≡ answers_of (system_of model)
-    → chains ≡ map (chain_answer_of model) model.chains → ◌≡◌ {A = Findings} (record { tasks = tasks; chains = chains }) (findings_of model)
-unfolding findings_of
-findings_are model tasks chains = same_findings tasks _ chains _
+-- ---- exact lengths
+
+-- the answers for the first n chains
+pub record AreFirstExacts (model : SystemModel) (n : ℕ) (answers : List ExactAnswer) : Type 0 where
+  pub count : length answers ≡ n
+  pub each : (chain : ℕ) → chain < n → IsExactAnswer model chain (chain_answer_of model (get_or model.chains chain no_chain)) (exact_answer_at answers chain)
+
+pub no_exacts : (model : SystemModel) → AreFirstExacts model 0 []
+no_exacts model = record { count = refl; each = λ chain within. absurd (omega (arith, within)) }
+
+pub more_exacts : (model : SystemModel) (n : ℕ) (old new : List ExactAnswer) (next : ExactAnswer) → AreFirstExacts model n old
+    → IsExactAnswer model n (chain_answer_of model (get_or model.chains n no_chain)) next → new ≡ old ++ next ∷ [] → AreFirstExacts model (n + 1) new
+more_exacts model n old new next was is pushed = record {
+  count = ap length pushed ∙ length-append old (next ∷ []) ∙ ap (λ m. m + 1) was.count;
+  each = below_more _ _
+      (λ chain within. subst (IsExactAnswer model chain (chain_answer_of model (get_or model.chains chain no_chain)))
+      (sym (ap (λ (list : List ExactAnswer). exact_answer_at list chain) pushed ∙ get_or_append_left old (next ∷ []) ChainLate chain (omega (arith, within, was.count)))) (was.each chain within))
+      (subst (IsExactAnswer model n (chain_answer_of model (get_or model.chains n no_chain)))
+      (sym (ap (λ (list : List ExactAnswer). exact_answer_at list n) pushed ∙ ap (λ m. get_or (old ++ next ∷ []) m ChainLate) (sym was.count) ∙ get_or-append_seam old next [] ChainLate)) is);
+}
+
+pub all_exacts : (model : SystemModel) (n : ℕ) (answers : List ExactAnswer) → n ≡ length model.chains → AreFirstExacts model n answers → AreExactAnswers model answers
+all_exacts model n answers all first = record {
+  one_a_chain = first.count ∙ all;
+  each = λ chain within. first.each chain (omega (arith, within, all));
+}
+
+-- ---- verdicts
+
+pub more_verdicts : (model : SystemModel) (chains : List ChainAnswer) (exacts : List ExactAnswer) (n : ℕ) (old new : List Verdict) (next : Verdict) → n < length model.requirements
+    → old ≡ take n (verdicts_of model chains exacts) → next ≡ verdict_of model chains exacts (get_or model.requirements n no_requirement) → new ≡ old ++ next ∷ []
+    → new ≡ take (n + 1) (verdicts_of model chains exacts)
+more_verdicts model chains exacts n = more_mapped (verdict_of model chains exacts) model.requirements n no_requirement
+
+pub all_verdicts : (model : SystemModel) (chains : List ChainAnswer) (exacts : List ExactAnswer) (n : ℕ) → length model.requirements ≤ n
+    → take n (verdicts_of model chains exacts) ≡ verdicts_of model chains exacts
+all_verdicts model chains exacts n = all_mapped (verdict_of model chains exacts) model.requirements n

@@ -1,10 +1,18 @@
 -- What the findings of a model promise: the headline.
-use Rattle.std.specs.Prelude.{◌≡◌, ℕ, ◌<◌, length}
+use Rattle.std.specs.Prelude.{◌≡◌, ℕ, ◌<◌, ◌≤◌, false, List, length}
 use Rattle.cl_model.specs.declared.model.SystemModel.{SystemModel}
+use Rattle.cl_model.specs.declared.chain.LengthKind.{LengthKind}
+use Rattle.cl_model.specs.declared.chain.LengthKind.TheVariants.{Reaction, Age, Reduced}
+use Rattle.cl_model.specs.declared.chain.RequirementDef.{RequirementDef}
+use Rattle.cl_model.specs.declared.group.Group.{Group}
 use Rattle.cl_model.specs.ByNumber.{chain_at}
 use Rattle.cl_model.specs.Groups.{steps_of, step_at, groups_at}
 use Rattle.cl_runs.specs.TaskTiming.{timing_at}
 use Rattle.cl_runs.specs.SystemOf.{system_of}
+use Rattle.cl_runs.specs.Run.{Run}
+use Rattle.cl_runs.specs.Legal.{IsLegal}
+use Rattle.cl_runs.specs.Chains.{Moments, JobChain, chain_length, IsForwardChain, IsAgeChain, IsReducedChain}
+use Rattle.cl_runs.specs.RunChains.{run_moments}
 use Rattle.cl_resp.specs.declared.question.Question.{Question}
 use Rattle.cl_resp.specs.Question.{question_of}
 use Rattle.cl_resp.specs.Response.{Response, HasNoFixpoint}
@@ -13,9 +21,17 @@ use Rattle.cl_bound.specs.declared.answer.TaskAnswer.TheVariants.{Settled}
 use Rattle.cl_bound.specs.Answers.{answer_at}
 use Rattle.cl_bound.specs.Bounds.{Lengths}
 use Rattle.cl_bound.specs.Promises.{AreSafe}
+use Rattle.cl_exact.specs.TimedPeriodic.{is_timed_periodic_chain}
+use Rattle.cl_exact.specs.Hyperperiod.{hyper_limit, IsPastLimit}
+use Rattle.cl_exact.specs.ExactLengths.{Witnesses}
+use Rattle.cl_exact.specs.RunPromises.{AreExactInRuns}
 use Rattle.cl_analyse.specs.declared.findings.ChainAnswer.TheVariants.{Bounds, Late}
+use Rattle.cl_analyse.specs.declared.findings.ExactAnswer.{ExactAnswer}
+use Rattle.cl_analyse.specs.declared.findings.ExactAnswer.TheVariants.{Exact, Past, NotTimed, ChainLate}
+use Rattle.cl_analyse.specs.declared.findings.Verdict.TheVariants.{Met}
 use Rattle.cl_analyse.specs.declared.findings.Findings.{Findings}
-use Rattle.cl_analyse.specs.Findings.{chain_answer_at}
+use Rattle.cl_analyse.specs.ChainAnswers.{chain_answer_at, exact_answer_at}
+use Rattle.cl_analyse.specs.Verdicts.{required_chain, requirement_at, verdict_at}
 
 -- the question of a task of a model
 abbrev pub question_at : SystemModel → (task : ℕ) → Question
@@ -33,13 +49,65 @@ pub record IsFirstWithoutFixpoint (model : SystemModel) (chain task : ℕ) : Typ
   pub none : HasNoFixpoint (question_at model task)
   pub first : (earlier : ℕ) → earlier < step → HasNoFixpoint (question_at model (task_of_step model chain earlier)) → ⊥
 
--- the findings are safe: in every legal run of any length each job of a settled task finishes within its response,
--- and each bound is at least the length of every complete chain of its kind; and a bound is missing only where a task
--- has no fixpoint within its deadline
+-- ---- exact lengths
+
+-- Why the answer on the exact lengths of a chain is what it is: they are exact in all legal runs; or their hyperperiod
+-- exceeds the limit that is named; or some task of the chain isn't both timed and periodic; or some task is late.
+abbrev pub IsExactBecause : SystemModel → (chain : ℕ) → ExactAnswer → Type 0
+IsExactBecause model chain (Exact lengths) = AreExactInRuns (system_of model) (groups_at model chain) lengths
+IsExactBecause model chain (Past limit) =
+    IsPastLimit (system_of model) (groups_at model chain)
+    × (limit ≡ hyper_limit (system_of model) (groups_at model chain))
+IsExactBecause model chain NotTimed = is_timed_periodic_chain model chain ≡ false
+IsExactBecause model chain ChainLate = (task : ℕ) × IsFirstWithoutFixpoint model chain task
+
+-- each exact length is at most the bound of its kind
+pub record AreWithinBounds (lengths : Witnesses) (bounds : Lengths) : Type 0 where
+  pub reaction : lengths.reaction.length ≤ bounds.reaction
+  pub age : lengths.age.length ≤ bounds.age
+  pub reduced : lengths.reduced.length ≤ bounds.reduced
+
+-- ---- requirements
+
+-- a complete chain of a kind
+abbrev pub IsChainOfKind : LengthKind → Moments → List Group → JobChain → Type 0
+IsChainOfKind Reaction = IsForwardChain
+IsChainOfKind Age = IsAgeChain
+IsChainOfKind Reduced = IsReducedChain
+
+-- a complete chain of a run, of the chain and the kind that a requirement names
+abbrev pub IsRequiredChain : SystemModel → RequirementDef → Run → JobChain → Type 0
+IsRequiredChain model requirement run chain =
+    let groups = groups_at model (required_chain model requirement) in
+    IsChainOfKind requirement.kind (run_moments (system_of model) run) groups chain
+
+-- a requirement is kept: in every legal run no complete chain of its chain and kind is longer than it says
+abbrev pub IsKept : SystemModel → RequirementDef → Type 0
+IsKept model requirement = (run : Run) → IsLegal (system_of model) run
+    → (chain : JobChain) → IsRequiredChain model requirement run chain → chain_length chain ≤ requirement.most
+
+-- a requirement is broken: in some legal run a complete chain of its chain and kind is longer than it says
+pub record IsBroken (model : SystemModel) (requirement : RequirementDef) : Type 0 where
+  pub run : Run
+  pub legal : IsLegal (system_of model) run
+  pub chain : JobChain
+  pub complete : IsRequiredChain model requirement run chain
+  pub longer : requirement.most < chain_length chain
+
+-- ---- the findings
+
+-- The findings are safe. In every legal run of any length each job of a settled task finishes within its response, and
+-- each bound is at least the length of every complete chain of its kind. A bound is missing only where a task has no
+-- fixpoint within its deadline. Exact lengths are exact, and missing only for one of three reasons. What is found met is
+-- kept.
 pub record AreSafeFindings (model : SystemModel) (findings : Findings) : Type 0 where
-  pub responses : (task : ℕ) (response : Response) → task < length model.tasks → answer_at findings.tasks task ≡ Settled response
-      → AlwaysFinishesWithin (system_of model) task response.response
-  pub bounds : (chain : ℕ) (bounds : Lengths) → chain < length model.chains → chain_answer_at findings chain ≡ Bounds bounds
-      → AreSafe (system_of model) (groups_at model chain) bounds
-  pub missing : (chain task : ℕ) → chain < length model.chains → chain_answer_at findings chain ≡ Late task
-      → IsFirstWithoutFixpoint model chain task
+  pub responses : (task : ℕ) (response : Response) → task < length model.tasks
+      → answer_at findings.tasks task ≡ Settled response → AlwaysFinishesWithin (system_of model) task response.response
+  pub bounds : (chain : ℕ) (bounds : Lengths) → chain < length model.chains
+      → chain_answer_at findings.chains chain ≡ Bounds bounds → AreSafe (system_of model) (groups_at model chain) bounds
+  pub missing : (chain task : ℕ) → chain < length model.chains
+      → chain_answer_at findings.chains chain ≡ Late task → IsFirstWithoutFixpoint model chain task
+  pub exact : (chain : ℕ) → chain < length model.chains
+      → IsExactBecause model chain (exact_answer_at findings.exacts chain)
+  pub met : (i value : ℕ) → i < length model.requirements
+      → verdict_at findings.verdicts i ≡ Met value → IsKept model (requirement_at model i)

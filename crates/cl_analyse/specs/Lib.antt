@@ -1,2 +1,4 @@
+pub mod ChainAnswers
+pub mod Verdicts
 pub mod Findings
 pub mod Headline

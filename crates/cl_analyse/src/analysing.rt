@@ -1,42 +1,57 @@
 //! The analysis of a model. Times are in ticks.
-ghost use Rattle.std.specs.Prelude.{◌≡◌, ◌+◌, ◌<◌, ◌≤◌, length, map, slice_index_or, IfOk};
+ghost use Rattle.std.specs.Prelude.{◌≡◌, ◌+◌, ◌*◌, ◌<◌, ◌≤◌, length, slice_index_or, IfOk};
 ghost use Rattle.cl_model.specs.Groups.{steps_of};
 ghost use Rattle.cl_model.specs.ByNumber.{chain_at};
 ghost use Rattle.cl_runs.specs.SystemOf.{system_of};
 ghost use Rattle.cl_runs.specs.TaskTiming.{timing_at};
-ghost use Rattle.cl_bound.specs.Answers.{answer_to, answers_of, answer_at, is_late};
-ghost use Rattle.cl_analyse.specs.Findings.{first_late, chain_answer_of, findings_of};
+ghost use Rattle.cl_resp.specs.Question.{IsQuestionInRange};
+ghost use Rattle.cl_resp.specs.Response.{response_to};
+ghost use Rattle.cl_bound.specs.Answers.{answer_with, answer_to, answers_of, answer_at, is_late};
+ghost use Rattle.cl_analyse.specs.ChainAnswers.{first_late, chain_answer_of, chain_answers_of, OnLate};
+ghost use Rattle.cl_analyse.specs.Findings.{AreFindings};
 ghost use Rattle.cl_analyse.specs.Headline.{AreSafeFindings};
 
+use crate::exact_answers::answer_exacts;
 use crate::findings::{ChainAnswer, Findings};
+use crate::judging::judge_all;
 use cl_bound::{TaskAnswer, bound};
 use cl_model::{List, ValidModel};
-use cl_resp::{Late, ask, respond};
+use cl_resp::{Late, Question, ask, respond};
 use cl_time::{NoMemory, Steps};
 use std::alloc::Global;
 use std::sync::ledger::Ledger;
 
-/// What is found of a model: the response of each task, and the bounds of each chain none of whose tasks is late.
+/// What is found of a model: the response of each task, the bounds of each chain none of whose tasks is late, its exact
+/// lengths where its tasks are all periodic and timed, and the verdict on each requirement.
 ///
 /// In each legal run, of any length, each job of a task that is found settled finishes within its response of its
-/// arrival where the run lasts so long, and each bound is at least the length of each complete chain of its kind.
+/// arrival where the run lasts so long, and each bound and each exact length is at least the length of each complete
+/// chain of its kind. The witness of an exact length is such a chain, of that length, in each legal run that lasts to its
+/// end. A requirement that is found met is kept by each complete chain.
 ///
-/// It counts a step for each task and for each chain that has bounds. `NoMemory` comes where there is no memory for the
-/// findings or for a question; it leaves nothing.
+/// It counts a step for each task, for each chain that has bounds, and for each whose exact lengths are sought.
+/// `NoMemory` comes where there is no memory for the findings or for a question; it leaves nothing.
 pub fn analyse<L: Ledger>(
     alloc: Global,
     model: &ValidModel,
     steps: &mut Steps<L>,
 ) -> Result<Findings, NoMemory>
-    ensures findings { IfOk result (λ findings. findings ≡ findings_of model.now) }
+    ensures findings { IfOk result (AreFindings model.now) }
     ensures safe { IfOk result (AreSafeFindings model.now) }
-    ensures steps { steps.new ≤ steps.old + (length model.now.tasks + length model.now.chains) }
+    ensures steps { steps.new ≤ steps.old + (length model.now.tasks + 2 * length model.now.chains) }
 {
     // read for what it says: the model is valid
     let _plain = model.plain();
     let tasks = answer_tasks(alloc, model, steps)?;
     let chains = answer_chains(alloc, model, &tasks, steps)?;
-    Ok(Findings { tasks, chains })
+    let exacts = answer_exacts(alloc, model, &chains, steps)?;
+    let verdicts = judge_all(alloc, model, &chains, &exacts)?;
+    Ok(Findings {
+        tasks,
+        chains,
+        exacts,
+        verdicts,
+    })
 }
 
 /// The answers to the questions of all tasks.
@@ -67,9 +82,19 @@ fn answer_task<L: Ledger>(
     ensures steps { steps.new ≤ steps.old + 1 }
 {
     let question = ask(alloc, model, task)?;
-    match respond(&question, steps) {
-        Ok(settled) => Ok(TaskAnswer::Settled(settled)),
-        Err(Late) => Ok(TaskAnswer::Late),
+    Ok(answer_question(&question, steps))
+}
+
+/// The answer to the question of a task: its window and its response, in ticks, or that it is late. It counts one step and
+/// takes no memory.
+pub fn answer_question<L: Ledger>(question: &Question, steps: &mut Steps<L>) -> TaskAnswer
+    requires { IsQuestionInRange question.now }
+    ensures answer { result ≡ answer_with (response_to question.now) }
+    ensures steps { steps.new ≡ steps.old + 1 }
+{
+    match respond(question, steps) {
+        Ok(settled) => TaskAnswer::Settled(settled),
+        Err(Late) => TaskAnswer::Late,
     }
 }
 
@@ -81,7 +106,7 @@ fn answer_chains<L: Ledger>(
     steps: &mut Steps<L>,
 ) -> Result<List<ChainAnswer>, NoMemory>
     requires { tasks.now ≡ answers_of (system_of model.now) }
-    ensures answers { IfOk result (λ answers. answers ≡ map (chain_answer_of model.now) model.now.chains) }
+    ensures answers { IfOk result (λ answers. answers ≡ chain_answers_of model.now) }
     ensures steps { steps.new ≤ steps.old + length model.now.chains }
 {
     let mut answers = List::new(alloc);
@@ -91,8 +116,9 @@ fn answer_chains<L: Ledger>(
     Ok(answers)
 }
 
-/// The answer for a chain: its bounds, or the first of its tasks that is late.
-fn answer_chain<L: Ledger>(
+/// The answer for a chain, from those for all tasks: its bounds, which count a step, or the first of its tasks that is
+/// late, which counts none. It takes no memory.
+pub fn answer_chain<L: Ledger>(
     model: &ValidModel,
     chain: u32,
     tasks: &List<TaskAnswer>,
@@ -102,6 +128,7 @@ fn answer_chain<L: Ledger>(
     requires answers { tasks.now ≡ answers_of (system_of model.now) }
     ensures answer { result ≡ chain_answer_of model.now (chain_at model.now chain) }
     ensures steps { steps.new ≤ steps.old + 1 }
+    ensures late { OnLate result (steps.new ≡ steps.old) }
 {
     match first_late(model, chain, tasks) {
         Some(task) => ChainAnswer::Late { task },
@@ -109,8 +136,9 @@ fn answer_chain<L: Ledger>(
     }
 }
 
-/// The first late task along the steps of a chain.
-fn first_late(model: &ValidModel, chain: u32, answers: &List<TaskAnswer>) -> Option<u32>
+/// The first late task along the steps of a chain, by the answers for all tasks. There is none exactly where no task of
+/// the chain is late. It takes no memory.
+pub fn first_late(model: &ValidModel, chain: u32, answers: &List<TaskAnswer>) -> Option<u32>
     requires { chain < length model.now.chains }
     ensures { result ≡ first_late answers.now (steps_of model.now (chain_at model.now chain)) }
 {

@@ -1,8 +1,11 @@
-//! The public calls of single crates, each once on its happy path and at its limits: tests alone.
+//! The public calls of single crates, but for those that take a valid model, each once on its happy path and at its limits:
+//! tests alone.
 #![tactic(auto)]
 
 #[cfg(test)]
 mod access;
+#[cfg(test)]
+mod generated_models;
 #[cfg(test)]
 mod lanes;
 #[cfg(test)]
@@ -22,6 +25,6 @@ mod stimuli;
 #[cfg(test)]
 mod texts;
 #[cfg(test)]
-mod valid_models;
-#[cfg(test)]
 mod validity;
+#[cfg(test)]
+mod writing;

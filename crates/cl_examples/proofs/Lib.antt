@@ -4,3 +4,5 @@ pub mod WholeRun
 pub mod DividedRun
 pub mod ExampleChains
 pub mod ModelOfExample
+pub mod TimedTasks
+pub mod TimedChains

@@ -2,3 +2,5 @@ pub mod Examples
 pub mod WholeExample
 pub mod ExampleModel
 pub mod WholeModel
+pub mod TimedExample
+pub mod TimedModel

@@ -2,14 +2,20 @@
 ghost use Rattle.std.specs.Prelude.{◌≡◌, ◌⊎◌, take};
 ghost use Rattle.cl_runs.specs.TaskTiming.{IsSound};
 ghost use Rattle.cl_runs.specs.Table.{AreLawfulJobs, IsLawful};
+ghost use Rattle.cl_runs.specs.Run.{Run};
+ghost use Rattle.cl_runs.specs.RunChains.{run_moments};
 ghost use Rattle.cl_runs.specs.Legal.{IsLegal};
 ghost use Rattle.cl_runs.specs.Chains.{JobChain, first_job, IsEarliestReader, IsForwardChain, IsAgeChain, IsReducedChain};
 ghost use Rattle.cl_runs.specs.Measured.{IsMeasured};
 ghost use Rattle.cl_model.specs.Groups.{groups_of, group_at};
 ghost use Rattle.cl_runs.specs.SystemOf.{system_of};
+ghost use Rattle.cl_exact.specs.ExactLengths.{AreExactLengths};
+ghost use Rattle.cl_exact.specs.RunPromises.{IsSettledTimedChain};
 ghost use Rattle.cl_examples.specs.ExampleModel.{two_tasks_model, chain_ab};
 ghost use Rattle.cl_examples.specs.WholeModel.{one_core_model};
 ghost use Rattle.cl_examples.specs.WholeExample.{one_core, one_core_table, whole_run, broken_run, one_core_divided};
+ghost use Rattle.cl_examples.specs.TimedExample.{timed_tasks, timed_lengths};
+ghost use Rattle.cl_examples.specs.TimedModel.{timed_model};
 ghost use Rattle.cl_examples.specs.Examples.{sporadic_task, two_jobs, two_tasks, jobs_of_b, table_with, two_tasks_run, two_tasks_moments, from_a_to_b, chain_of, two_tasks_measured};
 
 /// With gaps from 5 to 8, arrivals at 0 and 8 are lawful for 16 ticks, and not for 17, since a third was due.
@@ -73,4 +79,31 @@ pub fn runs_of_a_whole_runnable()
     ensures legal { IsLegal one_core whole_run }
     ensures not_interrupted { IsLegal one_core broken_run → ⊥ }
     ensures interrupted_where_divided { IsLegal one_core_divided broken_run }
+{}
+
+/// The system of a model of two timed tasks, with periods of 10 and 15 ticks, and the groups of its chain.
+pub fn model_of_timed_tasks()
+    ensures system { system_of timed_model ≡ timed_tasks }
+    ensures groups { groups_of timed_model chain_ab ≡ from_a_to_b }
+{}
+
+/// That system is sound, and neither task is late.
+pub fn timed_tasks_are_settled()
+    ensures sound { IsSound timed_tasks }
+    ensures settled { IsSettledTimedChain timed_tasks from_a_to_b }
+{}
+
+/// The exact lengths of the chain: a reaction of 45 by the jobs 4 and 4, an age of 45 and a reduced age of 30 by the
+/// jobs 6 and 5.
+pub fn exact_lengths_of_timed_tasks()
+    ensures { AreExactLengths timed_tasks from_a_to_b timed_lengths }
+{}
+
+/// The chain of that reduced age ends at 90, and is complete once the job after its last has written, at 105: it is a
+/// complete chain of each legal run of 105 ticks, and of none of 90.
+pub fn reduced_witness_of_timed_tasks()
+    ensures in_105_ticks { (run : Run) → IsLegal timed_tasks run → run.table.ticks ≡ 105
+        → IsReducedChain (run_moments timed_tasks run) from_a_to_b (chain_of 6 5 60 90) }
+    ensures not_in_90_ticks { (run : Run) → IsLegal timed_tasks run → run.table.ticks ≡ 90
+        → IsReducedChain (run_moments timed_tasks run) from_a_to_b (chain_of 6 5 60 90) → ⊥ }
 {}

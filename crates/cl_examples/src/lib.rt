@@ -1,4 +1,4 @@
-//! A worked example: what the definitions of runs and job chains say of small systems. Nothing stands on it.
+//! Worked examples: what the definitions of runs, job chains and exact lengths say of small systems. Nothing stands on them.
 #![tactic(auto)]
 
 pub mod laws;

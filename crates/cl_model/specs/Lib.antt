@@ -17,3 +17,4 @@ pub mod Groups
 pub mod MaximalRuns
 pub mod KnownNames
 pub mod Inner
+pub mod ListLends

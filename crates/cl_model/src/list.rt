@@ -4,6 +4,8 @@ ghost use Rattle.std.specs.Option.{option_copied};
 ghost use Rattle.std.specs.Cmp.Lexicographic.{pointwise, lists_per, lists_equiv};
 ghost use Rattle.std.specs.Slice.Iter.{iter_rest};
 
+mod changes;
+
 use crate::copying::TryCopy;
 use cl_time::NoMemory;
 use std::alloc::Global;

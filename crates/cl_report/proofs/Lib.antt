@@ -1,1 +1,5 @@
 pub mod ReportLines
+pub mod OneReport
+pub mod SmallSums
+pub mod SurveyPieces
+pub mod OneSurvey

@@ -1,19 +1,30 @@
 -- The lines of a report: one more of them, and the answer that each prints.
-use Rattle.std.proofs.Common.{◌≡◌, ℕ, zero, suc, ◌+◌, ◌<◌, List, [], ◌∷◌, ◌++◌, length, get_or, map, sym, ap, ◌∙◌, arith}
+use Rattle.std.proofs.Common.{◌≡◌, ℕ, zero, suc, ◌+◌, ◌<◌, List, [], ◌∷◌, ◌++◌, length, get_or, map, None, sym, ap, ◌∙◌, arith, codes}
 use Rattle.std.specs.List.{flat_map, range_with_len}
-use Rattle.std.proofs.lemmas.List.{flat_map_more, get_or_default}
+use Rattle.std.proofs.lemmas.List.{flat_map_more, get_or_default, append_assoc}
 use Rattle.std.proofs.Math.ListN.{length-map}
 use Rattle.cl_model.specs.declared.model.SystemModel.{SystemModel}
+use Rattle.cl_model.specs.declared.chain.RequirementDef.{RequirementDef}
 use Rattle.cl_model.specs.Validity.{IsValid}
+use Rattle.cl_model.specs.declared.group.Group.{Group}
+use Rattle.cl_runs.specs.TaskTiming.{System}
 use Rattle.cl_runs.specs.SystemOf.{system_of, timing_of}
 use Rattle.cl_bound.specs.declared.answer.TaskAnswer.{TaskAnswer}
 use Rattle.cl_bound.specs.declared.answer.TaskAnswer.TheVariants as task
 use Rattle.cl_bound.specs.Answers.{answers_of, answer_to, answer_at}
 use Rattle.cl_analyse.specs.declared.findings.ChainAnswer.{ChainAnswer}
 use Rattle.cl_analyse.specs.declared.findings.ChainAnswer.TheVariants as chain
+use Rattle.cl_exact.specs.ExactLengths.{Witnesses, AreExactLengths}
+use Rattle.cl_analyse.specs.declared.findings.ExactAnswer.{ExactAnswer}
+use Rattle.cl_analyse.specs.declared.findings.ExactAnswer.TheVariants as exact
+use Rattle.cl_analyse.specs.declared.findings.Verdict.{Verdict}
+use Rattle.cl_analyse.specs.declared.findings.Verdict.TheVariants as verdict
 use Rattle.cl_analyse.specs.declared.findings.Findings.{Findings}
-use Rattle.cl_analyse.specs.Findings.{findings_of, chain_answer_of, chain_answer_at}
+use Rattle.cl_analyse.specs.Verdicts.{verdict_of, verdict_at}
+use Rattle.cl_analyse.specs.ChainAnswers.{chain_answer_of, chain_answer_at, exact_answer_at}
+use Rattle.cl_analyse.specs.Findings.{AreFindings}
 use Rattle.cl_analyse.proofs.SafeFindings.{named_task_within}
+use Rattle.cl_report.specs.Report.{kind_word, verdict_words, verdict_line}
 
 -- one more number
 range_more : (a n : ℕ) → range_with_len a (suc n) ≡ range_with_len a n ++ (a + n) ∷ []
@@ -34,29 +45,71 @@ line_more line text before after n was is =
     ∙ ap (λ m. text ++ flat_map line (range_with_len 0 m)) next
 
 -- there is an answer for each task, and one for each chain
-pub tasks_found : (model : SystemModel) (findings : Findings) → findings ≡ findings_of model → length findings.tasks ≡ length model.tasks
-unfolding findings_of answers_of system_of
+pub tasks_found : (model : SystemModel) (findings : Findings) → AreFindings model findings → length findings.tasks ≡ length model.tasks
+unfolding answers_of system_of
 tasks_found model findings is =
-    ap (λ (f : Findings). length f.tasks) is ∙ length-map (map (timing_of model) model.tasks) (answer_to (system_of model)) ∙ length-map model.tasks (timing_of model)
+    ap (λ (answers : List TaskAnswer). length answers) is.tasks ∙ length-map (map (timing_of model) model.tasks) (answer_to (system_of model)) ∙ length-map model.tasks (timing_of model)
 
-pub chains_found : (model : SystemModel) (findings : Findings) → findings ≡ findings_of model → length findings.chains ≡ length model.chains
-unfolding findings_of
-chains_found model findings is = ap (λ (f : Findings). length f.chains) is ∙ length-map model.chains (chain_answer_of model)
+pub chains_found : (model : SystemModel) (findings : Findings) → AreFindings model findings → length findings.chains ≡ length model.chains
+chains_found model findings is = ap (λ (answers : List ChainAnswer). length answers) is.chains ∙ length-map model.chains (chain_answer_of model)
 
 -- an answer that was found in its list
 pub task_answer : (answers : List TaskAnswer) (i : ℕ) (answer : TaskAnswer) → i < length answers → answer ≡ get_or answers i answer → answer ≡ answer_at answers i
 task_answer answers i answer lt at = at ∙ get_or_default answers i answer task.Late lt
 
-pub chain_answer_found : (findings : Findings) (i : ℕ) (answer : ChainAnswer) → i < length findings.chains → answer ≡ get_or findings.chains i answer → answer ≡ chain_answer_at findings i
+pub chain_answer_found : (findings : Findings) (i : ℕ) (answer : ChainAnswer) → i < length findings.chains → answer ≡ get_or findings.chains i answer → answer ≡ chain_answer_at findings.chains i
 chain_answer_found findings i answer lt at = at ∙ get_or_default findings.chains i answer (chain.Late 0) lt
 
-pub task_within : (model : SystemModel) (findings : Findings) (i : ℕ) → findings ≡ findings_of model → i < length model.tasks → i < length findings.tasks
+pub task_within : (model : SystemModel) (findings : Findings) (i : ℕ) → AreFindings model findings → i < length model.tasks → i < length findings.tasks
 task_within model findings i is lt = rw (tasks_found model findings is) lt
 
-pub chain_within : (model : SystemModel) (findings : Findings) (i : ℕ) → findings ≡ findings_of model → i < length model.chains → i < length findings.chains
+pub chain_within : (model : SystemModel) (findings : Findings) (i : ℕ) → AreFindings model findings → i < length model.chains → i < length findings.chains
 chain_within model findings i is lt = rw (chains_found model findings is) lt
 
 -- a late task that is named is a task of the model
-pub late_within : (model : SystemModel) (findings : Findings) (i : ℕ) → IsValid model → findings ≡ findings_of model → i < length model.chains
-    → (late : ℕ) → chain_answer_at findings i ≡ chain.Late late → late < length model.tasks
-late_within model findings i valid is lt late named = named_task_within model valid i late lt (sym (ap (λ (f : Findings). chain_answer_at f i) is) ∙ named)
+pub late_within : (model : SystemModel) (findings : Findings) (i : ℕ) → IsValid model → AreFindings model findings → i < length model.chains
+    → (late : ℕ) → chain_answer_at findings.chains i ≡ chain.Late late → late < length model.tasks
+late_within model findings i valid is lt late named = named_task_within model valid i late lt (sym (ap (λ (answers : List ChainAnswer). chain_answer_at answers i) is.chains) ∙ named)
+
+-- the answers on exact lengths
+pub exact_within : (model : SystemModel) (findings : Findings) (i : ℕ) → AreFindings model findings → i < length model.chains → i < length findings.exacts
+exact_within model findings i is lt = rw is.exacts.one_a_chain lt
+
+pub exact_answer_found : (findings : Findings) (i : ℕ) (answer : ExactAnswer) → i < length findings.exacts → answer ≡ get_or findings.exacts i answer
+    → answer ≡ exact_answer_at findings.exacts i
+exact_answer_found findings i answer lt at = at ∙ get_or_default findings.exacts i answer exact.ChainLate lt
+
+-- the verdicts
+pub verdict_within : (model : SystemModel) (findings : Findings) (i : ℕ) → AreFindings model findings → i < length model.requirements → i < length findings.verdicts
+verdict_within model findings i is lt =
+    let count = ap (λ (verdicts : List Verdict). length verdicts) is.verdicts ∙ length-map model.requirements (verdict_of model findings.chains findings.exacts) in
+    rw count lt
+
+pub verdict_found : (findings : Findings) (i : ℕ) (verdict : Verdict) → i < length findings.verdicts → verdict ≡ get_or findings.verdicts i verdict
+    → verdict ≡ verdict_at findings.verdicts i
+verdict_found findings i found lt at = at ∙ get_or_default findings.verdicts i found (verdict.Unshown None) lt
+
+-- the witnesses of exact lengths have one job a group
+module _ (system : System) (groups : List Group) (lengths : Witnesses) (are : AreExactLengths system groups lengths) where
+  pub reaction_jobs : length lengths.reaction.jobs ≡ length groups
+  reaction_jobs = are.reaction.longest.is_chain.is_chain.one_a_group
+
+  pub age_jobs : length lengths.age.jobs ≡ length groups
+  age_jobs = are.age.longest.is_chain.is_chain.links.one_a_group
+
+  pub reduced_jobs : length lengths.reduced.jobs ≡ length groups
+  reduced_jobs = are.reduced.longest.is_chain.is_chain.links.one_a_group
+
+-- the line of a requirement, piece by piece
+seven_pieces : (a b c d e f g t0 t1 t2 t3 t4 t5 t6 t7 : List ℕ) → t1 ≡ t0 ++ a → t2 ≡ t1 ++ b → t3 ≡ t2 ++ c → t4 ≡ t3 ++ d → t5 ≡ t4 ++ e → t6 ≡ t5 ++ f → t7 ≡ t6 ++ g
+    → t7 ≡ t0 ++ (a ++ b ++ c ++ d ++ e ++ f ++ g)
+seven_pieces a b c d e f g t0 t1 t2 t3 t4 t5 t6 t7 h1 h2 h3 h4 h5 h6 h7 =
+    rw (h7, h6, h5, h4, h3, h2, h1) (simp append_assoc)
+
+pub judged : (requirement : RequirementDef) (verdict : Verdict) (t0 t1 t2 t3 t4 t5 t6 t7 : List ℕ) → t1 ≡ t0 ++ codes "requirement " → t2 ≡ t1 ++ requirement.name
+    → t3 ≡ t2 ++ codes " " → t4 ≡ t3 ++ kind_word requirement.kind → t5 ≡ t4 ++ codes " " → t6 ≡ t5 ++ verdict_words requirement.most verdict → t7 ≡ t6 ++ 0x0A ∷ []
+    → t7 ≡ t0 ++ verdict_line requirement verdict
+unfolding verdict_line
+judged requirement verdict t0 t1 t2 t3 t4 t5 t6 t7 =
+    seven_pieces (codes "requirement ") requirement.name (codes " ") (kind_word requirement.kind) (codes " ") (verdict_words requirement.most verdict) (0x0A ∷ [])
+    t0 t1 t2 t3 t4 t5 t6 t7

@@ -1,36 +1,39 @@
 //! The report of a model, as text.
 ghost use Rattle.std.specs.Prelude.{◌≡◌, ℕ, ◌<◌, ◌++◌, length, OnOk, IfOk};
 ghost use Rattle.std.specs.List.{flat_map, range_with_len};
-ghost use Rattle.cl_model.specs.ByNumber.{task_at};
+ghost use Rattle.cl_model.specs.ByNumber.{task_at, chain_at};
 ghost use Rattle.cl_analyse.specs.declared.findings.ChainAnswer.TheVariants.{Late};
-ghost use Rattle.cl_analyse.specs.Findings.{findings_of};
-ghost use Rattle.cl_report.specs.Report.{task_words, task_line, bounds_words, chain_words, chain_line, report_text};
+ghost use Rattle.cl_analyse.specs.Findings.{AreFindings};
+ghost use Rattle.cl_report.specs.Report.{task_words, task_line, bounds_words, chain_words, chain_line, chain_lines, report_text};
 
+use crate::exact_lines::put_exact;
+use crate::requirement_lines::put_requirements;
 use cl_analyse::{ChainAnswer, Findings};
 use cl_bound::{Bounds, TaskAnswer};
-use cl_model::ValidModel;
+use cl_model::{Name, ValidModel};
 use cl_text::Text;
 use cl_time::NoMemory;
 use std::alloc::Global;
 
-/// The report of a model: a title, a line for each task and a line for each chain, each in file order. Times are in
-/// ticks. The findings are those of the model.
+/// The report of a model: a title, a line for each task, a line for each chain with those of its exact lengths after it,
+/// and a line for each requirement, each in file order. Times are in ticks. The findings are those of the model.
 ///
 /// `NoMemory` comes where there is no memory for the text; it leaves nothing.
 pub fn report(alloc: Global, model: &ValidModel, findings: &Findings) -> Result<Text, NoMemory>
-    requires { findings.now ≡ findings_of model.now }
+    requires { AreFindings model.now findings.now }
     ensures { IfOk result (λ text. text ≡ report_text model.now findings.now) }
 {
     let mut text = Text::new(alloc);
     text.put(b"chainlat report 1\n")?;
     put_tasks(&mut text, model, findings)?;
     put_chains(&mut text, model, findings)?;
+    put_requirements(&mut text, model, findings)?;
     Ok(text)
 }
 
 /// Puts the lines of all tasks.
 fn put_tasks(text: &mut Text, model: &ValidModel, findings: &Findings) -> Result<(), NoMemory>
-    requires { findings.now ≡ findings_of model.now }
+    requires { AreFindings model.now findings.now }
     ensures { OnOk result (text.new ≡ text.old ++ flat_map (task_line model.now findings.now) (range_with_len 0 (length model.now.tasks))) }
 {
     for task in 0..model.tasks() {
@@ -46,28 +49,31 @@ fn put_task(
     findings: &Findings,
     task: u32,
 ) -> Result<(), NoMemory>
-    requires found { findings.now ≡ findings_of model.now }
+    requires found { AreFindings model.now findings.now }
     requires within { task < length model.now.tasks }
     ensures { OnOk result (text.new ≡ text.old ++ task_line model.now findings.now task) }
 {
     text.put(b"task ")?;
-    put_name(text, model, task)?;
+    put_task_name(text, model, task)?;
     put_answer(text, &findings.tasks.as_slice()[task as usize])?;
     text.put(b" deadline ")?;
     text.put_number(model.deadline_of(task))?;
     text.put(b"\n")
 }
 
+/// Puts a name.
+pub(crate) fn put_name(text: &mut Text, name: &Name) -> Result<(), NoMemory>
+    ensures { OnOk result (text.new ≡ text.old ++ name.now) }
+{
+    text.put(name.as_slice())
+}
+
 /// Puts the name of a task.
-fn put_name(text: &mut Text, model: &ValidModel, task: u32) -> Result<(), NoMemory>
+pub(crate) fn put_task_name(text: &mut Text, model: &ValidModel, task: u32) -> Result<(), NoMemory>
     requires { task < length model.now.tasks }
     ensures { OnOk result (text.new ≡ text.old ++ (task_at model.now task).name) }
 {
-    text.put(
-        model.plain().tasks.as_slice()[task as usize]
-            .name
-            .as_slice(),
-    )
+    put_name(text, &model.plain().tasks.as_slice()[task as usize].name)
 }
 
 /// Puts what is found of a task.
@@ -85,11 +91,12 @@ fn put_answer(text: &mut Text, answer: &TaskAnswer) -> Result<(), NoMemory>
 
 /// Puts the lines of all chains.
 fn put_chains(text: &mut Text, model: &ValidModel, findings: &Findings) -> Result<(), NoMemory>
-    requires { findings.now ≡ findings_of model.now }
-    ensures { OnOk result (text.new ≡ text.old ++ flat_map (chain_line model.now findings.now) (range_with_len 0 (length model.now.chains))) }
+    requires { AreFindings model.now findings.now }
+    ensures { OnOk result (text.new ≡ text.old ++ flat_map (chain_lines model.now findings.now) (range_with_len 0 (length model.now.chains))) }
 {
     for chain in 0..model.chains() {
         put_chain(text, model, findings, chain)?;
+        put_exact(text, model, findings, chain)?;
     }
     Ok(())
 }
@@ -101,18 +108,28 @@ fn put_chain(
     findings: &Findings,
     chain: u32,
 ) -> Result<(), NoMemory>
-    requires found { findings.now ≡ findings_of model.now }
+    requires found { AreFindings model.now findings.now }
     requires within { chain < length model.now.chains }
     ensures { OnOk result (text.new ≡ text.old ++ chain_line model.now findings.now chain) }
 {
+    // read for what it says: the model is valid
+    let _plain = model.plain();
     text.put(b"chain ")?;
-    text.put(
-        model.plain().chains.as_slice()[chain as usize]
-            .name
-            .as_slice(),
-    )?;
+    put_chain_name(text, model, chain)?;
     put_chain_answer(text, model, &findings.chains.as_slice()[chain as usize])?;
     text.put(b"\n")
+}
+
+/// Puts the name of a chain.
+pub(crate) fn put_chain_name(
+    text: &mut Text,
+    model: &ValidModel,
+    chain: u32,
+) -> Result<(), NoMemory>
+    requires { chain < length model.now.chains }
+    ensures { OnOk result (text.new ≡ text.old ++ (chain_at model.now chain).name) }
+{
+    put_name(text, &model.plain().chains.as_slice()[chain as usize].name)
 }
 
 /// Puts what is found of a chain.
@@ -128,7 +145,7 @@ fn put_chain_answer(
         ChainAnswer::Bounds(bounds) => put_bounds(text, bounds),
         ChainAnswer::Late { task } => {
             text.put(b" late ")?;
-            put_name(text, model, *task)
+            put_task_name(text, model, *task)
         }
     }
 }

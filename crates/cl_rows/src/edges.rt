@@ -96,12 +96,12 @@ fn an_output_is_written_until_it_fails(rt: HostRuntime) -> Result<(), Fail> {
         machine.write_failure = failure;
         let mut sink = OutSink::new(&machine);
         assert_eq!(rt;
-            write_all(&mut sink, b"form not built\n").err(),
+            write_all(&mut sink, b"words refused\n").err(),
             Some(WriteFault::Failed { written: 10 })
         );
         assert_eq!(rt; sink.write(b"more").err(), Some(SinkFault::Failed));
         let (output, written) = machine.output();
-        assert_eq!(rt; &output[..written], b"form not b".as_slice());
+        assert_eq!(rt; &output[..written], b"words refu".as_slice());
     }
     // nothing of nothing is no failure
     let machine = Machine::new(rt.alloc(), &[], "", b"");

@@ -10,6 +10,8 @@ mod edges;
 #[cfg(test)]
 mod frame;
 #[cfg(test)]
+mod generated;
+#[cfg(test)]
 mod pairs;
 #[cfg(test)]
 mod reading;

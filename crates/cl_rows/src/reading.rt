@@ -1,6 +1,6 @@
 use crate::base::{EMPTY, FULL, ONE, TWO};
 use crate::texts::{
-    ACCEPTED, NOT_BUILT, assert_outcome, assert_report, assert_rows, changed, grown, many_tasks,
+    ACCEPTED, assert_outcome, assert_report, assert_rows, changed, grown, many_tasks,
 };
 use cl_time::NoMemory;
 use faults::{ABSENT_ROWS, KIND_ROWS, STARTS, TOP_ROWS, TWO_ROWS, UNKNOWN_ROWS};
@@ -58,7 +58,7 @@ fn files_read_in_every_writing(rt: HostRuntime) -> Result<(), Fail> {
         (EMPTY, ACCEPTED),
         (TWO, ACCEPTED),
         (ONE, ACCEPTED),
-        (FULL, NOT_BUILT),
+        (FULL, ACCEPTED),
     ] {
         assert_outcome(&rt, alloc, base.as_bytes(), outcome, base)?;
     }
@@ -82,7 +82,7 @@ fn version_2_has_bursts_besides(rt: HostRuntime) -> Result<(), Fail> {
     let alloc = rt.alloc();
     let second = changed(&rt, alloc, FULL, "version = 1\n", "version = 2\n")?;
     let full = grown(&rt, alloc, &second, "offset = 0\njitter = 0\n", SALVO, 1)?;
-    assert_outcome(&rt, alloc, full.as_bytes(), NOT_BUILT, "every key")?;
+    assert_outcome(&rt, alloc, full.as_bytes(), ACCEPTED, "every key")?;
     assert_rows(&rt, alloc, &full, &SALVO_ROWS)?;
     Ok(())
 }

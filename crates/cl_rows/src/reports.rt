@@ -1,20 +1,29 @@
 //! Whole files with their reports, and reports that are cut.
 use crate::base::{ONE, TWO};
 use crate::calls::{ROOM, run_here, shelf_of, words_of};
-use crate::texts::{Change, NOT_BUILT, TITLE, assert_outcome, assert_report, assert_rows, changed};
+use crate::texts::{Change, TITLE, assert_report, assert_rows, changed};
 use bursts::{BURST, BURST_FAULTS, BURST_ROWS};
 use cl_io::MemSink;
 use cl_time::NoMemory;
+use exact::{EXACT_ROWS, LIMIT_ROWS};
+use required::REQUIRED_ROWS;
 use std::alloc::Global;
 use std::process::Abort;
 use std::test::Fail;
-use tables::{REPORT_ROWS, ReportRow, UNBUILT_ROWS};
+use tables::{REPORT_ROWS, ReportRow};
 use whole::WHOLE_ROWS;
 
 mod bursts;
 mod changes;
+mod edits;
+mod exact;
+mod migration;
 mod models;
+mod replays;
+mod required;
+mod simulations;
 mod tables;
+mod traces;
 mod whole;
 
 /// The base with all of the changes, one after the other.
@@ -71,12 +80,20 @@ fn bursts_release_several_jobs_a_period(rt: HostRuntime) -> Result<(), Fail> {
 }
 
 #[test]
-fn other_files_are_not_analysed_yet(rt: HostRuntime) -> Result<(), Fail> {
-    let alloc = rt.alloc();
-    for (base, changes) in UNBUILT_ROWS {
-        let file = file_of(&rt, alloc, base, changes)?;
-        assert_outcome(&rt, alloc, file.as_bytes(), NOT_BUILT, &file)?;
-    }
+fn timed_periodic_chains_have_exact_lengths(rt: HostRuntime) -> Result<(), Fail> {
+    assert_reports(&rt, rt.alloc(), &EXACT_ROWS)?;
+    Ok(())
+}
+
+#[test]
+fn exact_lengths_are_sought_up_to_a_million_first_jobs(rt: HostRuntime) -> Result<(), Fail> {
+    assert_reports(&rt, rt.alloc(), &LIMIT_ROWS)?;
+    Ok(())
+}
+
+#[test]
+fn requirements_get_their_verdicts(rt: HostRuntime) -> Result<(), Fail> {
+    assert_reports(&rt, rt.alloc(), &REQUIRED_ROWS)?;
     Ok(())
 }
 

@@ -7,17 +7,14 @@ use std::process::Abort;
 /// What a row says of a file that is accepted and reported on.
 pub(crate) const ACCEPTED: &str = "accepted";
 
-/// What a row says of a file that is accepted, and whose analysis isn't built yet.
-pub(crate) const NOT_BUILT: &str = "form not built";
-
 /// How every report begins.
 pub(crate) const TITLE: &str = "chainlat report 1\n";
 
 /// A text of a file that must be there, and what stands in its place.
 pub(crate) type Change = (&'static str, &'static str);
 
-/// A text of a base, what stands in its place, and what the file then comes to: `ACCEPTED`, `NOT_BUILT`, or the code and
-/// place of its refusal.
+/// A text of a base, what stands in its place, and what the file then comes to: `ACCEPTED`, or the code and place of its
+/// refusal.
 pub(crate) type Row = (&'static str, &'static str, &'static str);
 
 /// The entry so many times, with its number from 0 up in place of each `#`.
@@ -72,9 +69,6 @@ pub(crate) fn assert_outcome(
     if outcome == ACCEPTED {
         assert!(rt; text.starts_with(TITLE), "{case}: {text}");
         assert_eq!(rt; status, 0, "{case}");
-    } else if outcome == NOT_BUILT {
-        assert_eq!(rt; text, "form not built\n", "{case}");
-        assert_eq!(rt; status, 11, "{case}");
     } else {
         let refusal = format!(in alloc; "model refused {outcome}\n")?;
         assert_eq!(rt; text, refusal.as_str(), "{case}");

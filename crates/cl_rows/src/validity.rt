@@ -1,8 +1,6 @@
 //! Models that read: which of them are valid, and what the others are refused for.
 use crate::base::{FULL, ONE, TWO};
-use crate::texts::{
-    ACCEPTED, NOT_BUILT, Row, assert_outcome, assert_rows, changed, grown, many_runnables,
-};
+use crate::texts::{ACCEPTED, Row, assert_outcome, assert_rows, changed, grown, many_runnables};
 use std::test::Fail;
 
 /// Changes of the model of two tasks.
@@ -176,7 +174,7 @@ const FULL_ROWS: [Row; 11] = [
     (
         "least = 1\ngreatest = 1000000000000\n",
         "least = 2\ngreatest = 2\n",
-        NOT_BUILT,
+        ACCEPTED,
     ),
     ("labels = []", "labels = [\"x\"]", "M43 chain[0].labels"),
     (
@@ -294,7 +292,7 @@ fn models_are_refused_for_their_first_fault(rt: HostRuntime) -> Result<(), Fail>
 #[test]
 fn limits_of_a_whole_model_hold_and_one_past(rt: HostRuntime) -> Result<(), Fail> {
     let alloc = rt.alloc();
-    for (count, outcome) in [(127, NOT_BUILT), (128, "M34 task[128].core")] {
+    for (count, outcome) in [(127, ACCEPTED), (128, "M34 task[128].core")] {
         let end = "most = 1000000000000000\n";
         let text = grown(&rt, alloc, FULL, end, FAR_TASK, count)?;
         assert_outcome(&rt, alloc, text.as_bytes(), outcome, outcome)?;

@@ -3,7 +3,7 @@ use Rattle.std.proofs.Common.{◌≡◌, ◌≢◌, ◌⊎◌, ℕ, inl, inr, Li
 use Rattle.cl_io.specs.Counts.{Rose}
 use Rattle.cl_io.specs.Shelf.{Held}
 use Rattle.cl_top.specs.declared.command.Command.{Command}
-use Rattle.cl_top.specs.declared.command.Command.TheVariants.{Analyse}
+use Rattle.cl_top.specs.declared.command.Command.TheVariants.{Analyse, Migrate, Simulate, Replay, Edit, Generate, Survey}
 use Rattle.cl_top.specs.declared.outcome.Outcome.{Outcome}
 use Rattle.cl_top.specs.declared.status.TheConstants.{WORDS_REFUSED, READ_FAULT, LONG_FILE, WRITE_FAULT, NO_MEMORY, ARGUMENT_NOT_TEXT}
 use Rattle.cl_top.specs.Command.{command_of}
@@ -12,6 +12,10 @@ use Rattle.cl_top.specs.Outcome.{words_refused, read_fault, long_file}
 use Rattle.cl_top.specs.Run.{ComesAs, ComesTo, IsWhole, IsCut, WritesOfFile}
 use Rattle.cl_top.proofs.Comings.{Cause, NoCommand, OfFault, OfLength, OfContent, IsOfContent, comes_as}
 use Rattle.cl_top.proofs.OfAnalyse.{analyse_cause}
+use Rattle.cl_top.proofs.OfEdit.{edit_cause}
+use Rattle.cl_top.proofs.OfMigrate.{migrate_cause}
+use Rattle.cl_top.proofs.OfReplay.{replay_cause}
+use Rattle.cl_top.proofs.OfSimulate.{simulate_cause}
 
 -- how an outcome was carried out
 abbrev pub Carried : {K : Type 0} (written : K → Option (List ℕ)) (faults : K → ℕ) (before after : K) (found : Outcome) (status : ℕ) → Type 0
@@ -22,6 +26,12 @@ module _ (words : List (List ℕ)) (held : List ℕ → Held) (before after long
   cause : (command : Option Command) (found : Outcome) → ComesAs command words held before after longest found → Cause words held before after longest command found
   cause None found comes = NoCommand refl comes.follows
   cause (Some Analyse) found comes = analyse_cause words held before after longest found comes
+  cause (Some Migrate) found comes = migrate_cause words held before after longest found comes
+  cause (Some (Simulate ticks seed)) found comes = simulate_cause words held before after longest ticks seed found comes
+  cause (Some Replay) found comes = replay_cause words held before after longest found comes
+  cause (Some Edit) found comes = edit_cause words held before after longest found comes
+  cause (Some (Generate seed tasks)) found comes = OfContent (inl comes.follows.done)
+  cause (Some (Survey seed tasks)) found comes = OfContent (inl comes.follows.done)
 
   status_is : (found other : Outcome) → found ≡ other → found.status ≡ other.status
   status_is found other is = ap (λ (o : Outcome). o.status) is

@@ -1,6 +1,6 @@
 -- What `analyse` comes to.
-use Rattle.std.proofs.Common.{◌≡◌, ℕ, inl, inr, Bool, true, false, List, Some, refl, ap, subst, arith}
-use Rattle.std.specs.Prelude.{Contains, if◌then◌else◌}
+use Rattle.std.proofs.Common.{◌≡◌, ℕ, inl, List, Some, refl, subst, arith}
+use Rattle.std.specs.Prelude.{Contains}
 use Rattle.cl_io.specs.Shelf.{Held}
 use Rattle.cl_model.specs.declared.model.SystemModel.{SystemModel}
 use Rattle.cl_top.specs.declared.command.Command.TheVariants.{Analyse}
@@ -9,9 +9,8 @@ use Rattle.cl_top.specs.declared.opening.Opened.TheVariants as opened
 use Rattle.cl_top.specs.declared.opening.TheConstants.{FILE_LIMIT}
 use Rattle.cl_top.specs.declared.outcome.Outcome.{Outcome}
 use Rattle.cl_top.specs.Command.{model_file, command_of, files_of, word}
-use Rattle.cl_top.specs.Commands.Analyse.{reported, form_not_built, IsAnalysed}
+use Rattle.cl_top.specs.Commands.Analyse.{IsAnalysed}
 use Rattle.cl_top.specs.Files.{Fetched, MayGive, FileRose}
-use Rattle.cl_top.specs.Form.{is_built}
 use Rattle.cl_top.specs.Inner.Opened.{IsOpenedAs}
 use Rattle.cl_top.specs.Run.{ComesAs, ComesTo}
 use Rattle.cl_top.proofs.Comings.{Cause, IsOfContent, opened_cause, comes_to}
@@ -19,11 +18,7 @@ use Rattle.cl_top.proofs.Openings.{opened_valid, opened_stopped}
 
 -- an analysis is of content
 analysed_content : (model : SystemModel) (found : Outcome) → IsAnalysed model found → IsOfContent found.status
-analysed_content model found is = by_form (is_built model) (ap (λ (o : Outcome). o.status) is)
-  where
-    by_form : (built : Bool) → found.status ≡ (if built then reported model else form_not_built).status → IsOfContent found.status
-    by_form true is = inl is
-    by_form false is = inr (inr is)
+analysed_content model found is = inl is.done
 
 pub one_file : Contains (files_of (Some Analyse)) (model_file 1)
 one_file = (0, omega arith, refl)

@@ -1,67 +1,211 @@
 -- Each command whose files were all fetched has an outcome, and outcomes of the same words say the same.
-use Rattle.std.proofs.Common.{◌≡◌, ℕ, List, Option, Some, None, Result, Ok, Err, refl, sym, ◌∙◌}
+use Rattle.std.proofs.Common.{◌≡◌, ℕ, ◌≤◌, List, Option, Some, None, Result, Ok, Err, inl, inr, ◌⊎◌, refl, sym, ap, ◌∙◌, subst}
 use Rattle.cl_model.specs.declared.model.SystemModel.{SystemModel}
+use Rattle.cl_model.specs.AreNamed.{AreNamed}
 use Rattle.cl_model.specs.declared.refusal.Refusal.{Refusal}
 use Rattle.cl_model.specs.Reading.{model_of}
-use Rattle.cl_model.specs.Validity.{refusal_of}
+use Rattle.cl_model.specs.Validity.{refusal_of, IsValid}
+use Rattle.cl_analyse.proofs.SomeFindings.{some_findings}
+use Rattle.cl_report.specs.Report.{report_text}
+use Rattle.cl_report.proofs.OneReport.{one_report}
+use Rattle.cl_report.specs.Survey.{survey_text}
+use Rattle.cl_report.proofs.OneSurvey.{one_survey}
+use Rattle.cl_model.specs.declared.limits.TheConstants.{MOST_TASKS}
+use Rattle.cl_gen.specs.Words.{word_of}
+use Rattle.cl_gen.specs.Generated.{generated}
+use Rattle.cl_gen.proofs.GeneratedRanges.{are_named}
+use Rattle.cl_gen.proofs.ValidGenerated.{words_valid}
+use Rattle.cl_runs.specs.Legal.{IsLegal}
+use Rattle.cl_runs.specs.Run.{Run}
+use Rattle.cl_runs.specs.SystemOf.{system_of}
+use Rattle.cl_runs.proofs.ModelSystem.{system_sound}
+use Rattle.cl_replay.proofs.SomeReplay.{some_replay}
+use Rattle.cl_trace.specs.Rules.{IsTraceOf}
+use Rattle.cl_trace.proofs.OneReading.{bad_once}
+use Rattle.cl_trace.proofs.OneTrace.{one_run, no_bad_line}
+use Rattle.cl_trace.proofs.SomeAnswer.{HasAnswer, some_answer}
 use Rattle.cl_top.specs.declared.command.Command.{Command}
-use Rattle.cl_top.specs.declared.command.Command.TheVariants.{Analyse}
+use Rattle.cl_top.specs.declared.command.Command.TheVariants.{Analyse, Migrate, Simulate, Replay, Edit, Generate, Survey}
+use Rattle.cl_model.proofs.ReadModels.{read_in_range, read_named}
+use Rattle.cl_write.proofs.SomeTexts.{some_text}
 use Rattle.cl_top.specs.declared.outcome.Outcome.{Outcome}
-use Rattle.cl_top.specs.Command.{File, model_file, command_of}
+use Rattle.cl_top.specs.Command.{File, model_file, trace_file, edits_file, command_of}
+use Rattle.cl_top.specs.declared.status.TheConstants.{DONE}
 use Rattle.cl_top.specs.Commands.Analyse.{IsAnalysed}
+use Rattle.cl_top.specs.Commands.Edit.{IsOfEdits}
+use Rattle.cl_top.specs.Commands.Migrate.{IsMigrated, MigratesTheSame}
+use Rattle.cl_top.specs.Commands.Replay.{trace_refused, trace_illegal, IsOfRun, IsOfTrace}
+use Rattle.cl_top.specs.Commands.Simulate.{IsSimulated}
+use Rattle.cl_top.specs.Commands.Survey.{IsSurveyed}
+use Rattle.cl_top.proofs.Generations.{has_few_tasks}
+use Rattle.cl_top.proofs.Simulations.{simulated_some, simulated_once}
 use Rattle.cl_top.specs.Files.{Fetched, Unasked, Bytes, Fault, TooLong, EachFile, WasFetched}
-use Rattle.cl_top.specs.Outcome.{words_refused, read_fault, long_file, model_refused, ValidatesTo, ReadsTo, OpensTo, HasOutcome, SaysTheSame}
+use Rattle.cl_top.specs.Outcome.{words_refused, read_fault, long_file, model_refused, ValidatesTo, ReadsTo, OpensTo, OpensFile, HasOutcome, SaysTheSame}
+use Rattle.cl_top.proofs.LegalOrBroken.{IsBroken, legal_or_broken}
+use Rattle.cl_top.proofs.EditsOnce.{some_edits, one_edited}
+use Rattle.cl_top.proofs.Openings.{valid_read}
+use Rattle.cl_top.proofs.ReplaysOfRuns.{of_run_once}
 
 -- ---- there is an outcome
 
 abbrev pub SomeOutcome : (Outcome → Type 0) → Type 0
 SomeOutcome P = (found : Outcome) × P found
 
-module _ (next : SystemModel → Outcome → Type 0) (some : (model : SystemModel) → SomeOutcome (next model)) where
-  validated_some : (model : SystemModel) (refusal : Option Refusal) → SomeOutcome (ValidatesTo model refusal next)
-  validated_some model None = some model
-  validated_some model (Some refusal) = (model_refused refusal, refl)
+module _ (next : SystemModel → Outcome → Type 0) (some : (bytes : List ℕ) (model : SystemModel) → model_of bytes ≡ Ok model → refusal_of model ≡ None → SomeOutcome (next model)) where
+  validated_some : (bytes : List ℕ) (model : SystemModel) (refusal : Option Refusal) → model_of bytes ≡ Ok model → refusal_of model ≡ refusal → SomeOutcome (ValidatesTo model refusal next)
+  validated_some bytes model None means none = some bytes model means none
+  validated_some bytes model (Some refusal) means is = (model_refused refusal, refl)
 
-  read_some : (read : Result SystemModel Refusal) → SomeOutcome (ReadsTo read next)
-  read_some (Ok model) = validated_some model (refusal_of model)
-  read_some (Err refusal) = (model_refused refusal, refl)
+  read_some : (bytes : List ℕ) (read : Result SystemModel Refusal) → model_of bytes ≡ read → SomeOutcome (ReadsTo read next)
+  read_some bytes (Ok model) means = validated_some bytes model (refusal_of model) means refl
+  read_some bytes (Err refusal) means = (model_refused refusal, refl)
 
   opened_some : (place : ℕ) (fetch : Fetched) → WasFetched fetch → SomeOutcome (OpensTo place fetch (λ bytes. ReadsTo (model_of bytes) next))
   opened_some place Unasked fetched = absurd fetched
   opened_some place Fault fetched = (read_fault place, refl)
   opened_some place TooLong fetched = (long_file place, refl)
-  opened_some place (Bytes bytes) fetched = read_some (model_of bytes)
+  opened_some place (Bytes bytes) fetched = read_some bytes (model_of bytes) refl
 
-has_outcome : (command : Option Command) (gave : File → Fetched) → EachFile command (λ file. WasFetched (gave file)) → SomeOutcome (HasOutcome command gave)
-has_outcome None gave fetched = (words_refused, refl)
-has_outcome (Some Analyse) gave fetched = opened_some IsAnalysed (λ model. (_, refl)) 1 (gave (model_file 1)) fetched.0
+-- a valid model has a report
+some_analysis : (model : SystemModel) → IsValid model → SomeOutcome (IsAnalysed model)
+some_analysis model valid =
+    let (findings, found) = some_findings model valid in
+    (record { status = DONE; text = report_text model findings }, record { done = refl; report = record { findings = findings; found = found; printed = refl } })
+
+-- a model that is read has a text
+migrated_some : (bytes : List ℕ) (model : SystemModel) → model_of bytes ≡ Ok model → refusal_of model ≡ None → SomeOutcome (IsMigrated model)
+migrated_some bytes model means none =
+    let text = some_text model (read_in_range bytes model means) (read_named bytes model means) in
+    (record { status = DONE; text = text.0 }, record { done = refl; text = text.1 })
+
+-- a generated model has a text and a survey
+generated_some : (seed tasks : ℕ) → tasks ≤ MOST_TASKS → SomeOutcome (IsMigrated (generated seed tasks))
+generated_some seed tasks few =
+    let text = some_text (generated seed tasks) (words_valid (word_of seed) tasks few).in_range (are_named (word_of seed) tasks few) in
+    (record { status = DONE; text = text.0 }, record { done = refl; text = text.1 })
+
+surveyed_some : (seed tasks : ℕ) → tasks ≤ MOST_TASKS → SomeOutcome (IsSurveyed (generated seed tasks))
+surveyed_some seed tasks few =
+    let (findings, found) = some_findings (generated seed tasks) (words_valid (word_of seed) tasks few) in
+    (record { status = DONE; text = survey_text findings }, record { done = refl; survey = record { findings = findings; found = found; printed = refl } })
+
+-- a run has a replay, or breaks a rule
+run_some : (model : SystemModel) → IsValid model → (text : List ℕ) (run : Run) → IsTraceOf model text run → SomeOutcome (IsOfTrace model text)
+run_some model valid text run trace = by_rule (legal_or_broken (system_of model) (system_sound model valid) run trace.in_form)
+  where
+    by_rule : IsLegal (system_of model) run ⊎ IsBroken (system_of model) run → SomeOutcome (IsOfTrace model text)
+    by_rule (inl legal) =
+        let replay = some_replay model valid run in (
+          record { status = DONE; text = replay.0 },
+          inl (record { run = run; trace = trace; of_run = inl (record { legal = legal; done = refl; replay = replay.1 }) }),
+        )
+    by_rule (inr broken) = (
+      trace_illegal model broken.0 broken.1 broken.2,
+      inl (record { run = run; trace = trace; of_run = inr (record { rule = broken.0; place = broken.1; tick = broken.2; broken = broken.3; printed = refl }) }),
+    )
+
+-- a text is the trace of a run, or has a first bad line
+trace_some : (model : SystemModel) → IsValid model → AreNamed model → (text : List ℕ) → SomeOutcome (IsOfTrace model text)
+trace_some model valid named text = by_answer (some_answer model valid named text)
+  where
+    by_answer : HasAnswer model text → SomeOutcome (IsOfTrace model text)
+    by_answer (inl found) = run_some model valid text found.0 found.1
+    by_answer (inr bad) = (trace_refused bad.0, inr (record { number = bad.0; bad = bad.1; printed = refl }))
+
+-- the text of a second file has an outcome
+module _ (OfText : SystemModel → (text : List ℕ) → Outcome → Type 0)
+    (some : (model : SystemModel) → IsValid model → AreNamed model → (text : List ℕ) → SomeOutcome (OfText model text)) where
+  text_some : (model : SystemModel) → IsValid model → AreNamed model → (fetch : Fetched) → WasFetched fetch → SomeOutcome (OpensTo 2 fetch (OfText model))
+  text_some model valid named Unasked fetched = absurd fetched
+  text_some model valid named Fault fetched = (read_fault 2, refl)
+  text_some model valid named TooLong fetched = (long_file 2, refl)
+  text_some model valid named (Bytes text) fetched = some model valid named text
+
+has_outcome : (words : List (List ℕ)) (command : Option Command) → command_of words ≡ command → (gave : File → Fetched)
+    → EachFile command (λ file. WasFetched (gave file)) → SomeOutcome (HasOutcome command gave)
+has_outcome words None is gave fetched = (words_refused, refl)
+has_outcome words (Some Analyse) is gave fetched = opened_some IsAnalysed (λ bytes model means none. some_analysis model (valid_read bytes model means none)) 1 (gave (model_file 1)) fetched.0
+has_outcome words (Some Migrate) is gave fetched = opened_some IsMigrated migrated_some 1 (gave (model_file 1)) fetched.0
+has_outcome words (Some (Simulate ticks seed)) is gave fetched =
+    opened_some (IsSimulated ticks seed) (λ bytes model means none. simulated_some ticks seed model (valid_read bytes model means none)) 1 (gave (model_file 1)) fetched.0
+has_outcome words (Some Replay) is gave fetched = opened_some (λ model. OpensFile (trace_file 2) gave (IsOfTrace model))
+    (λ bytes model means none. text_some IsOfTrace trace_some model (valid_read bytes model means none) (read_named bytes model means) (gave (trace_file 2)) fetched.1.0)
+    1 (gave (model_file 1)) fetched.0
+has_outcome words (Some Edit) is gave fetched = opened_some (λ model. OpensFile (edits_file 2) gave (IsOfEdits model))
+    (λ bytes model means none. text_some IsOfEdits some_edits model (valid_read bytes model means none) (read_named bytes model means) (gave (edits_file 2)) fetched.1.0)
+    1 (gave (model_file 1)) fetched.0
+has_outcome words (Some (Generate seed tasks)) is gave fetched = generated_some seed tasks (has_few_tasks words (Generate seed tasks) is).1
+has_outcome words (Some (Survey seed tasks)) is gave fetched = surveyed_some seed tasks (has_few_tasks words (Survey seed tasks) is).1
 
 -- words whose files were all fetched have an outcome
 pub some_outcome : (words : List (List ℕ)) (gave : File → Fetched) → EachFile (command_of words) (λ file. WasFetched (gave file)) → SomeOutcome (HasOutcome (command_of words) gave)
-some_outcome words gave fetched = has_outcome (command_of words) gave fetched
+some_outcome words gave fetched = has_outcome words (command_of words) refl gave fetched
 
 -- ---- outcomes say the same
 
 module _ (next : SystemModel → Outcome → Type 0) (Same : Outcome → Outcome → Type 0) (one other : Outcome)
-    (equal : one ≡ other → Same one other) (same : (model : SystemModel) → next model one → next model other → Same one other) where
-  validated_same : (model : SystemModel) (refusal : Option Refusal) → ValidatesTo model refusal next one → ValidatesTo model refusal next other → Same one other
-  validated_same model None h k = same model h k
-  validated_same model (Some refusal) h k = equal (h ∙ sym k)
+    (equal : one ≡ other → Same one other) (same : (bytes : List ℕ) (model : SystemModel) → model_of bytes ≡ Ok model → refusal_of model ≡ None → next model one → next model other → Same one other) where
+  validated_same : (bytes : List ℕ) (model : SystemModel) (refusal : Option Refusal) → model_of bytes ≡ Ok model → refusal_of model ≡ refusal → ValidatesTo model refusal next one → ValidatesTo model refusal next other → Same one other
+  validated_same bytes model None means none h k = same bytes model means none h k
+  validated_same bytes model (Some refusal) means is h k = equal (h ∙ sym k)
 
-  read_same : (read : Result SystemModel Refusal) → ReadsTo read next one → ReadsTo read next other → Same one other
-  read_same (Ok model) h k = validated_same model (refusal_of model) h k
-  read_same (Err refusal) h k = equal (h ∙ sym k)
+  read_same : (bytes : List ℕ) (read : Result SystemModel Refusal) → model_of bytes ≡ read → ReadsTo read next one → ReadsTo read next other → Same one other
+  read_same bytes (Ok model) means h k = validated_same bytes model (refusal_of model) means refl h k
+  read_same bytes (Err refusal) means h k = equal (h ∙ sym k)
 
   opened_same : (place : ℕ) (fetch : Fetched) → OpensTo place fetch (λ bytes. ReadsTo (model_of bytes) next) one → OpensTo place fetch (λ bytes. ReadsTo (model_of bytes) next) other → Same one other
   opened_same place Unasked h k = absurd h
   opened_same place Fault h k = equal (h ∙ sym k)
   opened_same place TooLong h k = equal (h ∙ sym k)
-  opened_same place (Bytes bytes) h k = read_same (model_of bytes) h k
+  opened_same place (Bytes bytes) h k = read_same bytes (model_of bytes) refl h k
+
+-- a model has one report
+same_parts : (one other : Outcome) → one.status ≡ other.status → one.text ≡ other.text → one ≡ other
+same_parts one other status text = λ i. record { status = status i; text = text i }
+
+one_analysis : (model : SystemModel) (one other : Outcome) → IsAnalysed model one → IsAnalysed model other → one ≡ other
+one_analysis model one other first second =
+    same_parts one other (first.done ∙ sym second.done) (one_report model one.text other.text first.report second.report)
+
+-- a model has one survey
+one_surveyed : (model : SystemModel) (one other : Outcome) → IsSurveyed model one → IsSurveyed model other → one ≡ other
+one_surveyed model one other first second =
+    same_parts one other (first.done ∙ sym second.done) (one_survey model one.text other.text first.survey second.survey)
+
+-- a text of a trace has one outcome
+one_traced : (model : SystemModel) → IsValid model → AreNamed model → (text : List ℕ) (one other : Outcome) → IsOfTrace model text one → IsOfTrace model text other → one ≡ other
+one_traced model valid named text one other (inl first) (inl second) = of_run_once model second.run one other
+    (subst (λ run. IsOfRun model run one) (one_run model valid named text first.run second.run first.trace second.trace) first.of_run) second.of_run
+one_traced model valid named text one other (inl first) (inr second) = absurd (no_bad_line model valid named text first.run second.number first.trace second.bad)
+one_traced model valid named text one other (inr first) (inl second) = absurd (no_bad_line model valid named text second.run first.number second.trace first.bad)
+one_traced model valid named text one other (inr first) (inr second) =
+    first.printed ∙ ap trace_refused (bad_once model valid named text first.number second.number first.bad second.bad) ∙ sym second.printed
+
+-- the text of a second file has but one outcome
+module _ (OfText : SystemModel → (text : List ℕ) → Outcome → Type 0)
+    (once : (model : SystemModel) → IsValid model → AreNamed model → (text : List ℕ) (one other : Outcome) → OfText model text one → OfText model text other → one ≡ other) where
+  same_text : (model : SystemModel) → IsValid model → AreNamed model → (one other : Outcome) (fetch : Fetched) → OpensTo 2 fetch (OfText model) one → OpensTo 2 fetch (OfText model) other → one ≡ other
+  same_text model valid named one other Unasked h k = absurd h
+  same_text model valid named one other Fault h k = h ∙ sym k
+  same_text model valid named one other TooLong h k = h ∙ sym k
+  same_text model valid named one other (Bytes text) h k = once model valid named text one other h k
 
 says_the_same : (command : Option Command) (gave : File → Fetched) (one other : Outcome) → HasOutcome command gave one → HasOutcome command gave other → SaysTheSame command one other
 says_the_same None gave one other h k = h ∙ sym k
 says_the_same (Some Analyse) gave one other h k =
-    opened_same IsAnalysed (λ a b. a ≡ b) one other (λ is. is) (λ model m n. m ∙ sym n) 1 (gave (model_file 1)) h k
+    opened_same IsAnalysed (λ a b. a ≡ b) one other (λ is. is) (λ bytes model means none m n. one_analysis model one other m n) 1 (gave (model_file 1)) h k
+says_the_same (Some Migrate) gave one other h k =
+    opened_same IsMigrated MigratesTheSame one other (λ is. inl is) (λ bytes model means none m n. inr (model, m, n)) 1 (gave (model_file 1)) h k
+says_the_same (Some (Simulate ticks seed)) gave one other h k =
+    opened_same (IsSimulated ticks seed) (λ a b. a ≡ b) one other (λ is. is) (λ bytes model means none m n. simulated_once ticks seed model (valid_read bytes model means none) one other m n) 1 (gave (model_file 1)) h k
+says_the_same (Some Replay) gave one other h k =
+    opened_same (λ model. OpensFile (trace_file 2) gave (IsOfTrace model)) (λ a b. a ≡ b) one other (λ is. is)
+    (λ bytes model means none m n. same_text IsOfTrace one_traced model (valid_read bytes model means none) (read_named bytes model means) one other (gave (trace_file 2)) m n) 1 (gave (model_file 1)) h k
+says_the_same (Some Edit) gave one other h k =
+    opened_same (λ model. OpensFile (edits_file 2) gave (IsOfEdits model)) (λ a b. a ≡ b) one other (λ is. is)
+    (λ bytes model means none m n. same_text IsOfEdits one_edited model (valid_read bytes model means none) (read_named bytes model means) one other (gave (edits_file 2)) m n) 1 (gave (model_file 1)) h k
+says_the_same (Some (Generate seed tasks)) gave one other h k = inr (generated seed tasks, h, k)
+says_the_same (Some (Survey seed tasks)) gave one other h k = one_surveyed (generated seed tasks) one other h k
 
 -- two outcomes of the same words say the same
 pub same_outcome : (words : List (List ℕ)) (gave : File → Fetched) (one other : Outcome) → HasOutcome (command_of words) gave one → HasOutcome (command_of words) gave other → SaysTheSame (command_of words) one other

@@ -1,14 +1,29 @@
 -- The opening of a file and of a model, whatever comes next.
-use Rattle.std.proofs.Common.{◌≡◌, ◌⊎◌, ℕ, inl, inr, List, Option, Some, None, Result, Ok, Err, refl, subst}
+use Rattle.std.proofs.Common.{◌≡◌, ◌⊎◌, ℕ, inl, inr, List, [], ◌∷◌, Option, Some, None, Result, Ok, Err, refl, subst}
 use Rattle.cl_model.specs.declared.model.SystemModel.{SystemModel}
 use Rattle.cl_model.specs.declared.refusal.Refusal.{Refusal}
 use Rattle.cl_model.specs.Reading.{model_of}
-use Rattle.cl_model.specs.Validity.{refusal_of}
+use Rattle.cl_model.specs.Refusals.{first}
+use Rattle.cl_model.specs.Validity.{refusals_of, refusal_of, IsValid}
+use Rattle.cl_model.proofs.ReadModels.{read_in_range}
 use Rattle.cl_top.specs.declared.outcome.Outcome.{Outcome}
 use Rattle.cl_top.specs.declared.opening.Opened.TheVariants as opened
 use Rattle.cl_top.specs.Files.{Fetched, Unasked, Bytes, Fault, TooLong}
 use Rattle.cl_top.specs.Inner.Opened.{IsValidatedAs, IsReadAs, IsOpenedAs}
 use Rattle.cl_top.specs.Outcome.{model_refused, read_fault, long_file, ValidatesTo, ReadsTo, OpensTo}
+
+-- ---- what is read
+
+none_refused : (refusals : List Refusal) → first refusals ≡ None → refusals ≡ []
+none_refused [] none = refl
+none_refused (refusal ∷ refusals) none = absurd cc
+
+-- a model that is read and not refused is valid
+pub valid_read : (bytes : List ℕ) (model : SystemModel) → model_of bytes ≡ Ok model → refusal_of model ≡ None → IsValid model
+valid_read bytes model means none = record {
+  in_range = read_in_range bytes model means;
+  accepted = none_refused (refusals_of model) none;
+}
 
 -- ---- a valid model, and an outcome in the place of what comes next
 

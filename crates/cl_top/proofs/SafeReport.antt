@@ -1,54 +1,37 @@
 -- What `analyse` has written at status 0 is a safe report.
-use Rattle.std.proofs.Common.{◌≡◌, ℕ, ◌≤◌, inl, inr, Bool, true, false, List, [], ◌∷◌, Option, Some, None, Ok, refl, sym, ap, subst, ◌∙◌, arith, length}
-use Rattle.std.specs.Prelude.{if◌then◌else◌}
+use Rattle.std.proofs.Common.{◌≡◌, ℕ, ◌≤◌, inl, inr, List, Option, Some, None, Ok, sym, ap, subst, ◌∙◌, arith, length}
 use Rattle.cl_io.specs.Shelf.{Held, Content, MayBe}
 use Rattle.cl_io.specs.Sink.{appended}
 use Rattle.cl_model.specs.declared.model.SystemModel.{SystemModel}
-use Rattle.cl_model.specs.declared.refusal.Refusal.{Refusal}
-use Rattle.cl_model.specs.Refusals.{first}
 use Rattle.cl_model.specs.Reading.{model_of}
-use Rattle.cl_model.specs.Validity.{refusals_of, refusal_of, IsValid}
-use Rattle.cl_model.proofs.ReadModels.{read_in_range}
+use Rattle.cl_model.specs.Validity.{refusal_of}
 use Rattle.cl_analyse.proofs.SafeFindings.{findings_safe}
-use Rattle.cl_analyse.specs.Findings.{findings_of}
-use Rattle.cl_report.specs.Report.{report_text}
 use Rattle.cl_top.specs.declared.command.Command.TheVariants.{Analyse}
 use Rattle.cl_top.specs.declared.opening.TheConstants.{FILE_LIMIT}
 use Rattle.cl_top.specs.declared.outcome.Outcome.{Outcome}
 use Rattle.cl_top.specs.declared.status.TheConstants.{DONE}
 use Rattle.cl_top.specs.Command.{model_file, command_of, word}
-use Rattle.cl_top.specs.Commands.Analyse.{reported, form_not_built, IsAnalysed}
+use Rattle.cl_top.specs.Commands.Analyse.{IsAnalysed}
 use Rattle.cl_top.specs.Files.{Fetched, Bytes, MayGive, FileRose}
-use Rattle.cl_top.specs.Form.{is_built}
 use Rattle.cl_top.specs.Headline.{IsSafeReport, HasReported, HasReportedSome}
 use Rattle.cl_top.specs.Run.{ComesAs, ComesTo}
 use Rattle.cl_top.proofs.Comings.{comes_as}
 use Rattle.cl_top.proofs.Endings.{Carried}
-use Rattle.cl_top.proofs.Openings.{OpenedAs, opened_cases}
+use Rattle.cl_top.proofs.Openings.{valid_read, OpenedAs, opened_cases}
 
-none_refused : (refusals : List Refusal) → first refusals ≡ None → refusals ≡ []
-none_refused [] none = refl
-none_refused (refusal ∷ refusals) none = absurd cc
-
--- a model that is read and not refused is valid
-valid_read : (bytes : List ℕ) (model : SystemModel) → model_of bytes ≡ Ok model → refusal_of model ≡ None → IsValid model
-valid_read bytes model means none = record {
-  in_range = read_in_range bytes model means;
-  accepted = none_refused (refusals_of model) none;
-}
-
--- an analysis with status 0 has the text of the report
-text_reported : (model : SystemModel) (found : Outcome) → IsAnalysed model found → found.status ≡ 0 → found.text ≡ report_text model (findings_of model)
-text_reported model found is done = by_form (is_built model) is
-  where
-    by_form : (built : Bool) → found ≡ (if built then reported model else form_not_built) → found.text ≡ report_text model (findings_of model)
-    by_form true is = ap (λ (o : Outcome). o.text) is
-    by_form false is = absurd (omega (arith, done, ap (λ (o : Outcome). o.status) is))
-
-safe_report : (found : Outcome) (bytes : List ℕ) (model : SystemModel) → model_of bytes ≡ Ok model → refusal_of model ≡ None → IsAnalysed model found → found.status ≡ 0 → IsSafeReport bytes found.text
-safe_report found bytes model means none is done =
+-- an analysis has written the report of the model's findings, which are safe
+safe_report : (found : Outcome) (bytes : List ℕ) (model : SystemModel) → model_of bytes ≡ Ok model → refusal_of model ≡ None → IsAnalysed model found → IsSafeReport bytes found.text
+safe_report found bytes model means none is =
     let valid = valid_read bytes model means none in
-    record { model = model; means = means; valid = valid; printed = text_reported model found is done; safe = findings_safe model valid }
+    record {
+      model = model;
+      means = means;
+      valid = valid;
+      findings = is.report.findings;
+      found = is.report.found;
+      printed = is.report.printed;
+      safe = findings_safe model valid is.report.findings is.report.found;
+    }
 
 bytes_given : (held : Held) (limit : ℕ) (rose : Type 0) (longest : ℕ) (fetch : Fetched) (bytes : List ℕ) → fetch ≡ Bytes bytes → MayGive held limit rose longest fetch → MayBe held bytes × (length bytes ≤ limit)
 bytes_given held limit rose longest fetch bytes is may = subst (λ (f : Fetched). MayGive held limit rose longest f) is may
@@ -65,7 +48,7 @@ module _ (words : List (List ℕ)) (held : List ℕ → Held) (before after long
           bytes = reached.bytes;
           may_be = given.0;
           within = given.1;
-          reported = record { text = found.text; is_safe = safe_report found reached.bytes reached.model reached.means reached.unrefused reached.comes_next done; whole = whole };
+          reported = record { text = found.text; is_safe = safe_report found reached.bytes reached.model reached.means reached.unrefused reached.comes_next; whole = whole };
         }
 
   -- the report of some bytes that may lie under the name of the file

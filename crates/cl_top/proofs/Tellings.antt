@@ -1,24 +1,35 @@
 -- What a call comes to where the shelf tells the files.
-use Rattle.std.proofs.Common.{◌≡◌, ◌⊎◌, ℕ, ◌+◌, ◌≤◌, inl, inr, List, Option, Some, None, sym, subst, arith, length}
+use Rattle.std.proofs.Common.{◌≡◌, ◌⊎◌, ℕ, ◌+◌, ◌≤◌, inl, inr, List, Option, Some, None, Result, Ok, Err, sym, subst, arith, length}
 use Rattle.std.specs.Prelude.{Contains, nat_lt, if◌then◌else◌}
 use Rattle.std.specs.List.{AllByRecursion}
 use Rattle.std.proofs.lemmas.Bool.Decides.{nat_tests}
 use Rattle.std.proofs.lemmas.List.Elements.{All-contains, All-from_recursion}
 use Rattle.cl_io.specs.Counts.{Rose}
 use Rattle.cl_io.specs.Shelf.{Held, Content}
+use Rattle.cl_model.specs.declared.model.SystemModel.{SystemModel}
+use Rattle.cl_model.specs.declared.refusal.Refusal.{Refusal}
 use Rattle.cl_model.specs.Reading.{model_of}
+use Rattle.cl_model.specs.Validity.{refusal_of}
 use Rattle.cl_top.specs.declared.command.Command.{Command}
-use Rattle.cl_top.specs.declared.command.Command.TheVariants.{Analyse}
+use Rattle.cl_top.specs.declared.command.Command.TheVariants.{Analyse, Migrate, Simulate, Replay, Edit, Generate, Survey}
 use Rattle.cl_top.specs.declared.outcome.Outcome.{Outcome}
-use Rattle.cl_top.specs.Command.{File, model_file, command_of, files_of, word}
+use Rattle.cl_top.specs.Command.{File, model_file, trace_file, edits_file, command_of, files_of, word}
 use Rattle.cl_top.specs.Commands.Analyse.{IsAnalysed}
+use Rattle.cl_top.specs.Commands.Edit.{IsOfEdits}
+use Rattle.cl_top.specs.Commands.Migrate.{IsMigrated}
+use Rattle.cl_top.specs.Commands.Replay.{IsOfTrace}
+use Rattle.cl_top.specs.Commands.Simulate.{IsSimulated}
 use Rattle.cl_top.specs.Files.{Fetched, Unasked, Bytes, Fault, TooLong, SomeFile, FileRose, FileGave, MayGive, TellsFiles, NoneRose, told_fetch}
-use Rattle.cl_top.specs.Outcome.{ReadsTo, OpensTo, OpensFile, HasOutcome}
+use Rattle.cl_top.specs.Outcome.{ValidatesTo, ReadsTo, OpensTo, OpensFile, HasOutcome}
 use Rattle.cl_top.specs.Run.{ComesAs, ComesTo, ComesToTold, IsFaultOf, IsWhole, IsCarriedOut}
 use Rattle.cl_top.proofs.Endings.{Carried}
 use Rattle.cl_top.proofs.OfAnalyse.{one_file}
+use Rattle.cl_top.proofs.OfEdit.{model_to_edit, edits_to_edit}
+use Rattle.cl_top.proofs.OfMigrate.{file_to_migrate}
+use Rattle.cl_top.proofs.OfReplay.{model_to_replay, trace_to_replay}
+use Rattle.cl_top.proofs.OfSimulate.{file_to_simulate}
 
-told_bytes : (limit : ℕ) (content : List ℕ) → length content ≤ limit → (if nat_lt limit (length content) then TooLong else Bytes content) ≡ Bytes content
+pub told_bytes : (limit : ℕ) (content : List ℕ) → length content ≤ limit → (if nat_lt limit (length content) then TooLong else Bytes content) ≡ Bytes content
 told_bytes limit content within = grind (arith, nat_tests)
 
 told_long : (limit : ℕ) (content : List ℕ) → limit + 1 ≤ length content → (if nat_lt limit (length content) then TooLong else Bytes content) ≡ TooLong
@@ -53,6 +64,17 @@ module _ (words : List (List ℕ)) (before after : List ℕ → ℕ) (contents :
     opens_told gave may tells opens =
         by_fetch (gave file) (contents file.place) (subst (λ (h : Held). MayGive h file.limit (FileRose words before after file) (longest (word words file.place)) (gave file)) tells may) opens
 
+-- what comes next of a model that is read
+module _ (words : List (List ℕ)) (before after : List ℕ → ℕ) (contents : ℕ → List ℕ) (command : Option Command) (found : Outcome) (next told : SystemModel → Outcome → Type 0)
+    (after_told : (model : SystemModel) → next model found → told model found ⊎ Faulted words before after contents command found) where
+  validated_told : (model : SystemModel) (refusal : Option Refusal) → ValidatesTo model refusal next found → ValidatesTo model refusal told found ⊎ Faulted words before after contents command found
+  validated_told model None is = after_told model is
+  validated_told model (Some refusal) is = inl is
+
+  read_told : (read : Result SystemModel Refusal) → ReadsTo read next found → ReadsTo read told found ⊎ Faulted words before after contents command found
+  read_told (Ok model) is = validated_told model (refusal_of model) is
+  read_told (Err refusal) is = inl is
+
 module _ (words : List (List ℕ)) (held : List ℕ → Held) (before after longest : List ℕ → ℕ) (contents : ℕ → List ℕ) where
   -- the outcome of each command, where its files are told
   told_comes : (command : Option Command) (found : Outcome) → TellsFiles command words held contents → ComesAs command words held before after longest found
@@ -61,6 +83,31 @@ module _ (words : List (List ℕ)) (held : List ℕ → Held) (before after long
   told_comes (Some Analyse) found tells comes =
       opens_told words before after contents (Some Analyse) held longest (model_file 1) one_file found (λ bytes. ReadsTo (model_of bytes) IsAnalysed) (λ bytes. ReadsTo (model_of bytes) IsAnalysed) (λ bytes h. inl h)
       comes.gave comes.files.0 tells.0 comes.follows
+  told_comes (Some Migrate) found tells comes =
+      opens_told words before after contents (Some Migrate) held longest (model_file 1) file_to_migrate found (λ bytes. ReadsTo (model_of bytes) IsMigrated) (λ bytes. ReadsTo (model_of bytes) IsMigrated) (λ bytes h. inl h)
+      comes.gave comes.files.0 tells.0 comes.follows
+  told_comes (Some (Simulate ticks seed)) found tells comes =
+      opens_told words before after contents (Some (Simulate ticks seed)) held longest (model_file 1) (file_to_simulate ticks seed) found
+      (λ bytes. ReadsTo (model_of bytes) (IsSimulated ticks seed)) (λ bytes. ReadsTo (model_of bytes) (IsSimulated ticks seed)) (λ bytes h. inl h)
+      comes.gave comes.files.0 tells.0 comes.follows
+  told_comes (Some Replay) found tells comes =
+      opens_told words before after contents (Some Replay) held longest (model_file 1) model_to_replay found
+      (λ bytes. ReadsTo (model_of bytes) (λ model. OpensFile (trace_file 2) comes.gave (IsOfTrace model)))
+      (λ bytes. ReadsTo (model_of bytes) (λ model. OpensFile (trace_file 2) (told_fetch contents) (IsOfTrace model)))
+      (λ bytes. read_told words before after contents (Some Replay) found (λ model. OpensFile (trace_file 2) comes.gave (IsOfTrace model)) (λ model. OpensFile (trace_file 2) (told_fetch contents) (IsOfTrace model))
+      (λ model. opens_told words before after contents (Some Replay) held longest (trace_file 2) trace_to_replay found (IsOfTrace model) (IsOfTrace model) (λ text h. inl h) comes.gave comes.files.1.0 tells.1.0)
+      (model_of bytes))
+      comes.gave comes.files.0 tells.0 comes.follows
+  told_comes (Some Edit) found tells comes =
+      opens_told words before after contents (Some Edit) held longest (model_file 1) model_to_edit found
+      (λ bytes. ReadsTo (model_of bytes) (λ model. OpensFile (edits_file 2) comes.gave (IsOfEdits model)))
+      (λ bytes. ReadsTo (model_of bytes) (λ model. OpensFile (edits_file 2) (told_fetch contents) (IsOfEdits model)))
+      (λ bytes. read_told words before after contents (Some Edit) found (λ model. OpensFile (edits_file 2) comes.gave (IsOfEdits model)) (λ model. OpensFile (edits_file 2) (told_fetch contents) (IsOfEdits model))
+      (λ model. opens_told words before after contents (Some Edit) held longest (edits_file 2) edits_to_edit found (IsOfEdits model) (IsOfEdits model) (λ text h. inl h) comes.gave comes.files.1.0 tells.1.0)
+      (model_of bytes))
+      comes.gave comes.files.0 tells.0 comes.follows
+  told_comes (Some (Generate seed tasks)) found tells comes = inl comes.follows
+  told_comes (Some (Survey seed tasks)) found tells comes = inl comes.follows
 
   pub told_ends : {K : Type 0} (written : K → Option (List ℕ)) (faults : K → ℕ) (sink_before sink_after : K) (found : Outcome) (status : ℕ)
       → ComesTo words held before after longest found → Carried written faults sink_before sink_after found status

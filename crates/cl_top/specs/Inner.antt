@@ -1,4 +1,6 @@
 -- What only private clauses cite.
 pub mod Opened
 pub mod Leaving
+pub mod Edits
 pub mod Within
+pub mod Traced

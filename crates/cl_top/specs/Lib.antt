@@ -1,6 +1,5 @@
 pub mod Command
 pub mod Files
-pub mod Form
 pub mod Outcome
 pub mod Commands
 pub mod Run
@@ -8,3 +7,6 @@ pub mod Steps
 pub mod Headline
 pub mod Edges
 pub mod Inner
+pub mod Migrated
+pub mod Simulated
+pub mod Reported

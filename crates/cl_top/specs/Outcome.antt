@@ -6,12 +6,18 @@ use Rattle.cl_model.specs.declared.refusal.Refusal.{Refusal}
 use Rattle.cl_model.specs.Reading.{model_of}
 use Rattle.cl_model.specs.Refusal.{refusal_text}
 use Rattle.cl_model.specs.Validity.{refusal_of}
+use Rattle.cl_gen.specs.Generated.{generated}
 use Rattle.cl_top.specs.declared.outcome.Outcome.{Outcome}
 use Rattle.cl_top.specs.declared.status.TheConstants.{WORDS_REFUSED, READ_FAULT, LONG_FILE, MODEL_REFUSED}
 use Rattle.cl_top.specs.declared.command.Command.{Command}
-use Rattle.cl_top.specs.declared.command.Command.TheVariants.{Analyse}
-use Rattle.cl_top.specs.Command.{File, model_file}
+use Rattle.cl_top.specs.declared.command.Command.TheVariants.{Analyse, Migrate, Simulate, Replay, Edit, Generate, Survey}
+use Rattle.cl_top.specs.Command.{File, model_file, trace_file, edits_file}
 use Rattle.cl_top.specs.Commands.Analyse.{IsAnalysed}
+use Rattle.cl_top.specs.Commands.Migrate.{IsMigrated, MigratesTheSame}
+use Rattle.cl_top.specs.Commands.Simulate.{IsSimulated}
+use Rattle.cl_top.specs.Commands.Replay.{IsOfTrace}
+use Rattle.cl_top.specs.Commands.Edit.{IsOfEdits}
+use Rattle.cl_top.specs.Commands.Survey.{IsSurveyed}
 use Rattle.cl_top.specs.Files.{Fetched, Unasked, Bytes, Fault, TooLong}
 
 -- ---- outcomes that any command may come to
@@ -62,8 +68,20 @@ OpensModel file gave next found = OpensFile file gave (λ bytes. ReadsTo (model_
 abbrev pub HasOutcome : Option Command → (gave : File → Fetched) → Outcome → Type 0
 HasOutcome None gave found = found ≡ words_refused
 HasOutcome (Some Analyse) gave found = OpensModel (model_file 1) gave IsAnalysed found
+HasOutcome (Some Migrate) gave found = OpensModel (model_file 1) gave IsMigrated found
+HasOutcome (Some (Simulate ticks seed)) gave found = OpensModel (model_file 1) gave (IsSimulated ticks seed) found
+HasOutcome (Some Replay) gave found = OpensModel (model_file 1) gave (λ model. OpensFile (trace_file 2) gave (IsOfTrace model)) found
+HasOutcome (Some Edit) gave found = OpensModel (model_file 1) gave (λ model. OpensFile (edits_file 2) gave (IsOfEdits model)) found
+HasOutcome (Some (Generate seed tasks)) gave found = IsMigrated (generated seed tasks) found
+HasOutcome (Some (Survey seed tasks)) gave found = IsSurveyed (generated seed tasks) found
 
--- Two outcomes of the words say the same: they are equal.
+-- Two outcomes of the words say the same: they are equal, or texts of one model.
 abbrev pub SaysTheSame : Option Command → (one other : Outcome) → Type 0
 SaysTheSame None one other = one ≡ other
 SaysTheSame (Some Analyse) one other = one ≡ other
+SaysTheSame (Some Migrate) one other = MigratesTheSame one other
+SaysTheSame (Some (Simulate ticks seed)) one other = one ≡ other
+SaysTheSame (Some Replay) one other = one ≡ other
+SaysTheSame (Some Edit) one other = one ≡ other
+SaysTheSame (Some (Generate seed tasks)) one other = MigratesTheSame one other
+SaysTheSame (Some (Survey seed tasks)) one other = one ≡ other

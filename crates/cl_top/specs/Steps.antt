@@ -1,17 +1,63 @@
 -- How many analysing steps a command takes (this project's profile).
-use Rattle.std.specs.Prelude.{ℕ, ◌+◌, List, length, Option, Some, None, Result, Ok, Err}
+use Rattle.std.specs.Prelude.{◌≡◌, ◌⊎◌, ℕ, ◌+◌, ◌*◌, ◌≤◌, List, [], ◌∷◌, length, Option, Some, None, Result, Ok, Err}
 use Rattle.cl_model.specs.declared.model.SystemModel.{SystemModel}
 use Rattle.cl_model.specs.declared.refusal.Refusal.{Refusal}
 use Rattle.cl_model.specs.Reading.{model_of}
+use Rattle.cl_edit.specs.declared.edit.Edit.{Edit}
+use Rattle.cl_edit.specs.Edited.{edited}
+use Rattle.cl_edit.specs.Reading.{AreEditsOf}
+use Rattle.cl_gen.specs.Generated.{generated}
+use Rattle.cl_incr.specs.Changed.{AsksForChanges}
 use Rattle.cl_top.specs.declared.command.Command.{Command}
-use Rattle.cl_top.specs.declared.command.Command.TheVariants.{Analyse}
+use Rattle.cl_top.specs.declared.command.Command.TheVariants.{Analyse, Migrate, Simulate, Replay, Edit as EditFiles, Generate, Survey}
 
--- one for each task and each chain of a file's model; none where the file is refused by the reading
+-- one for each task and two for each chain of a model; none where a file is refused by the reading
 abbrev pub model_steps : Result SystemModel Refusal → ℕ
-model_steps (Ok model) = length model.tasks + length model.chains
+model_steps (Ok model) = length model.tasks + 2 * length model.chains
 model_steps (Err refusal) = 0
 
--- the most steps of a command whose files have these bytes
+-- ---- edits
+
+-- an edit asks for what it changes, and then comes what is asked of the edited model; nothing where it is refused
+abbrev pub AsksThen : (old : SystemModel) → Result SystemModel Refusal → (next : SystemModel → (between : ℕ) → Type 0) → (before after : ℕ) → Type 0
+AsksThen old (Err refusal) next before after = after ≤ before
+AsksThen old (Ok new) next before after = (between : ℕ) × AsksForChanges old new before between × next new between
+
+-- edits ask for what each changes, up to the first that is refused
+abbrev pub AskForChanges : (edits : List Edit) → SystemModel → (before after : ℕ) → Type 0
+AskForChanges [] model before after = after ≤ before
+AskForChanges (edit ∷ edits) model before after =
+    AsksThen model (edited model edit) (λ new between. AskForChanges edits new between after) before after
+
+-- the text is a list of edits, and they ask for what they change
+pub record AskForEdits (read : Result SystemModel Refusal) (text : List ℕ) (before after : ℕ) : Type 0 where
+  pub model : SystemModel
+  pub is_read : read ≡ Ok model
+  pub edits : List Edit
+  pub are : AreEditsOf text edits
+  pub ask : AskForChanges edits model before after
+
+-- a session is started, for as many steps as an analysis takes, and then edits ask for what they change; where a line is no
+-- edit, that is all
+pub record AreFewOfEdits (read : Result SystemModel Refusal) (text : List ℕ) (before after : ℕ) : Type 0 where
+  pub started : ℕ
+  pub start : started ≤ before + model_steps read
+  pub rest : (after ≤ started) ⊎ AskForEdits read text started after
+
+-- ---- commands
+
+-- the most steps of a command whose files have these bytes, without what edits ask for
 abbrev pub step_limit : Option Command → (contents : ℕ → List ℕ) → ℕ
 step_limit None contents = 0
 step_limit (Some Analyse) contents = model_steps (model_of (contents 1))
+step_limit (Some Migrate) contents = 0
+step_limit (Some (Simulate ticks seed)) contents = 0
+step_limit (Some Replay) contents = model_steps (model_of (contents 1))
+step_limit (Some EditFiles) contents = model_steps (model_of (contents 1))
+step_limit (Some (Generate seed tasks)) contents = 0
+step_limit (Some (Survey seed tasks)) contents = model_steps (Ok (generated seed tasks))
+
+-- the steps before and after a command whose files have these bytes
+abbrev pub AreFewSteps : Option Command → (contents : ℕ → List ℕ) → (before after : ℕ) → Type 0
+AreFewSteps (Some EditFiles) contents before after = AreFewOfEdits (model_of (contents 1)) (contents 2) before after
+AreFewSteps command contents before after = after ≤ before + step_limit command contents

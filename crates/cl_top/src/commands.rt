@@ -1,2 +1,8 @@
 //! What each command comes to, once its files are open: a file for each command.
 pub(crate) mod analyse;
+pub(crate) mod edit;
+pub(crate) mod generate;
+pub(crate) mod migrate;
+pub(crate) mod replay;
+pub(crate) mod simulate;
+pub(crate) mod survey;

@@ -4,8 +4,8 @@
 
 mod command;
 mod commands;
+mod editing;
 mod file_shelf;
-mod form;
 pub mod laws;
 mod opening;
 mod out_sink;
@@ -16,7 +16,7 @@ pub mod status;
 
 pub use command::Command;
 pub use file_shelf::FileShelf;
-pub use opening::FILE_LIMIT;
+pub use opening::{FILE_LIMIT, TRACE_LIMIT};
 pub use out_sink::OutSink;
 pub use outcome::Outcome;
 pub use running::run;

@@ -20,6 +20,9 @@ use std::alloc::Global;
 /// The most bytes that a model file may have.
 pub const FILE_LIMIT: u64 = 16_777_216;
 
+/// The most bytes that a trace file may have.
+pub const TRACE_LIMIT: u64 = 268_435_456;
+
 /// What the fetch of a file gave.
 #[derive(Drop)]
 pub(crate) enum FileFetch {
@@ -59,7 +62,8 @@ pub(crate) fn fetch_file<S: Shelf>(
     }
 }
 
-fn word_at(words: &Words, place: usize) -> &str
+/// The word at a place.
+pub(crate) fn word_at(words: &Words, place: usize) -> &str
     requires { place < length words.now }
     ensures { result.now ≡ word words.now place }
 {

@@ -1,9 +1,10 @@
 ghost use Rattle.std.specs.Prelude.{◌≡◌, ◌∷◌, [], ◌++◌, decimal, IfOk};
 ghost use Rattle.cl_text.specs.Line.{line};
-ghost use Rattle.cl_top.specs.Commands.Analyse.{form_not_built};
+ghost use Rattle.cl_top.specs.Commands.Simulate.{simulation_refused};
 ghost use Rattle.cl_top.specs.Outcome.{words_refused, read_fault, long_file, model_refused};
 
 use crate::status;
+use cl_gen::MOST_EXECUTIONS;
 use cl_model::Refusal;
 use cl_text::Text;
 use cl_time::NoMemory;
@@ -65,10 +66,19 @@ impl Outcome {
         Outcome::of_line(alloc, status::MODEL_REFUSED, words.as_bytes())
     }
 
-    /// The analysis of the model isn't built yet.
-    pub(crate) fn form_not_built(alloc: Global) -> Result<Outcome, NoMemory>
-        ensures { IfOk result (λ outcome. outcome ≡ form_not_built) }
+    /// So many executions of runnables are counted, which are too many.
+    pub(crate) fn simulation_refused(alloc: Global, count: u64) -> Result<Outcome, NoMemory>
+        ensures { IfOk result (λ outcome. outcome ≡ simulation_refused count) }
     {
-        Outcome::of_line(alloc, status::FORM_NOT_BUILT, b"form not built")
+        let mut text = Text::new(alloc);
+        text.put(b"simulation refused ")?;
+        text.put_number(count)?;
+        text.put(b" of ")?;
+        text.put_number(MOST_EXECUTIONS)?;
+        text.put(b"\n")?;
+        Ok(Outcome {
+            status: status::SIMULATION_REFUSED,
+            text,
+        })
     }
 }

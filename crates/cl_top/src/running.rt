@@ -1,21 +1,29 @@
-ghost use Rattle.std.specs.Prelude.{◌≡◌, ◌≢◌, ◌⊎◌, ℕ, ◌+◌, ◌≤◌, List, None, Some, IfOk};
-ghost use Rattle.cl_io.specs.Counts.{Rose};
+ghost use Rattle.std.specs.Prelude.{◌≡◌, ◌≢◌, ◌⊎◌, ℕ, ◌+◌, ◌*◌, ◌<◌, ◌≤◌, List, length, None, Some, IfOk};
+ghost use Rattle.cl_io.specs.Counts.{Rose, RisesAlone};
 ghost use Rattle.cl_io.specs.Names.{SameAtEach};
 ghost use Rattle.cl_io.specs.Shelf.{Content};
 ghost use Rattle.cl_top.specs.declared.status.TheConstants.{DONE, WORDS_REFUSED, READ_FAULT, LONG_FILE, WRITE_FAULT, NO_MEMORY, ARGUMENT_NOT_TEXT};
 ghost use Rattle.cl_top.specs.Command.{command_of, word};
-ghost use Rattle.cl_top.specs.Files.{FileRose, FileTooLong, StaysBeside, NoneRose, TellsFiles};
+ghost use Rattle.cl_top.specs.Commands.Replay.{IsOfTrace};
+ghost use Rattle.cl_top.specs.Files.{Fetched, MayGive, FileRose, FileTooLong, StaysBeside, NoneRose, TellsFiles};
 ghost use Rattle.cl_top.specs.Headline.{HasReported, HasReportedSome};
 ghost use Rattle.cl_top.specs.Inner.Leaving.{LeavesRest};
-ghost use Rattle.cl_top.specs.Outcome.{read_fault, long_file};
+ghost use Rattle.cl_top.specs.Outcome.{read_fault, long_file, OpensTo};
 ghost use Rattle.cl_top.specs.Run.{ComesTo, ComesToTold, IsWhole, IsCut, Ends, KeepsToTold, WritesOfFile};
-ghost use Rattle.cl_top.specs.Steps.{step_limit};
+ghost use Rattle.cl_top.specs.Steps.{AreFewSteps};
 
 use crate::command::{Command, read_command};
 use crate::commands::analyse::analysed;
-use crate::opening::{Opened, open_model};
+use crate::commands::generate::generated;
+use crate::commands::migrate::migrated;
+use crate::commands::replay::replayed;
+use crate::commands::simulate::simulated;
+use crate::commands::survey::surveyed;
+use crate::editing::edit_files;
+use crate::opening::{FileFetch, Opened, TRACE_LIMIT, fetch_file, open_model};
 use crate::{Outcome, status};
 use cl_io::{Shelf, Sink, Words, WriteFault, write_all};
+use cl_model::ValidModel;
 use cl_time::{NoMemory, Steps};
 use std::alloc::Global;
 use std::sync::ledger::Ledger;
@@ -48,7 +56,7 @@ pub fn run<S: Shelf, K: Sink, L: Ledger>(
 
     // At most so many steps as the told files ask for, whatever is answered.
     ensures few_steps { (contents : ℕ → List ℕ) → TellsFiles (command_of words.now) words.now (S.held shelf.old) contents
-        → steps.new ≤ steps.old + step_limit (command_of words.now) contents }
+        → AreFewSteps (command_of words.now) contents steps.old steps.new }
 
     // When each status comes. Where its text couldn't be written whole, a write fault comes in its place.
     ensures words_refused { result ≡ WORDS_REFUSED → command_of words.now ≡ None }
@@ -100,6 +108,14 @@ fn find_outcome<S: Shelf, L: Ledger>(
     match read_command(words) {
         None => Outcome::words_refused(alloc),
         Some(Command::Analyse) => analyse_file(alloc, words, shelf, steps),
+        Some(Command::Migrate) => migrate_file(alloc, words, shelf, steps),
+        Some(Command::Simulate { ticks, seed }) => {
+            simulate_file(alloc, words, ticks, seed, shelf, steps)
+        }
+        Some(Command::Replay) => replay_files(alloc, words, shelf, steps),
+        Some(Command::Edit) => edit_files(alloc, words, shelf, steps),
+        Some(Command::Generate { seed, tasks }) => generated(alloc, seed, tasks),
+        Some(Command::Survey { seed, tasks }) => surveyed(alloc, seed, tasks, steps),
     }
 }
 
@@ -119,6 +135,89 @@ fn analyse_file<S: Shelf, L: Ledger>(
     match open_model(alloc, words, 1, shelf)? {
         Opened::Valid(model) => analysed(alloc, &model, steps),
         Opened::Stopped(outcome) => Ok(outcome),
+    }
+}
+
+/// The outcome of `migrate MODEL`, without a step.
+fn migrate_file<S: Shelf, L: Ledger>(
+    alloc: Global,
+    words: &Words,
+    shelf: &mut S,
+    _steps: &mut Steps<L>,
+) -> Result<Outcome, NoMemory>
+    requires { command_of words.now ≡ Some Command.Migrate }
+    ensures comes { IfOk result
+        (ComesTo words.now (S.held shelf.old) (S.faults shelf.old) (S.faults shelf.new) (S.longest shelf.new)) }
+    ensures leaves { LeavesRest words.now (S.held shelf.old) (S.held shelf.new) (S.faults shelf.old) (S.faults shelf.new)
+        (S.longest shelf.old) (S.longest shelf.new) _steps.old _steps.new }
+{
+    match open_model(alloc, words, 1, shelf)? {
+        Opened::Valid(model) => migrated(alloc, &model),
+        Opened::Stopped(outcome) => Ok(outcome),
+    }
+}
+
+/// The outcome of `simulate MODEL TICKS SEED`, without a step.
+fn simulate_file<S: Shelf, L: Ledger>(
+    alloc: Global,
+    words: &Words,
+    ticks: u64,
+    seed: u64,
+    shelf: &mut S,
+    _steps: &mut Steps<L>,
+) -> Result<Outcome, NoMemory>
+    requires { command_of words.now ≡ Some (Command.Simulate ticks seed) }
+    ensures comes { IfOk result
+        (ComesTo words.now (S.held shelf.old) (S.faults shelf.old) (S.faults shelf.new) (S.longest shelf.new)) }
+    ensures leaves { LeavesRest words.now (S.held shelf.old) (S.held shelf.new) (S.faults shelf.old) (S.faults shelf.new)
+        (S.longest shelf.old) (S.longest shelf.new) _steps.old _steps.new }
+{
+    match open_model(alloc, words, 1, shelf)? {
+        Opened::Valid(model) => simulated(alloc, &model, ticks, seed),
+        Opened::Stopped(outcome) => Ok(outcome),
+    }
+}
+
+/// The outcome of `replay MODEL TRACE`.
+fn replay_files<S: Shelf, L: Ledger>(
+    alloc: Global,
+    words: &Words,
+    shelf: &mut S,
+    steps: &mut Steps<L>,
+) -> Result<Outcome, NoMemory>
+    requires { command_of words.now ≡ Some Command.Replay }
+    ensures comes { IfOk result
+        (ComesTo words.now (S.held shelf.old) (S.faults shelf.old) (S.faults shelf.new) (S.longest shelf.new)) }
+    ensures leaves { LeavesRest words.now (S.held shelf.old) (S.held shelf.new) (S.faults shelf.old) (S.faults shelf.new)
+        (S.longest shelf.old) (S.longest shelf.new) steps.old steps.new }
+{
+    match open_model(alloc, words, 1, shelf)? {
+        Opened::Valid(model) => replay_trace(alloc, words, &model, shelf, steps),
+        Opened::Stopped(outcome) => Ok(outcome),
+    }
+}
+
+/// The outcome of `replay` of a valid model and of the trace file that the second word after the verb names.
+fn replay_trace<S: Shelf, L: Ledger>(
+    alloc: Global,
+    words: &Words,
+    model: &ValidModel,
+    shelf: &mut S,
+    steps: &mut Steps<L>,
+) -> Result<Outcome, NoMemory>
+    requires { 2 < length words.now }
+    ensures same { SameAtEach (S.held shelf.old) (S.held shelf.new) }
+    ensures faults { RisesAlone (word words.now 2) (S.faults shelf.old) (S.faults shelf.new) }
+    ensures longest { RisesAlone (word words.now 2) (S.longest shelf.old) (S.longest shelf.new) }
+    ensures outcome { IfOk result (λ found. let name = word words.now 2 in (fetch : Fetched)
+        × MayGive (S.held shelf.old name) TRACE_LIMIT (Rose (S.faults shelf.old name) (S.faults shelf.new name)) (S.longest shelf.new name) fetch
+        × OpensTo 2 fetch (IsOfTrace model.now) found) }
+    ensures steps { steps.new ≤ steps.old + (length model.now.tasks + 2 * length model.now.chains) }
+{
+    match fetch_file(alloc, words, 2, TRACE_LIMIT, shelf)? {
+        FileFetch::Bytes(text) => replayed(alloc, model, text.as_slice(), steps),
+        FileFetch::Fault => Outcome::read_fault(alloc, 2),
+        FileFetch::TooLong => Outcome::long_file(alloc, 2),
     }
 }
 

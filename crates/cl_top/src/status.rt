@@ -15,14 +15,20 @@ pub const LONG_FILE: u8 = 4;
 /// The model is refused.
 pub const MODEL_REFUSED: u8 = 5;
 
+/// The trace is no trace, or that of a run that isn't legal.
+pub const TRACE_REFUSED: u8 = 6;
+
+/// A line of a list of edits is no edit, or the edit in it is refused.
+pub const EDITS_REFUSED: u8 = 7;
+
+/// The run that is asked for has too many executions of runnables.
+pub const SIMULATION_REFUSED: u8 = 8;
+
 /// The output couldn't be written whole.
 pub const WRITE_FAULT: u8 = 9;
 
 /// Memory ran out, and nothing was written.
 pub const NO_MEMORY: u8 = 10;
-
-/// The analysis of such a model isn't built yet.
-pub const FORM_NOT_BUILT: u8 = 11;
 
 /// An argument of the program isn't text, so there are no words to run. `run` never answers it.
 pub const ARGUMENT_NOT_TEXT: u8 = 12;

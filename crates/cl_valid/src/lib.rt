@@ -14,7 +14,9 @@ mod stimuli;
 mod tasks;
 mod validation;
 
-pub use ranges::in_range;
+pub use ranges::{
+    in_range, is_burst_count, is_chain_in_range, is_deadline_in_range, is_task_in_range, is_time,
+};
 pub use validation::validate;
 
 /// Why a model isn't taken: its first refusal, or want of memory.

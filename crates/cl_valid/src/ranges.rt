@@ -9,13 +9,15 @@ use cl_model::{
     StimulusDef, StimulusKind, SystemModel, TaskDef,
 };
 
-fn is_time(ticks: u64) -> bool
+/// Whether it is a time from 1 tick up. It takes no memory.
+pub fn is_time(ticks: u64) -> bool
     ensures { IsTrue result ↔ IsTime ticks }
 {
     1 <= ticks && ticks <= MOST_TICKS
 }
 
-fn is_burst_count(count: u64) -> bool
+/// Whether a burst may have so many jobs. It takes no memory.
+pub fn is_burst_count(count: u64) -> bool
     ensures { IsTrue result ↔ IsBurstCount count }
 {
     LEAST_JOBS_OF_BURST <= count && count <= MOST_JOBS_OF_BURST
@@ -42,7 +44,8 @@ fn is_kind_in_range(kind: StimulusKind) -> bool
     }
 }
 
-fn is_deadline_in_range(deadline: Option<u64>) -> bool
+/// Whether a deadline, where one is given, is a time from 1 tick up. It takes no memory.
+pub fn is_deadline_in_range(deadline: Option<u64>) -> bool
     ensures { IsTrue result ↔ IfSome deadline IsTime }
 {
     match deadline {
@@ -68,7 +71,8 @@ fn are_runnables_in_range(runnables: &[RunnableDef]) -> bool
         .all(|runnable| is_runnable_in_range(runnable))
 }
 
-fn is_task_in_range(task: &TaskDef) -> bool
+/// Whether the numbers of a task and of its runnables are in range, and their lists not too long. It takes no memory.
+pub fn is_task_in_range(task: &TaskDef) -> bool
     ensures { IsTrue result ↔ IsTaskInRange task.now }
 {
     task.priority <= MOST_PRIORITY
@@ -77,7 +81,8 @@ fn is_task_in_range(task: &TaskDef) -> bool
         && are_runnables_in_range(task.runnables.as_slice())
 }
 
-fn is_chain_in_range(chain: &ChainDef) -> bool
+/// Whether the lists of a chain are not too long. It takes no memory.
+pub fn is_chain_in_range(chain: &ChainDef) -> bool
     ensures { IsTrue result ↔ IsChainInRange chain.now }
 {
     chain.runnables.len() <= MOST_STEPS && chain.labels.len() <= MOST_HOPS

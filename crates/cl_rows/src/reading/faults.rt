@@ -1,5 +1,5 @@
 //! Files with a fault, and the code and place that they are refused with.
-use crate::texts::{ACCEPTED, NOT_BUILT, Row};
+use crate::texts::{ACCEPTED, Row};
 
 /// Texts that are no model from the start on.
 pub(super) const STARTS: [(&[u8], &str); 6] = [
@@ -183,12 +183,12 @@ pub(super) const ABSENT_ROWS: [Row; 28] = [
     ("chain = \"only\"\n", "", "M5 requirement[0].chain"),
     ("kind = \"reduced\"\n", "", "M5 requirement[0].kind"),
     ("most = 1000000000000000\n", "", "M5 requirement[0].most"),
-    ("offset = 0\n", "", NOT_BUILT),
-    ("jitter = 0\n", "", NOT_BUILT),
-    ("deadline = 1000000000000\n", "", NOT_BUILT),
-    ("reads = [\"x\"]\n", "", NOT_BUILT),
-    ("writes = [\"x\"]\n", "", NOT_BUILT),
-    ("labels = []\n", "", NOT_BUILT),
+    ("offset = 0\n", "", ACCEPTED),
+    ("jitter = 0\n", "", ACCEPTED),
+    ("deadline = 1000000000000\n", "", ACCEPTED),
+    ("reads = [\"x\"]\n", "", ACCEPTED),
+    ("writes = [\"x\"]\n", "", ACCEPTED),
+    ("labels = []\n", "", ACCEPTED),
 ];
 
 /// The same with a key that a table does not have.

@@ -1,5 +1,5 @@
 //! Names, words, numbers and arrays at the ends of what the format allows, and one past them.
-use crate::texts::{ACCEPTED, NOT_BUILT, Row};
+use crate::texts::{ACCEPTED, Row};
 
 /// Names of the model of every key.
 pub(super) const NAME_ROWS: [Row; 15] = [
@@ -36,7 +36,7 @@ pub(super) const NAME_ROWS: [Row; 15] = [
         "M7 chain[0].labels[2]",
     ),
     ("\"q\"", "\" q\"", "M7 requirement[0].name"),
-    ("\"q\"", "\"AZaz09_.-\"", NOT_BUILT),
+    ("\"q\"", "\"AZaz09_.-\"", ACCEPTED),
     (
         "chain = \"only\"",
         "chain = \"on ly\"",
@@ -51,14 +51,14 @@ pub(super) const WORD_ROWS: [Row; 10] = [
     (
         "kind = \"periodic\"\nperiod = 1000000000000\noffset = 0\njitter = 0\n",
         "kind = \"sporadic\"\nleast = 1000000000000\ngreatest = 1000000000000\n",
-        NOT_BUILT,
+        ACCEPTED,
     ),
-    ("\"timed\"", "\"explicit\"", NOT_BUILT),
-    ("\"timed\"", "\"implicit\"", NOT_BUILT),
+    ("\"timed\"", "\"explicit\"", ACCEPTED),
+    ("\"timed\"", "\"implicit\"", ACCEPTED),
     ("\"timed\"", "\"Timed\"", "M9 task[0].access"),
     ("\"timed\"", "\"\"", "M9 task[0].access"),
-    ("\"reduced\"", "\"reaction\"", NOT_BUILT),
-    ("\"reduced\"", "\"age\"", NOT_BUILT),
+    ("\"reduced\"", "\"reaction\"", ACCEPTED),
+    ("\"reduced\"", "\"age\"", ACCEPTED),
     ("\"reduced\"", "\"latency\"", "M9 requirement[0].kind"),
 ];
 
@@ -80,16 +80,16 @@ pub(super) const RANGE_ROWS: [Row; 41] = [
         "M8 stimulus[0].period",
     ),
     ("offset = 0\n", "offset = -1\n", "M8 stimulus[0].offset"),
-    ("offset = 0\n", "offset = 1\n", NOT_BUILT),
-    ("offset = 0\n", "offset = 999999999999\n", NOT_BUILT),
+    ("offset = 0\n", "offset = 1\n", ACCEPTED),
+    ("offset = 0\n", "offset = 999999999999\n", ACCEPTED),
     (
         "offset = 0\n",
         "offset = 1000000000001\n",
         "M8 stimulus[0].offset",
     ),
     ("jitter = 0\n", "jitter = -1\n", "M8 stimulus[0].jitter"),
-    ("jitter = 0\n", "jitter = 1\n", NOT_BUILT),
-    ("jitter = 0\n", "jitter = 999999999999\n", NOT_BUILT),
+    ("jitter = 0\n", "jitter = 1\n", ACCEPTED),
+    ("jitter = 0\n", "jitter = 999999999999\n", ACCEPTED),
     (
         "jitter = 0\n",
         "jitter = 1000000000001\n",
@@ -98,11 +98,11 @@ pub(super) const RANGE_ROWS: [Row; 41] = [
     (
         "[[label]]",
         "[[stimulus]]\nname = \"late\"\nkind = \"periodic\"\nperiod = 1\njitter = 1000000000000\n\n[[label]]",
-        NOT_BUILT,
+        ACCEPTED,
     ),
     ("least = 1\n", "least = 0\n", "M8 stimulus[1].least"),
-    ("least = 1\n", "least = 2\n", NOT_BUILT),
-    ("least = 1\n", "least = 1000000000000\n", NOT_BUILT),
+    ("least = 1\n", "least = 2\n", ACCEPTED),
+    ("least = 1\n", "least = 1000000000000\n", ACCEPTED),
     (
         "least = 1\n",
         "least = 1000000000001\n",
@@ -113,11 +113,11 @@ pub(super) const RANGE_ROWS: [Row; 41] = [
         "greatest = 0\n",
         "M8 stimulus[1].greatest",
     ),
-    ("greatest = 1000000000000\n", "greatest = 1\n", NOT_BUILT),
+    ("greatest = 1000000000000\n", "greatest = 1\n", ACCEPTED),
     (
         "greatest = 1000000000000\n",
         "greatest = 999999999999\n",
-        NOT_BUILT,
+        ACCEPTED,
     ),
     (
         "greatest = 1000000000000\n",
@@ -129,8 +129,8 @@ pub(super) const RANGE_ROWS: [Row; 41] = [
         "priority = -1\n",
         "M8 task[0].priority",
     ),
-    ("priority = 1000000\n", "priority = 0\n", NOT_BUILT),
-    ("priority = 1000000\n", "priority = 999999\n", NOT_BUILT),
+    ("priority = 1000000\n", "priority = 0\n", ACCEPTED),
+    ("priority = 1000000\n", "priority = 999999\n", ACCEPTED),
     (
         "priority = 1000000\n",
         "priority = 1000001\n",
@@ -146,11 +146,11 @@ pub(super) const RANGE_ROWS: [Row; 41] = [
         "deadline = 0\n",
         "M8 task[0].deadline",
     ),
-    ("deadline = 1000000000000\n", "deadline = 1\n", NOT_BUILT),
+    ("deadline = 1000000000000\n", "deadline = 1\n", ACCEPTED),
     (
         "deadline = 1000000000000\n",
         "deadline = 999999999999\n",
-        NOT_BUILT,
+        ACCEPTED,
     ),
     (
         "deadline = 1000000000000\n",
@@ -162,11 +162,11 @@ pub(super) const RANGE_ROWS: [Row; 41] = [
         "\"f\"\nleast = 0\n",
         "M8 task[0].runnable[0].least",
     ),
-    ("\"f\"\nleast = 1\n", "\"f\"\nleast = 2\n", NOT_BUILT),
+    ("\"f\"\nleast = 1\n", "\"f\"\nleast = 2\n", ACCEPTED),
     (
         "\"f\"\nleast = 1\n",
         "\"f\"\nleast = 1000000000000\n",
-        NOT_BUILT,
+        ACCEPTED,
     ),
     (
         "\"f\"\nleast = 1\n",
@@ -181,12 +181,12 @@ pub(super) const RANGE_ROWS: [Row; 41] = [
     (
         "greatest = 1000000000000\nwhole",
         "greatest = 1\nwhole",
-        NOT_BUILT,
+        ACCEPTED,
     ),
     (
         "greatest = 1000000000000\nwhole",
         "greatest = 999999999999\nwhole",
-        NOT_BUILT,
+        ACCEPTED,
     ),
     (
         "greatest = 1000000000000\nwhole",
@@ -198,11 +198,11 @@ pub(super) const RANGE_ROWS: [Row; 41] = [
         "most = -1\n",
         "M8 requirement[0].most",
     ),
-    ("most = 1000000000000000\n", "most = 0\n", NOT_BUILT),
+    ("most = 1000000000000000\n", "most = 0\n", ACCEPTED),
     (
         "most = 1000000000000000\n",
         "most = 999999999999999\n",
-        NOT_BUILT,
+        ACCEPTED,
     ),
     (
         "most = 1000000000000000\n",
@@ -268,7 +268,7 @@ pub(super) const SECTION_ROWS: [ArrayRow; 12] = [
         "labels = [\"x\"]\n",
         "[[requirement]]\nname = \"q#\"\nchain = \"ab\"\nkind = \"age\"\nmost = #\n",
         1024,
-        NOT_BUILT,
+        ACCEPTED,
     ),
     (
         "labels = [\"x\"]\n",
@@ -310,7 +310,7 @@ pub(super) const ACCESS_ROWS: [ArrayRow; 4] = [
 
 /// Steps, added to the chain of the model of every key with 63 hops.
 pub(super) const STEP_ROWS: [ArrayRow; 2] = [
-    ("runnables = [\"f\"", ", \"f\"", 63, NOT_BUILT),
+    ("runnables = [\"f\"", ", \"f\"", 63, ACCEPTED),
     (
         "runnables = [\"f\"",
         ", \"f\"",
@@ -321,6 +321,6 @@ pub(super) const STEP_ROWS: [ArrayRow; 2] = [
 
 /// Hops, added to the chain of the model of every key with 64 steps.
 pub(super) const HOP_ROWS: [ArrayRow; 2] = [
-    ("labels = [", "\"x\", ", 63, NOT_BUILT),
+    ("labels = [", "\"x\", ", 63, ACCEPTED),
     ("labels = [", "\"x\", ", 64, "M10 chain[0].labels"),
 ];

@@ -29,8 +29,6 @@ pub(super) const S10_SPORADIC: Change = (
     "kind = \"sporadic\"\nleast = 10\ngreatest = 30\n",
 );
 
-pub(super) const S20_PERIOD_15: Change = ("period = 20\n", "period = 15\n");
-
 pub(super) const S20_PERIOD_24: Change = ("period = 20\n", "period = 24\n");
 
 pub(super) const S20_PERIOD_1000000: Change = ("period = 20\n", "period = 1000000\n");
@@ -57,11 +55,7 @@ pub(super) const B_PRIORITY_2: Change = (
     "stimulus = \"s20\"\npriority = 2\n",
 );
 
-pub(super) const A_TAKES_1: Change = ("least = 2\ngreatest = 3\n", "least = 1\ngreatest = 1\n");
-
 pub(super) const A_TAKES_3: Change = ("least = 2\ngreatest = 3\n", "least = 3\ngreatest = 3\n");
-
-pub(super) const B_TAKES_1: Change = ("least = 4\ngreatest = 5\n", "least = 1\ngreatest = 1\n");
 
 pub(super) const B_TAKES_5: Change = ("least = 4\ngreatest = 5\n", "least = 5\ngreatest = 5\n");
 
@@ -76,9 +70,4 @@ pub(super) const B_TAKES_4_TO_21: Change = (
 pub(super) const B_EXPLICIT_LATER: Change = (
     "priority = 1\naccess = \"implicit\"\n",
     "priority = 1\naccess = \"explicit\"\n\n[[task.runnable]]\nname = \"b0\"\nleast = 2\ngreatest = 2\n",
-);
-
-pub(super) const REQUIRED: Change = (
-    "labels = [\"x\"]\n",
-    "labels = [\"x\"]\n\n[[requirement]]\nname = \"r3\"\nchain = \"ab\"\nkind = \"reaction\"\nmost = 36\n",
 );

@@ -210,3 +210,110 @@ name = "speed_to_valve"
 runnables = ["read_speed", "set_valve"]
 labels = ["speed"]
 "#;
+
+/// Two timed tasks on two cores, and a chain from the first to the second.
+pub(super) const LET: &str = r#"format = "chainlat"
+version = 1
+
+[[core]]
+name = "c0"
+
+[[core]]
+name = "c1"
+
+[[stimulus]]
+name = "s10"
+kind = "periodic"
+period = 10
+
+[[stimulus]]
+name = "s20"
+kind = "periodic"
+period = 15
+
+[[label]]
+name = "x"
+
+[[task]]
+name = "A"
+core = "c0"
+stimulus = "s10"
+priority = 2
+access = "timed"
+
+[[task.runnable]]
+name = "a"
+least = 1
+greatest = 1
+writes = ["x"]
+
+[[task]]
+name = "B"
+core = "c1"
+stimulus = "s20"
+priority = 1
+access = "timed"
+
+[[task.runnable]]
+name = "b"
+least = 1
+greatest = 1
+reads = ["x"]
+
+[[chain]]
+name = "ab"
+runnables = ["a", "b"]
+labels = ["x"]
+"#;
+
+/// A timed task of two runnables, each of which reads what the other writes.
+pub(super) const TIMED_ROUND: &str = r#"format = "chainlat"
+version = 1
+
+[[core]]
+name = "c0"
+
+[[stimulus]]
+name = "s10"
+kind = "periodic"
+period = 10
+offset = 4
+
+[[label]]
+name = "x"
+
+[[label]]
+name = "y"
+
+[[task]]
+name = "A"
+core = "c0"
+stimulus = "s10"
+priority = 1
+access = "timed"
+deadline = 6
+
+[[task.runnable]]
+name = "p"
+least = 1
+greatest = 2
+reads = ["y"]
+writes = ["x"]
+
+[[task.runnable]]
+name = "q"
+least = 1
+greatest = 2
+reads = ["x"]
+writes = ["y"]
+
+[[chain]]
+name = "pq"
+runnables = ["p", "q"]
+labels = ["x"]
+
+[[chain]]
+name = "qp"
+runnables = ["q", "p"]
+labels = ["y"]
+"#;

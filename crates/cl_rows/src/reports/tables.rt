@@ -1,9 +1,9 @@
-//! Files with their reports, and files whose analysis isn't built yet.
+//! Files with their reports.
 use super::changes::{
-    A_PRIORITY_1, A_TAKES_1, A_TAKES_3, A_TIMED, B_EXPLICIT_LATER, B_ON_C0, B_PRIORITY_2,
-    B_TAKES_1, B_TAKES_4_TO_21, B_TAKES_5, B_TAKES_6, B_TIMED, NO_CHAIN, NO_CORE_C1, REQUIRED,
-    S10_JITTER_2, S10_JITTER_3, S10_OFFSET_7_JITTER_2, S10_PERIOD_1, S10_PERIOD_4, S10_SPORADIC,
-    S20_OFFSET_12, S20_PERIOD_15, S20_PERIOD_24, S20_PERIOD_1000000,
+    A_PRIORITY_1, A_TAKES_3, A_TIMED, B_EXPLICIT_LATER, B_ON_C0, B_PRIORITY_2, B_TAKES_4_TO_21,
+    B_TAKES_5, B_TAKES_6, B_TIMED, NO_CHAIN, NO_CORE_C1, S10_JITTER_2, S10_JITTER_3,
+    S10_OFFSET_7_JITTER_2, S10_PERIOD_1, S10_PERIOD_4, S10_SPORADIC, S20_OFFSET_12, S20_PERIOD_24,
+    S20_PERIOD_1000000,
 };
 use super::models::{ROUND, SENSE_TO_ACT, SPORADIC, VALVE};
 use crate::base::{EMPTY, ONE, TWO};
@@ -213,17 +213,4 @@ pub(super) const REPORT_ROWS: [ReportRow; 20] = [
             "chain speed_to_valve reaction 25499 age 25499 reduced 13499",
         ],
     ),
-];
-
-/// A base, and what is changed in it.
-pub(super) type FileRow = (&'static str, &'static [Change]);
-
-/// A chain has exact lengths, or there is a requirement.
-pub(super) const UNBUILT_ROWS: [FileRow; 3] = [
-    (TWO, &[A_TIMED, B_TIMED]),
-    (
-        TWO,
-        &[A_TIMED, B_TIMED, S20_PERIOD_15, A_TAKES_1, B_TAKES_1],
-    ),
-    (TWO, &[REQUIRED]),
 ];

@@ -1,27 +1,25 @@
-ghost use Rattle.std.specs.Prelude.{◌≡◌, ◌+◌, ◌≤◌, length, IfOk};
+ghost use Rattle.std.specs.Prelude.{◌+◌, ◌*◌, ◌≤◌, length, IfOk};
 ghost use Rattle.cl_top.specs.Commands.Analyse.{IsAnalysed};
 
-use crate::form::is_built;
 use crate::{Outcome, status};
+use cl_analyse::analyse;
 use cl_model::ValidModel;
 use cl_report::report;
 use cl_time::{NoMemory, Steps};
 use std::alloc::Global;
 use std::sync::ledger::Ledger;
 
-/// The outcome of `analyse` of a valid model: its report. It counts at most a step for each task and each chain.
+/// The outcome of `analyse` of a valid model: its report. It counts at most one step for each task and two for each
+/// chain.
 pub(crate) fn analysed<L: Ledger>(
     alloc: Global,
     model: &ValidModel,
     steps: &mut Steps<L>,
 ) -> Result<Outcome, NoMemory>
     ensures outcome { IfOk result (IsAnalysed model.now) }
-    ensures steps { steps.new ≤ steps.old + (length model.now.tasks + length model.now.chains) }
+    ensures steps { steps.new ≤ steps.old + (length model.now.tasks + 2 * length model.now.chains) }
 {
-    if !is_built(model) {
-        return Outcome::form_not_built(alloc);
-    }
-    let findings = cl_analyse::analyse(alloc, model, steps)?;
+    let findings = analyse(alloc, model, steps)?;
     let text = report(alloc, model, &findings)?;
     Ok(Outcome {
         status: status::DONE,

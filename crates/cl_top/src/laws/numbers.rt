@@ -5,11 +5,11 @@ ghost use Rattle.cl_model.specs.declared.limits.TheConstants.{MOST_CORES, MOST_S
 ghost use Rattle.cl_model.specs.declared.limits.TheConstants.{MOST_RUNNABLES, MOST_RUNNABLES_OF_MODEL, MOST_ACCESSES};
 ghost use Rattle.cl_model.specs.declared.limits.TheConstants.{MOST_CHAINS, MOST_STEPS, MOST_HOPS, MOST_REQUIREMENTS};
 
-use crate::FILE_LIMIT;
 use crate::status::{
-    ARGUMENT_NOT_TEXT, DONE, FORM_NOT_BUILT, LONG_FILE, MODEL_REFUSED, NO_MEMORY, READ_FAULT,
+    ARGUMENT_NOT_TEXT, DONE, LONG_FILE, MODEL_REFUSED, NO_MEMORY, READ_FAULT, TRACE_REFUSED,
     WORDS_REFUSED, WRITE_FAULT,
 };
+use crate::{FILE_LIMIT, TRACE_LIMIT};
 
 /// The number of each status.
 pub fn statuses()
@@ -18,15 +18,16 @@ pub fn statuses()
     ensures read_fault { READ_FAULT ≡ 3 }
     ensures long_file { LONG_FILE ≡ 4 }
     ensures model_refused { MODEL_REFUSED ≡ 5 }
+    ensures trace_refused { TRACE_REFUSED ≡ 6 }
     ensures write_fault { WRITE_FAULT ≡ 9 }
     ensures no_memory { NO_MEMORY ≡ 10 }
-    ensures form_not_built { FORM_NOT_BUILT ≡ 11 }
     ensures argument_not_text { ARGUMENT_NOT_TEXT ≡ 12 }
 {}
 
-/// The most bytes of a model file.
+/// The most bytes of a model file and of a trace file.
 pub fn limits_of_files()
-    ensures { FILE_LIMIT ≡ 16777216 }
+    ensures model { FILE_LIMIT ≡ 16777216 }
+    ensures trace { TRACE_LIMIT ≡ 268435456 }
 {}
 
 /// The greatest numbers of the format.

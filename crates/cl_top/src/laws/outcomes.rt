@@ -1,9 +1,21 @@
 //! Outcomes: there is one, and but one.
-ghost use Rattle.std.specs.Prelude.{ℕ, List};
+ghost use Rattle.std.specs.Prelude.{◌≡◌, ◌↔◌, ℕ, List, Some, All};
+ghost use Rattle.cl_model.specs.declared.model.SystemModel.{SystemModel};
+ghost use Rattle.cl_model.specs.Validity.{IsValid};
+ghost use Rattle.cl_edit.specs.declared.edit.Edit.{Edit};
+ghost use Rattle.cl_edit.specs.Ranges.{IsEditInRange};
+ghost use Rattle.cl_runs.specs.Run.{Run};
+ghost use Rattle.cl_top.specs.declared.command.Command.TheVariants.{Analyse, Replay};
 ghost use Rattle.cl_top.specs.declared.outcome.Outcome.{Outcome};
 ghost use Rattle.cl_top.specs.Command.{File, command_of};
-ghost use Rattle.cl_top.specs.Files.{Fetched, EachFile, WasFetched};
+ghost use Rattle.cl_top.specs.Commands.Edit.{AreEditedTo};
+ghost use Rattle.cl_top.specs.Commands.Replay.{IsOfRun};
+ghost use Rattle.cl_top.specs.Files.{Fetched, EachFile, WasFetched, told_fetch};
+ghost use Rattle.cl_top.specs.Migrated.{IsMigratedFile};
+ghost use Rattle.cl_top.specs.declared.status.TheConstants.{DONE};
 ghost use Rattle.cl_top.specs.Outcome.{HasOutcome, SaysTheSame};
+ghost use Rattle.cl_top.specs.Reported.{IsReportLine, IsAnalysisOf, HasPart};
+ghost use Rattle.cl_top.specs.Simulated.{IsSimulatedFile};
 
 /// Words whose files were all fetched have an outcome.
 #[tactic(auto, using(crate::proofs::OneOutcome::some_outcome))]
@@ -17,4 +29,31 @@ pub fn words_have_an_outcome()
 pub fn outcomes_say_the_same()
     ensures { (words : List (List ℕ)) (gave : File → Fetched) (one other : Outcome) → HasOutcome (command_of words) gave one
         → HasOutcome (command_of words) gave other → SaysTheSame (command_of words) one other }
+{}
+
+/// A run has one answer: its replay, or the first rule that it breaks.
+pub fn runs_are_answered_in_one_way()
+    ensures { (model : SystemModel) (run : Run) (one other : Outcome) → IsOfRun model run one → IsOfRun model run other → one ≡ other }
+{}
+
+/// A file that holds what `migrate` made of another is analysed as that one.
+#[tactic(auto, using(crate::proofs::AnalysedAlike::analysed_alike))]
+pub fn migrated_files_are_analysed_alike()
+    ensures { (contents migrated : ℕ → List ℕ) (found : Outcome) → IsMigratedFile contents migrated
+        → HasOutcome (Some Analyse) (told_fetch contents) found ↔ HasOutcome (Some Analyse) (told_fetch migrated) found }
+{}
+
+/// Each report line of a list of edits in range, before the first edit that is refused, has written what `analyse` writes for
+/// a file of the model as it is edited so far.
+pub fn reports_of_edits_are_analyses()
+    ensures { (model changed : SystemModel) (edits : List Edit) (place number : ℕ) (found : Outcome) → IsValid model
+        → All IsEditInRange edits → AreEditedTo edits number model found → IsReportLine model edits place changed
+        → HasPart found.text (IsAnalysisOf changed) }
+{}
+
+/// A file that holds what `simulate` made of the model file can be replayed with it: it is within the limit of a trace
+/// file, it is the trace of a run, and the run is legal.
+pub fn simulations_can_be_replayed()
+    ensures { (contents : ℕ → List ℕ) (ticks seed : ℕ) (found : Outcome) → IsSimulatedFile contents ticks seed
+        → HasOutcome (Some Replay) (told_fetch contents) found → found.status ≡ DONE }
 {}

@@ -1,5 +1,5 @@
 use Rattle.std.proofs.Common.{◌≡◌, ◌+◌, ◌≤◌, take, map}
-use Rattle.cl_analyse.specs.Findings.{chain_answer_of}
+use Rattle.cl_analyse.specs.ChainAnswers.{chain_answer_of}
 use Rattle.cl_analyse.proofs.analysing.answer_chains.Given as goal
 
 abbrev pub invariant-loop-chain : goal.invariant-loop-chain

@@ -1,0 +1,84 @@
+-- Requirements: the values that are found for them, and the verdicts. Source: this project's profile.
+use Rattle.std.specs.Prelude.{ℕ, List, [], map, slice_index_or, Option, Some, None, unwrap_or, nat_le, if◌then◌else◌}
+use Rattle.cl_model.specs.declared.model.SystemModel.{SystemModel}
+use Rattle.cl_model.specs.declared.chain.LengthKind.{LengthKind}
+use Rattle.cl_model.specs.declared.chain.LengthKind.TheVariants.{Reaction, Age, Reduced}
+use Rattle.cl_model.specs.declared.chain.RequirementDef.{RequirementDef}
+use Rattle.cl_model.specs.ByNumber.{chain_named}
+use Rattle.cl_bound.specs.Bounds.{Lengths}
+use Rattle.cl_exact.specs.declared.witness.Witness.{Witness}
+use Rattle.cl_exact.specs.ExactLengths.{Witnesses}
+use Rattle.cl_analyse.specs.declared.findings.ChainAnswer.{ChainAnswer}
+use Rattle.cl_analyse.specs.declared.findings.ChainAnswer.TheVariants as bounded
+use Rattle.cl_analyse.specs.declared.findings.ExactAnswer.{ExactAnswer}
+use Rattle.cl_analyse.specs.declared.findings.ExactAnswer.TheVariants as exact
+use Rattle.cl_analyse.specs.declared.findings.Verdict.{Verdict}
+use Rattle.cl_analyse.specs.declared.findings.Verdict.TheVariants.{Met, Broken, Unshown}
+use Rattle.cl_analyse.specs.ChainAnswers.{chain_answer_at, exact_answer_at}
+
+-- ---- kinds of lengths
+
+-- the bound of a kind
+abbrev pub bound_of_kind : LengthKind → Lengths → ℕ
+bound_of_kind Reaction bounds = bounds.reaction
+bound_of_kind Age bounds = bounds.age
+bound_of_kind Reduced bounds = bounds.reduced
+
+-- the witness of a kind
+abbrev pub witness_of_kind : LengthKind → Witnesses → Witness
+witness_of_kind Reaction exact = exact.reaction
+witness_of_kind Age exact = exact.age
+witness_of_kind Reduced exact = exact.reduced
+
+-- ---- values
+
+-- the bound of a kind, where a chain has bounds
+abbrev pub bound_value : LengthKind → ChainAnswer → Option ℕ
+bound_value kind (bounded.Bounds bounds) = Some (bound_of_kind kind bounds)
+bound_value kind (bounded.Late task) = None
+
+-- the exact length of a kind, where a chain has exact lengths
+abbrev pub exact_value : LengthKind → ExactAnswer → Option ℕ
+exact_value kind (exact.Exact lengths) = Some (witness_of_kind kind lengths).length
+exact_value kind (exact.Past limit) = None
+exact_value kind exact.NotTimed = None
+exact_value kind exact.ChainLate = None
+
+-- ---- verdicts
+
+-- The value is the exact one where there is one, else the bound. It is met where it is at most what is required, broken
+-- where it exceeds that and is exact, and else nothing is shown.
+abbrev pub verdict_on : (most : ℕ) → (exact bound : Option ℕ) → Verdict
+verdict_on most (Some value) bound = if nat_le value most then Met value else Broken value
+verdict_on most None (Some value) = if nat_le value most then Met value else Unshown (Some value)
+verdict_on most None None = Unshown None
+
+-- the number of the chain that a requirement names
+abbrev pub required_chain : SystemModel → RequirementDef → ℕ
+required_chain model requirement = unwrap_or (chain_named model requirement.chain) 0
+
+-- the verdict on a requirement, by what was found of the chains
+unfoldable pub verdict_of :
+    SystemModel → (chains : List ChainAnswer) → (exacts : List ExactAnswer) → RequirementDef → Verdict
+verdict_of model chains exacts requirement =
+    let chain = required_chain model requirement in
+    verdict_on requirement.most
+    (exact_value requirement.kind (exact_answer_at exacts chain)) (bound_value requirement.kind (chain_answer_at chains chain))
+
+-- the verdicts on all requirements, in file order
+abbrev pub verdicts_of : SystemModel → (chains : List ChainAnswer) → (exacts : List ExactAnswer) → List Verdict
+verdicts_of model chains exacts = map (verdict_of model chains exacts) model.requirements
+
+-- ---- by number
+
+-- stands for a requirement past the last one
+unfoldable pub no_requirement : RequirementDef
+no_requirement = record { name = []; chain = []; kind = Reaction; most = 0 }
+
+-- the requirement of a number
+abbrev pub requirement_at : SystemModel → ℕ → RequirementDef
+requirement_at model i = slice_index_or model.requirements i no_requirement
+
+-- the verdict on the requirement of a number
+abbrev pub verdict_at : List Verdict → ℕ → Verdict
+verdict_at verdicts i = slice_index_or verdicts i (Unshown None)

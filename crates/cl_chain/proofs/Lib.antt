@@ -1,0 +1,10 @@
+pub mod MomentLists
+pub mod HopFacts
+pub mod GroupReads
+pub mod TailFacts
+pub mod HeadFacts
+pub mod ForwardFacts
+pub mod BackwardFacts
+pub mod RowFacts
+pub mod MeasuredFacts
+pub mod RunTables

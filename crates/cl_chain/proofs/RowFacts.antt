@@ -1,0 +1,190 @@
+-- Rows of starts and ends: how they are made, and what the longest of them is among chains.
+use Rattle.std.proofs.Common.{◌≡◌, ℕ, zero, suc, ◌+◌, ◌-◌, ◌<◌, ◌≤◌, inl, inr, Option, Some, None, List, [], ◌∷◌, ◌++◌, length, length-append, get_or, refl, sym, ap, ◌∙◌, subst, arith}
+use Rattle.std.specs.Prelude.{slice_index}
+use Rattle.std.proofs.lemmas.Bool.{cases_lt}
+use Rattle.std.proofs.lemmas.List.{get_or_append_left, get_or_push}
+use Rattle.cl_runs.specs.Chains.{JobChain, chain_length}
+use Rattle.cl_runs.specs.Measured.{IsMeasuredBy, IsCountOf}
+use Rattle.cl_chain.specs.declared.rows.Rows.{Rows}
+use Rattle.cl_chain.specs.JobChains.{IsChainOf}
+use Rattle.cl_chain.specs.Inner.GroupTables.{moment_at}
+use Rattle.cl_chain.specs.Inner.Rows.{AreRowsBelow, IsLongestRow, IsOfRows, AreRowsOf}
+use Rattle.cl_chain.proofs.MomentLists.{same_some, has_place}
+use Rattle.cl_chain.proofs.ForwardFacts.{job_before, job_pushed}
+
+-- ---- one row more
+
+module _ (n : ℕ) (starts ends : List (Option ℕ)) (jobs froms tos : List ℕ) (rows : AreRowsBelow n starts ends jobs froms tos) where
+  pub row_missing : ((from to : ℕ) → moment_at starts n ≡ Some from → moment_at ends n ≡ Some to → ⊥) → AreRowsBelow (n + 1) starts ends jobs froms tos
+  row_missing none = record {
+    as_many_starts = rows.as_many_starts;
+    as_many_ends = rows.as_many_ends;
+    below = λ i h. omega (arith, rows.below i h);
+    starts_then = rows.starts_then;
+    ends_then = rows.ends_then;
+    rise = rows.rise;
+    complete = λ job from to below start end. elim (cases_lt job n) [
+      | inl before ↦ rows.complete job from to before start end
+      | inr not ↦
+          let here : job ≡ n = omega arith in
+          absurd (none from to (ap (moment_at starts) (sym here) ∙ start) (ap (moment_at ends) (sym here) ∙ end))
+    ];
+  }
+
+  module _ (from to : ℕ) (start : moment_at starts n ≡ Some from) (end : moment_at ends n ≡ Some to) where
+    count : length (jobs ++ n ∷ []) ≡ suc (length jobs)
+    count = omega (arith, length-append jobs (n ∷ []))
+
+    each : (P : ℕ → ℕ → ℕ → Type 0) → ((i : ℕ) → i < length jobs → P (slice_index jobs i) (slice_index froms i) (slice_index tos i)) → P n from to
+        → (i : ℕ) → i < length (jobs ++ n ∷ []) → P (slice_index (jobs ++ n ∷ []) i) (slice_index (froms ++ from ∷ []) i) (slice_index (tos ++ to ∷ []) i)
+    each P old new i h = elim (cases_lt i (length jobs)) [
+      | inl before ↦
+          subst (λ x. P x (slice_index (froms ++ from ∷ []) i) (slice_index (tos ++ to ∷ []) i)) (sym (job_before jobs n i before))
+          (subst (λ x. P (slice_index jobs i) x (slice_index (tos ++ to ∷ []) i)) (sym (job_before froms from i (omega (arith, before, rows.as_many_starts))))
+          (subst (λ x. P (slice_index jobs i) (slice_index froms i) x) (sym (job_before tos to i (omega (arith, before, rows.as_many_ends)))) (old i before)))
+      | inr not ↦
+          let here : length jobs ≡ i = omega (arith, h, not, count) in
+          subst (λ x. P x (slice_index (froms ++ from ∷ []) i) (slice_index (tos ++ to ∷ []) i)) (sym (job_pushed jobs n i here))
+          (subst (λ x. P n x (slice_index (tos ++ to ∷ []) i)) (sym (job_pushed froms from i (rows.as_many_starts ∙ here)))
+          (subst (λ x. P n from x) (sym (job_pushed tos to i (rows.as_many_ends ∙ here))) new))
+    ]
+
+    pub row_pushed : AreRowsBelow (n + 1) starts ends (jobs ++ n ∷ []) (froms ++ from ∷ []) (tos ++ to ∷ [])
+    row_pushed = record {
+      as_many_starts = omega (arith, count, length-append froms (from ∷ []), rows.as_many_starts);
+      as_many_ends = omega (arith, count, length-append tos (to ∷ []), rows.as_many_ends);
+      below = each (λ job f t. job < n + 1) (λ i h. omega (arith, rows.below i h)) (omega arith);
+      starts_then = each (λ job f t. moment_at starts job ≡ Some f) rows.starts_then start;
+      ends_then = each (λ job f t. moment_at ends job ≡ Some t) rows.ends_then end;
+      rise = λ i j less h. elim (cases_lt j (length jobs)) [
+        | inl before ↦ omega (arith, less, rows.rise i j less before, job_before jobs n i (omega arith), job_before jobs n j before)
+        | inr not ↦ omega (
+          arith,
+          job_before jobs n i (omega (arith, less, h, not, count)),
+          job_pushed jobs n j (omega (arith, h, not, count)),
+          rows.below i (omega (arith, less, h, not, count)),
+        )
+      ];
+      complete = λ job f t below at_start at_end. elim (cases_lt job n) [
+        | inl before ↦
+            let (i, h, is) = rows.complete job f t before at_start at_end in (i, omega (arith, h, count), job_before jobs n i h ∙ is)
+        | inr not ↦ (length jobs, omega (arith, count), omega (arith, job_pushed jobs n (length jobs) refl, not, below))
+      ];
+    }
+
+-- ---- rows and chains
+
+module _ (IsChain : JobChain → Type 0) (job_of : JobChain → ℕ) (starts ends : List (Option ℕ)) (of : IsOfRows IsChain job_of starts ends)
+    (jobs froms tos : List ℕ) (rows : AreRowsBelow (length ends) starts ends jobs froms tos) where
+  -- the row of a chain
+  row_of : (chain : JobChain) → IsChain chain → (i : ℕ) × (i < length jobs) × (slice_index jobs i ≡ job_of chain)
+  row_of chain is = rows.complete (job_of chain) chain.from chain.to (has_place ends (job_of chain) chain.to (of.end chain is)) (of.start chain is) (of.end chain is)
+
+  -- the chain of a row
+  chain_in : (i : ℕ) → i < length jobs → (chain : JobChain) × IsChain chain × (job_of chain ≡ slice_index jobs i)
+  chain_in i h = of.chain (slice_index jobs i) _ _ (rows.starts_then i h) (rows.ends_then i h)
+
+  from_of : (chain : JobChain) → IsChain chain → (i : ℕ) → i < length jobs → slice_index jobs i ≡ job_of chain → chain.from ≡ slice_index froms i
+  from_of chain is i h same = same_some (moment_at starts (job_of chain)) _ _ (of.start chain is) (ap (moment_at starts) (sym same) ∙ rows.starts_then i h)
+
+  to_of : (chain : JobChain) → IsChain chain → (i : ℕ) → i < length jobs → slice_index jobs i ≡ job_of chain → chain.to ≡ slice_index tos i
+  to_of chain is i h same = same_some (moment_at ends (job_of chain)) _ _ (of.end chain is) (ap (moment_at ends) (sym same) ∙ rows.ends_then i h)
+
+  -- where each chain begins before it ends, so does each row
+  pub rows_in_order : ((chain : JobChain) → IsChain chain → chain.from ≤ chain.to) → (i : ℕ) → i < length tos → slice_index froms i ≤ slice_index tos i
+  rows_in_order ordered i h =
+      let within : i < length jobs = omega (arith, h, rows.as_many_ends) in
+      let (chain, is, same) = chain_in i within in
+      omega (arith, ordered chain is, from_of chain is i within (sym same), to_of chain is i within (sym same))
+
+  -- ---- the number of chains
+
+  record HasChains (n : ℕ) : Type 0 where
+    chains : List JobChain
+    counted : length chains ≡ n
+    are : (i : ℕ) (d : JobChain) → i < n → IsChain (get_or chains i d) × (job_of (get_or chains i d) ≡ slice_index jobs i)
+
+  has_chains : (n : ℕ) → n ≤ length jobs → HasChains n
+  has_chains zero h = record { chains = []; counted = refl; are = λ i d below. absurd (omega (arith, below)) }
+  has_chains (suc n) h =
+      let so_far = has_chains n (omega (arith, h)) in
+      let (chain, is, same) = chain_in n (omega (arith, h)) in
+      record {
+        chains = so_far.chains ++ chain ∷ [];
+        counted = omega (arith, length-append so_far.chains (chain ∷ []), so_far.counted);
+        are = λ i d below. elim (cases_lt i n) [
+          | inl before ↦ subst (λ (c : JobChain). IsChain c × (job_of c ≡ slice_index jobs i))
+              (sym (get_or_append_left so_far.chains (chain ∷ []) d i (omega (arith, before, so_far.counted)))) (so_far.are i d before)
+          | inr not ↦
+              let here : n ≡ i = omega (arith, below, not) in
+              subst (λ (c : JobChain). IsChain c × (job_of c ≡ slice_index jobs i))
+              (sym (get_or_push so_far.chains chain d i (so_far.counted ∙ here))) (is, same ∙ ap (slice_index jobs) here)
+        ];
+      }
+
+  pub rows_counted : IsCountOf IsChain (length jobs)
+  rows_counted =
+      let all = has_chains (length jobs) (omega arith) in
+      record {
+        chains = all.chains;
+        sound = λ i d h. (all.are i d (omega (arith, h, all.counted))).0;
+        complete = λ chain is.
+            let (i, h, same) = row_of chain is in
+            let there = all.are i chain h in
+            (i, omega (arith, h, all.counted), of.once _ chain there.0 is (there.1 ∙ same));
+        once = λ i j d less h equal.
+            let one = all.are i d (omega (arith, less, h, all.counted)) in
+            let other = all.are j d (omega (arith, h, all.counted)) in
+            omega (arith, rows.rise i j less (omega (arith, h, all.counted)), one.1, other.1, ap job_of equal);
+        counted = all.counted;
+      }
+
+  -- ---- the longest
+
+  pub nothing_measured : length jobs ≡ 0 → (chain : JobChain) → IsChain chain → ⊥
+  nothing_measured none chain is = omega (arith, none, (row_of chain is).1)
+
+  module _ (place : ℕ) (within : place < length jobs)
+      (longest : (i : ℕ) → i < length jobs → slice_index tos i - slice_index froms i ≤ slice_index tos place - slice_index froms place)
+      (first : (i : ℕ) → i < place → slice_index tos i - slice_index froms i < slice_index tos place - slice_index froms place) where
+    length_of : (chain : JobChain) → IsChain chain → (i : ℕ) → i < length jobs → slice_index jobs i ≡ job_of chain
+        → chain_length chain ≡ slice_index tos i - slice_index froms i
+    length_of chain is i h same = omega (arith, from_of chain is i h same, to_of chain is i h same)
+
+    jobs_ordered : (i : ℕ) → place ≤ i → i < length jobs → slice_index jobs place ≤ slice_index jobs i
+    jobs_ordered i after h = elim (cases_lt place i) [
+      | inl later ↦ omega (arith, rows.rise place i later h)
+      | inr not ↦ let same : place ≡ i = omega (arith, after, not) in omega (arith, ap (slice_index jobs) same)
+    ]
+
+    pub longest_measured : (found : Option JobChain) → IsChainOf IsChain job_of (slice_index jobs place) found → IsMeasuredBy IsChain job_of found
+    longest_measured None none = let (chain, is, same) = chain_in place within in absurd (none chain is same)
+    longest_measured (Some chain) is = record {
+      is_chain = is.0;
+      longest = λ other is_other.
+          let (i, h, same) = row_of other is_other in
+          omega (arith, longest i h, length_of other is_other i h same, length_of chain is.0 place within (sym is.1));
+      least = λ other is_other equal.
+          let (i, h, same) = row_of other is_other in
+          elim (cases_lt i place) [
+            | inl before ↦ absurd (omega (arith, equal, first i before, length_of other is_other i h same, length_of chain is.0 place within (sym is.1)))
+            | inr not ↦ omega (arith, jobs_ordered i not h, same, is.1)
+          ];
+    }
+
+-- ---- rows of chains
+
+module _ (IsChain : JobChain → Type 0) (job_of : JobChain → ℕ) (rows : Rows) (are : AreRowsOf IsChain job_of rows) where
+  pub chains_counted : IsCountOf IsChain (length rows.jobs)
+  chains_counted = rows_counted IsChain job_of are.starts are.ends are.chains rows.jobs rows.starts rows.ends are.are_rows
+
+  pub no_rows : length rows.jobs ≡ 0 → (chain : JobChain) → IsChain chain → ⊥
+  no_rows = nothing_measured IsChain job_of are.starts are.ends are.chains rows.jobs rows.starts rows.ends are.are_rows
+
+  pub longest_row : (place : ℕ) → IsLongestRow rows place → (job : ℕ) → job ≡ slice_index rows.jobs place
+      → (found : Option JobChain) → IsChainOf IsChain job_of job found → IsMeasuredBy IsChain job_of found
+  longest_row place is job same found chain = longest_measured IsChain job_of are.starts are.ends are.chains rows.jobs rows.starts rows.ends are.are_rows
+      place is.within is.longest is.first found (subst (λ j. IsChainOf IsChain job_of j found) same chain)
+
+  pub rows_ordered : ((chain : JobChain) → IsChain chain → chain.from ≤ chain.to) → (i : ℕ) → i < length rows.ends → slice_index rows.starts i ≤ slice_index rows.ends i
+  rows_ordered = rows_in_order IsChain job_of are.starts are.ends are.chains rows.jobs rows.starts rows.ends are.are_rows

@@ -1,0 +1,15 @@
+use Rattle.std.proofs.Common.{◌≡◌, ℕ, Option, List, map, sym, ap, ◌∙◌, subst}
+use Rattle.std.proofs.lemmas.List.{take_all}
+use Rattle.cl_runs.specs.SystemOf.{system_of}
+use Rattle.cl_runs.specs.Moments.{Finishes}
+use Rattle.cl_check.specs.declared.job_moments.Moment.{Moment}
+use Rattle.cl_chain.specs.Inner.GroupTables.{AreMomentsAt}
+use Rattle.cl_chain.proofs.GroupReads.{finishes_listed}
+use Rattle.cl_chain.proofs.group_moments.finishes_of.Goals as goal
+
+pub returns : goal.returns
+returns c =
+    let whole : c.loop-moment.finishes ≡ map (λ (m : Moment). m.finish) c.in_ok-found.found
+    = c.loop-moment.invariant ∙ ap (map (λ (m : Moment). m.finish)) (take_all _ _ c.loop-moment-test.false ∙ c.as_slice-moment-items.ensures) in
+    subst (λ (xs : List (Option ℕ)). AreMomentsAt (λ job t. Finishes (system_of c.args.model.now) c.args.run.now c.args.task job c.args.place t) xs) (sym whole)
+    (finishes_listed (system_of c.args.model.now) c.args.run.now c.args.task c.args.place c.in_ok-found.found c.in_ok-found.ensures)

@@ -1,0 +1,2 @@
+pub mod JobChains
+pub mod Inner

@@ -1,0 +1,63 @@
+//! The complete chains of a job. Moments are in ticks.
+ghost use Rattle.std.specs.Prelude.{◌<◌, length, IfOk};
+ghost use Rattle.cl_model.specs.Groups.{groups_at};
+ghost use Rattle.cl_runs.specs.SystemOf.{system_of};
+ghost use Rattle.cl_runs.specs.Legal.{IsLegal};
+ghost use Rattle.cl_runs.specs.Chains.{first_job, last_job, IsForwardChain, IsAgeChain};
+ghost use Rattle.cl_runs.specs.RunChains.{run_moments};
+ghost use Rattle.cl_chain.specs.JobChains.{option_of, IsChainOf};
+
+use crate::backward_jobs::age_over;
+use crate::forward_jobs::forward_over;
+use crate::group_moments::moments_of_groups;
+use crate::job_chain::JobChain;
+use cl_model::ValidModel;
+use cl_run_data::RunData;
+use cl_time::NoMemory;
+use std::alloc::Global;
+
+/// The complete forward chain whose first job is a given one: from the read of the job before it to the write of the
+/// last job. There is none exactly where the run has no such chain.
+///
+/// The run is legal for the model. It takes a time proportional to the jobs of the chain's groups and the stretches of
+/// their cores.
+pub fn forward(
+    alloc: Global,
+    model: &ValidModel,
+    run: &RunData,
+    chain: u32,
+    job: u64,
+) -> Result<Option<JobChain>, NoMemory>
+    requires is_chain { chain < length model.now.chains }
+    requires legal { IsLegal (system_of model.now) run.now }
+    ensures { IfOk result (λ found.
+        IsChainOf (IsForwardChain (run_moments (system_of model.now) run.now) (groups_at model.now chain)) first_job job (option_of found)) }
+{
+    let _some = model.group_count(chain);
+    let _valid = model.plain();
+    let groups = moments_of_groups(alloc, model, run, chain)?;
+    forward_over(alloc, groups.as_slice(), job)
+}
+
+/// The complete backward chain whose last job is a given one: from its first read to the write of the job after the
+/// last. There is none exactly where the run has no such chain.
+///
+/// The run is legal for the model. It takes a time proportional to the jobs of the chain's groups and the stretches of
+/// their cores.
+pub fn backward(
+    alloc: Global,
+    model: &ValidModel,
+    run: &RunData,
+    chain: u32,
+    job: u64,
+) -> Result<Option<JobChain>, NoMemory>
+    requires is_chain { chain < length model.now.chains }
+    requires legal { IsLegal (system_of model.now) run.now }
+    ensures { IfOk result (λ found.
+        IsChainOf (IsAgeChain (run_moments (system_of model.now) run.now) (groups_at model.now chain)) last_job job (option_of found)) }
+{
+    let _some = model.group_count(chain);
+    let _valid = model.plain();
+    let groups = moments_of_groups(alloc, model, run, chain)?;
+    age_over(alloc, groups.as_slice(), job)
+}

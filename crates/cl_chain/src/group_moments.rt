@@ -1,0 +1,206 @@
+//! When the jobs of the groups of a chain read and write, by the access kind of their task. Times are in ticks.
+ghost use Rattle.std.specs.Prelude.{◌≡◌, ◌<◌, length, map, Some, IfOk};
+ghost use Rattle.cl_model.specs.ByNumber.{task_at};
+ghost use Rattle.cl_model.specs.Groups.{groups_at};
+ghost use Rattle.cl_runs.specs.Run.{jobs_of};
+ghost use Rattle.cl_runs.specs.SystemOf.{system_of};
+ghost use Rattle.cl_runs.specs.Legal.{IsLegal};
+ghost use Rattle.cl_runs.specs.Moments.{Starts, Finishes, Reads, Writes};
+ghost use Rattle.cl_check.specs.JobMoments.{IsMomentOf};
+ghost use Rattle.cl_chain.specs.Inner.GroupTables.{AreMomentsAt, AreTables, IsTimedWrite, AreTimedWrites};
+
+use crate::hops::moment_at;
+use cl_check::moments;
+use cl_model::{AccessKind, List, ValidModel};
+use cl_run_data::RunData;
+use cl_runs::Job;
+use cl_time::NoMemory;
+use std::alloc::Global;
+
+/// When the jobs of a group read and write: for each job the moment, where there is one.
+#[derive(Drop)]
+pub(crate) struct GroupMoments {
+    pub(crate) reads: List<Option<u64>>,
+    pub(crate) writes: List<Option<u64>>,
+}
+
+/// When a runnable of each job starts.
+fn starts_of(
+    alloc: Global,
+    model: &ValidModel,
+    run: &RunData,
+    task: u32,
+    place: u32,
+) -> Result<List<Option<u64>>, NoMemory>
+    requires is_task { task < length model.now.tasks }
+    requires is_runnable { place < length (task_at model.now task).runnables }
+    requires legal { IsLegal (system_of model.now) run.now }
+    ensures { IfOk result (λ starts.
+        AreMomentsAt (λ job t. Starts (system_of model.now) run.now task job place t) starts) }
+{
+    let found = moments(alloc, model, run, task, place)?;
+    let mut starts = List::new(alloc);
+    for moment in found.as_slice() {
+        starts.push(moment.start)?;
+    }
+    Ok(starts)
+}
+
+/// When a runnable of each job finishes.
+fn finishes_of(
+    alloc: Global,
+    model: &ValidModel,
+    run: &RunData,
+    task: u32,
+    place: u32,
+) -> Result<List<Option<u64>>, NoMemory>
+    requires is_task { task < length model.now.tasks }
+    requires is_runnable { place < length (task_at model.now task).runnables }
+    requires legal { IsLegal (system_of model.now) run.now }
+    ensures { IfOk result (λ finishes.
+        AreMomentsAt (λ job t. Finishes (system_of model.now) run.now task job place t) finishes) }
+{
+    let found = moments(alloc, model, run, task, place)?;
+    let mut finishes = List::new(alloc);
+    for moment in found.as_slice() {
+        finishes.push(moment.finish)?;
+    }
+    Ok(finishes)
+}
+
+/// When each job arrives.
+fn arrivals_of(alloc: Global, jobs: &[Job]) -> Result<List<Option<u64>>, NoMemory>
+    ensures { IfOk result (λ arrivals. arrivals ≡ map (λ job. Some job.arrival) jobs.now) }
+{
+    let mut arrivals = List::new(alloc);
+    for job in jobs {
+        arrivals.push(Some(job.arrival))?;
+    }
+    Ok(arrivals)
+}
+
+/// The moment of a job's deadline, if it has finished by then and the run lasts until then.
+fn timed_write(job: &Job, deadline: u64, ticks: u64, finish: Option<u64>) -> Option<u64>
+    ensures { IsMomentOf (IsTimedWrite job.now deadline ticks finish) result }
+{
+    let write = job.arrival.checked_add(deadline)?;
+    let finish = finish?;
+    if finish <= write && write <= ticks {
+        Some(write)
+    } else {
+        None
+    }
+}
+
+/// When each job writes at its deadline.
+fn timed_writes(
+    alloc: Global,
+    jobs: &[Job],
+    deadline: u64,
+    ticks: u64,
+    finishes: &[Option<u64>],
+) -> Result<List<Option<u64>>, NoMemory>
+    ensures { IfOk result (λ writes. AreTimedWrites jobs.now deadline ticks finishes.now writes) }
+{
+    let mut writes = List::new(alloc);
+    for place in 0..jobs.len() {
+        let finish = moment_at(finishes, place);
+        writes.push(timed_write(&jobs[place], deadline, ticks, finish))?;
+    }
+    Ok(writes)
+}
+
+/// The jobs of a task.
+fn jobs_of(run: &RunData, task: u32) -> &[Job]
+    requires { task < length run.now.table.jobs }
+    ensures { result.now ≡ jobs_of run.now task }
+{
+    run.table().jobs.as_slice()[task as usize].as_slice()
+}
+
+/// The access kind and the number of runnables of a task.
+fn access_of(model: &ValidModel, task: u32) -> (AccessKind, u32)
+    requires { task < length model.now.tasks }
+    ensures kind { result.0 ≡ (task_at model.now task).access }
+    ensures runnables { result.1 ≡ length (task_at model.now task).runnables }
+{
+    let _valid = model.plain();
+    let task = &model.plain().tasks.as_slice()[task as usize];
+    (task.access, task.runnables.len() as u32)
+}
+
+/// When a runnable of each job reads.
+fn reads_of(
+    alloc: Global,
+    model: &ValidModel,
+    run: &RunData,
+    task: u32,
+    place: u32,
+) -> Result<List<Option<u64>>, NoMemory>
+    requires is_task { task < length model.now.tasks }
+    requires is_runnable { place < length (task_at model.now task).runnables }
+    requires legal { IsLegal (system_of model.now) run.now }
+    ensures { IfOk result (λ reads.
+        AreMomentsAt (λ job t. Reads (system_of model.now) run.now task job place t) reads) }
+{
+    match access_of(model, task).0 {
+        AccessKind::Explicit => starts_of(alloc, model, run, task, place),
+        AccessKind::Implicit => starts_of(alloc, model, run, task, 0),
+        AccessKind::Timed => arrivals_of(alloc, jobs_of(run, task)),
+    }
+}
+
+/// When a runnable of each job writes.
+fn writes_of(
+    alloc: Global,
+    model: &ValidModel,
+    run: &RunData,
+    task: u32,
+    place: u32,
+) -> Result<List<Option<u64>>, NoMemory>
+    requires is_task { task < length model.now.tasks }
+    requires is_runnable { place < length (task_at model.now task).runnables }
+    requires legal { IsLegal (system_of model.now) run.now }
+    ensures { IfOk result (λ writes.
+        AreMomentsAt (λ job t. Writes (system_of model.now) run.now task job place t) writes) }
+{
+    let (access, runnables) = access_of(model, task);
+    match access {
+        AccessKind::Explicit => finishes_of(alloc, model, run, task, place),
+        AccessKind::Implicit => finishes_of(alloc, model, run, task, runnables - 1),
+        AccessKind::Timed => {
+            let finishes = finishes_of(alloc, model, run, task, runnables - 1)?;
+            let deadline = model.deadline_of(task);
+            let ticks = run.table().ticks;
+            timed_writes(
+                alloc,
+                jobs_of(run, task),
+                deadline,
+                ticks,
+                finishes.as_slice(),
+            )
+        }
+    }
+}
+
+/// When the jobs of each group of a chain read and write.
+pub(crate) fn moments_of_groups(
+    alloc: Global,
+    model: &ValidModel,
+    run: &RunData,
+    chain: u32,
+) -> Result<List<GroupMoments>, NoMemory>
+    requires is_chain { chain < length model.now.chains }
+    requires legal { IsLegal (system_of model.now) run.now }
+    ensures { IfOk result (λ tables. AreTables (system_of model.now) run.now (groups_at model.now chain) tables) }
+{
+    let mut tables = List::new(alloc);
+    for place in 0..model.group_count(chain) {
+        let group = model.group(chain, place);
+        tables.push(GroupMoments {
+            reads: reads_of(alloc, model, run, group.task, group.first)?,
+            writes: writes_of(alloc, model, run, group.task, group.last)?,
+        })?;
+    }
+    Ok(tables)
+}

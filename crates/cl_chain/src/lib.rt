@@ -1,0 +1,17 @@
+//! Job chains of a run: the complete chains of a job, and the measured chains.
+#![tactic(auto)]
+
+mod backward_jobs;
+mod chains_of_jobs;
+mod forward_jobs;
+mod group_moments;
+mod heads;
+mod hops;
+mod job_chain;
+mod measuring;
+mod rows;
+mod tails;
+
+pub use chains_of_jobs::{backward, forward};
+pub use job_chain::{JobChain, Measured};
+pub use measuring::measure;

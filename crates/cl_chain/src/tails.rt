@@ -1,0 +1,86 @@
+//! Where the forward chains from each job end, from the last group to the first. Moments are in ticks.
+ghost use Rattle.std.specs.Prelude.{ℕ, ◌+◌, ◌<◌, length, IfOk};
+ghost use Rattle.cl_check.specs.JobMoments.{IsMomentOf};
+ghost use Rattle.cl_chain.specs.Inner.GroupTables.{AreMomentsAt, NeverFall, writes_in};
+ghost use Rattle.cl_chain.specs.Inner.Hops.{IsWrite, GoesOnTo, AreBeforeWrites};
+ghost use Rattle.cl_chain.specs.Inner.ChainsOver.{IsTail};
+
+use crate::group_moments::GroupMoments;
+use crate::hops::{earliest_reader, moment_at, write_of};
+use cl_model::List;
+use cl_time::NoMemory;
+use std::alloc::Global;
+
+/// The tails of the last group: its writes, but for that of job 0.
+fn last_tails(alloc: Global, writes: &[Option<u64>]) -> Result<List<Option<u64>>, NoMemory>
+    ensures { IfOk result (AreMomentsAt (IsWrite writes.now)) }
+{
+    let mut tails = List::new(alloc);
+    for job in 0..writes.len() {
+        tails.push(write_of(writes, job))?;
+    }
+    Ok(tails)
+}
+
+/// Where the tail of a job ends, by those of the next group. No job of that group below `next` reads at or after a
+/// write of this job or a later one, nor does one below the new `next` after a write of a later job.
+fn tail_of(
+    writes: &[Option<u64>],
+    reads: &[Option<u64>],
+    tails: &[Option<u64>],
+    job: usize,
+    next: &mut usize,
+) -> Option<u64>
+    requires order { NeverFall writes.now }
+    requires before { AreBeforeWrites reads.now writes.now next.old job }
+    ensures before { AreBeforeWrites reads.now writes.now next.new (job + 1) }
+    ensures tail { IsMomentOf (GoesOnTo writes.now reads.now tails.now job) result }
+{
+    let write = write_of(writes, job)?;
+    match earliest_reader(reads, *next, write) {
+        Some(reader) => {
+            *next = reader;
+            moment_at(tails, reader)
+        }
+        None => {
+            *next = reads.len();
+            None
+        }
+    }
+}
+
+/// The tails of a group, from those of the next one, in one walk over both.
+fn tails_before(
+    alloc: Global,
+    writes: &[Option<u64>],
+    reads: &[Option<u64>],
+    tails: &[Option<u64>],
+) -> Result<List<Option<u64>>, NoMemory>
+    requires { NeverFall writes.now }
+    ensures { IfOk result (AreMomentsAt (GoesOnTo writes.now reads.now tails.now)) }
+{
+    let mut found = List::new(alloc);
+    let mut next = 0;
+    for job in 0..writes.len() {
+        let tail = tail_of(writes, reads, tails, job, &mut next);
+        found.push(tail)?;
+    }
+    Ok(found)
+}
+
+/// For each job of the first group where the forward chain from it ends, if there is one.
+pub(crate) fn tails(alloc: Global, groups: &[GroupMoments]) -> Result<List<Option<u64>>, NoMemory>
+    requires some { 0 < length groups.now }
+    requires order { (i : ℕ) → i < length groups.now → NeverFall (writes_in groups.now i) }
+    ensures { IfOk result (AreMomentsAt (IsTail groups.now)) }
+{
+    let mut place = groups.len() - 1;
+    let mut found = last_tails(alloc, groups[place].writes.as_slice())?;
+    while place > 0 {
+        place -= 1;
+        let writes = groups[place].writes.as_slice();
+        let reads = groups[place + 1].reads.as_slice();
+        found = tails_before(alloc, writes, reads, found.as_slice())?;
+    }
+    Ok(found)
+}

@@ -1,0 +1,4 @@
+-- What only private clauses cite.
+pub mod Walks
+pub mod Finding
+pub mod Following

@@ -1,0 +1,3 @@
+pub mod JobMoments
+pub mod Inner
+pub mod Legality

@@ -1,0 +1,117 @@
+//! When the jobs of a task start and finish. Times are in ticks.
+ghost use Rattle.std.specs.Prelude.{◌≡◌, ◌+◌, ◌-◌, ◌^◌, ◌<◌, ◌≤◌, length, sum, min, slice_index, All, IfOk};
+ghost use Rattle.cl_model.specs.ByNumber.{task_at};
+ghost use Rattle.cl_runs.specs.declared.job.Job.{Job};
+ghost use Rattle.cl_runs.specs.Run.{jobs_of};
+ghost use Rattle.cl_runs.specs.SystemOf.{system_of};
+ghost use Rattle.cl_runs.specs.Legal.{IsLegal};
+ghost use Rattle.cl_run_data.specs.Stretches.{entries_from, AreLongest};
+ghost use Rattle.cl_check.specs.JobMoments.{IsMomentOf, AreMoments};
+ghost use Rattle.cl_check.specs.Inner.Walks.{RunsAfter, EndsAfter, StandsIn, AreMomentsIn};
+
+use crate::walk::Walk;
+use cl_model::{List, ValidModel};
+use cl_run_data::{RunData, Stretch};
+use cl_runs::Job;
+use cl_time::NoMemory;
+use std::alloc::Global;
+
+/// When a runnable of a job starts and finishes, in ticks.
+#[derive(Clone, Copy, Debug, PartialEq, Eq)]
+pub struct Moment {
+    /// When it starts: none where it doesn't start below the end of the run.
+    pub start: Option<u64>,
+    /// When it has finished: none where it hasn't at the end of the run.
+    pub finish: Option<u64>,
+}
+
+/// The sum of a time and further times, or the greatest number of 64 bits where the sum is greater.
+fn time_after(done: u64, times: &[u64]) -> u64
+    ensures { result ≡ min (done + sum times.now) (2 ^ 64 - 1) }
+{
+    let mut total = done;
+    for time in times {
+        total = total.saturating_add(*time);
+    }
+    total
+}
+
+/// The moment of a runnable that takes `own` ticks and has `before` ticks of work of its task before it.
+fn moment_of(walk: &mut Walk, stretches: &[Stretch], task: u32, before: u64, own: u64) -> Moment
+    requires longest { AreLongest 0 stretches.now }
+    requires fits { length (entries_from 0 stretches.now) < 2 ^ 64 }
+    requires stands { StandsIn stretches.now task walk.old }
+    requires ahead { walk.old.executed ≤ before }
+    requires some_time { 1 ≤ own }
+    ensures stands { StandsIn stretches.now task walk.new }
+    ensures ahead { walk.new.executed ≤ min (before + (own - 1)) (2 ^ 64 - 1) }
+    ensures start { IsMomentOf (RunsAfter (entries_from 0 stretches.now) task before) result.start }
+    ensures finish { IsMomentOf (EndsAfter (entries_from 0 stretches.now) task (min (before + (own - 1)) (2 ^ 64 - 1))) result.finish }
+{
+    let start = walk.seek(stretches, task, before);
+    let last = walk.seek(stretches, task, before.saturating_add(own - 1));
+    let finish = match last {
+        Some(tick) => Some(tick + 1),
+        None => None,
+    };
+    Moment { start, finish }
+}
+
+/// The moments of a task's runnable over the stretches of its core, in one walk.
+fn moments_in(
+    alloc: Global,
+    stretches: &[Stretch],
+    jobs: &[Job],
+    task: u32,
+    place: usize,
+) -> Result<List<Moment>, NoMemory>
+    requires longest { AreLongest 0 stretches.now }
+    requires fits { length (entries_from 0 stretches.now) < 2 ^ 64 }
+    requires places { All (λ job. place < length job.times) jobs.now }
+    requires times { All (λ job. 1 ≤ slice_index job.times place) jobs.now }
+    ensures { IfOk result (λ moments.
+        (length moments ≡ length jobs.now) × AreMomentsIn (entries_from 0 stretches.now) jobs.now task place moments) }
+{
+    let mut moments = List::new(alloc);
+    let mut walk = Walk::new();
+    let mut done = 0;
+    for job in jobs {
+        let times = job.times.as_slice();
+        let before = time_after(done, &times[..place]);
+        moments.push(moment_of(&mut walk, stretches, task, before, times[place]))?;
+        done = time_after(done, times);
+    }
+    Ok(moments)
+}
+
+/// The jobs of a task.
+fn jobs_of(run: &RunData, task: u32) -> &[Job]
+    requires { task < length run.now.table.jobs }
+    ensures { result.now ≡ jobs_of run.now task }
+{
+    run.table().jobs.as_slice()[task as usize].as_slice()
+}
+
+/// When a runnable of a task starts and finishes: an entry for each job, in the order of the jobs.
+///
+/// The run is legal for the model. An entry has no start exactly where the runnable doesn't start below the end of the
+/// run, and no finish exactly where it hasn't finished at the end. It takes a time proportional to the stretches of the
+/// core and the jobs of the task, whatever the number of ticks.
+pub fn moments(
+    alloc: Global,
+    model: &ValidModel,
+    run: &RunData,
+    task: u32,
+    place: u32,
+) -> Result<List<Moment>, NoMemory>
+    requires is_task { task < length model.now.tasks }
+    requires is_runnable { place < length (task_at model.now task).runnables }
+    requires legal { IsLegal (system_of model.now) run.now }
+    ensures { IfOk result (AreMoments (system_of model.now) run.now task place) }
+{
+    // read for its range: the core's entries are as many as the ticks
+    let _ticks = run.table().ticks;
+    let _valid = model.plain();
+    let stretches = run.stretches(model.core_of(task));
+    moments_in(alloc, stretches, jobs_of(run, task), task, place as usize)
+}

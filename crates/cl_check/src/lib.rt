@@ -1,0 +1,14 @@
+//! Whether a run is legal, and what it shows of its jobs: when they start and finish.
+#![tactic(auto)]
+
+mod checking;
+mod interval;
+mod job_moments;
+mod run_fault;
+mod schedule_check;
+mod table_check;
+mod walk;
+
+pub use checking::check_run;
+pub use job_moments::{Moment, moments};
+pub use run_fault::{Rule, RunFault};

@@ -1,0 +1,80 @@
+//! Whether the cores execute what is scheduled. Times are in ticks.
+ghost use Rattle.std.specs.Prelude.{◌≡◌, ◌<◌, length};
+ghost use Rattle.cl_runs.specs.Run.{IsInForm};
+ghost use Rattle.cl_runs.specs.SystemOf.{system_of};
+ghost use Rattle.cl_runs.specs.Table.{IsLawful};
+ghost use Rattle.cl_check.specs.Inner.Following.{IsFollowed, Lasts, Follows, ChecksCore};
+
+use crate::run_fault::{Rule, RunFault};
+use cl_model::ValidModel;
+use cl_run_data::{RunData, Stretch};
+use cl_sched::CoreProgress;
+use std::alloc::Global;
+
+/// Goes on to the end of a stretch, as long as the core executes what is scheduled, or to the first tick in which it
+/// doesn't.
+fn follow(
+    model: &ValidModel,
+    run: &RunData,
+    core: u32,
+    stretch: Stretch,
+    reached: &mut CoreProgress,
+) -> Result<(), RunFault>
+    requires core { core < length model.now.cores }
+    requires in_form { IsInForm (system_of model.now) run.now }
+    requires lawful { IsLawful (system_of model.now) run.now.table }
+    requires followed { IsFollowed (system_of model.now) run.now core reached.old }
+    requires lasts { Lasts run.now core reached.old.tick stretch }
+    ensures { Follows (system_of model.now) run.now core stretch.end result reached.new }
+{
+    // read for what it says: the model is valid
+    let _plain = model.plain();
+    'events: while reached.tick < stretch.end {
+        let next = reached.next(stretch.end);
+        if next.who != stretch.who {
+            return Err(RunFault::Illegal {
+                rule: Rule::Schedule,
+                place: core,
+                tick: reached.tick,
+            });
+        }
+        reached.advance(model, run.table(), next, next.until);
+    }
+    Ok(())
+}
+
+/// Goes on over all stretches of a core, as long as it executes what is scheduled, or to its first fault.
+fn follow_all(
+    model: &ValidModel,
+    run: &RunData,
+    core: u32,
+    reached: &mut CoreProgress,
+) -> Result<(), RunFault>
+    requires core { core < length model.now.cores }
+    requires in_form { IsInForm (system_of model.now) run.now }
+    requires lawful { IsLawful (system_of model.now) run.now.table }
+    requires followed { IsFollowed (system_of model.now) run.now core reached.old }
+    requires begin { reached.old.tick ≡ 0 }
+    ensures { ChecksCore (system_of model.now) run.now core result }
+{
+    for stretch in run.stretches(core) {
+        follow(model, run, core, *stretch, reached)?;
+    }
+    Ok(())
+}
+
+/// A core executes in each tick what is scheduled, or its first fault.
+pub fn check_core(
+    alloc: Global,
+    model: &ValidModel,
+    run: &RunData,
+    core: u32,
+) -> Result<(), RunFault>
+    requires core { core < length model.now.cores }
+    requires in_form { IsInForm (system_of model.now) run.now }
+    requires lawful { IsLawful (system_of model.now) run.now.table }
+    ensures { ChecksCore (system_of model.now) run.now core result }
+{
+    let mut reached = CoreProgress::begin(alloc, model, run.table(), core)?;
+    follow_all(model, run, core, &mut reached)
+}

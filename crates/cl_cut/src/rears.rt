@@ -1,0 +1,122 @@
+//! The best cuts of the rear parts of a chain, from its last group to its first. Times are in ticks.
+ghost use Rattle.std.specs.Prelude.{◌≡◌, ℕ, ◌+◌, ◌<◌, ◌≤◌, ◌∷◌, List, length, IfOk};
+ghost use Rattle.cl_model.specs.declared.group.Group.{Group};
+ghost use Rattle.cl_runs.specs.TaskTiming.{System};
+ghost use Rattle.cl_cut.specs.Cuts.{IsBestCut, IsBestCutFrom};
+ghost use Rattle.cl_cut.specs.Inner.Rears.{AreRears, AreValuesFrom, AreRowsBelow, ArePositive, AreSome, CostSome, pieces_behind, pieces_count};
+
+use cl_model::List;
+use cl_time::NoMemory;
+use std::alloc::Global;
+
+/// A cut of a rear part: its cost, and the first group of each piece.
+#[derive(Drop)]
+pub(crate) struct Rear {
+    pub(crate) cost: u64,
+    pub(crate) pieces: List<u32>,
+}
+
+/// The first piece of a cut of a rear part: how many groups it has beside its first, and the cost of the cut.
+#[derive(Clone, Copy)]
+struct Front {
+    size: usize,
+    cost: u64,
+}
+
+/// The first piece of a best cut, from the values of the pieces that begin where it does and the best cuts of the rear parts
+/// behind them. Of equals it is the one with no piece behind it, or else the shortest: its list of first groups is the least.
+fn best_front(values: &[u64], rears: &[Rear]) -> Front
+    requires as_many { length values.now ≡ length rears.now + 1 }
+    requires values { AreSome values.now }
+    requires costs { CostSome rears.now }
+    ensures within { result.size ≤ length rears.now }
+    ensures some { 1 ≤ result.cost }
+    ensures best { (system : System) (groups : List Group) (first : ℕ) → ArePositive system groups
+        → AreValuesFrom system groups first values.now → AreRears system groups rears.now
+        → IsBestCutFrom system groups first (pieces_behind rears.now first result.size) result.cost }
+{
+    let last = rears.len();
+    let mut best = Front {
+        size: last,
+        cost: values[last],
+    };
+    for size in 0..last {
+        // where the sum doesn't fit, it isn't less than what is best
+        let cost = values[size].saturating_add(rears[last - 1 - size].cost - 1);
+        if cost < best.cost {
+            best = Front { size, cost };
+        }
+    }
+    best
+}
+
+/// A number before others.
+fn joined(alloc: Global, first: u32, others: &[u32]) -> Result<List<u32>, NoMemory>
+    ensures { IfOk result (λ list. list ≡ first ∷ others.now) }
+{
+    let mut list = List::new(alloc);
+    list.push(first)?;
+    for other in others {
+        list.push(*other)?;
+    }
+    Ok(list)
+}
+
+/// The first groups of the pieces of a cut of a rear part, from the size of its first piece.
+fn pieces_behind(
+    alloc: Global,
+    first: u32,
+    rears: &[Rear],
+    size: usize,
+) -> Result<List<u32>, NoMemory>
+    ensures { IfOk result (λ pieces. pieces ≡ pieces_behind rears.now first size) }
+{
+    if size < rears.len() {
+        joined(
+            alloc,
+            first,
+            rears[rears.len() - 1 - size].pieces.as_slice(),
+        )
+    } else {
+        joined(alloc, first, &[])
+    }
+}
+
+/// The best cut of the rear part from a group on.
+fn best_from(alloc: Global, first: u32, values: &[u64], rears: &[Rear]) -> Result<Rear, NoMemory>
+    requires as_many { length values.now ≡ length rears.now + 1 }
+    requires values { AreSome values.now }
+    requires costs { CostSome rears.now }
+    ensures some { IfOk result (λ rear. 1 ≤ rear.cost) }
+    ensures best { IfOk result (λ rear. (system : System) (groups : List Group) → ArePositive system groups
+        → AreValuesFrom system groups first values.now → AreRears system groups rears.now
+        → IsBestCutFrom system groups first rear.pieces rear.cost) }
+{
+    let front = best_front(values, rears);
+    Ok(Rear {
+        cost: front.cost,
+        pieces: pieces_behind(alloc, first, rears, front.size)?,
+    })
+}
+
+/// The best cut of a chain, from the values of all its pieces: those of the pieces that begin with its last group first.
+pub(crate) fn best_of(alloc: Global, count: u32, values: &[u64]) -> Result<Rear, NoMemory>
+    requires some_group { 0 < count }
+    requires as_many { length values.now ≡ pieces_count count count }
+    requires values { AreSome values.now }
+    ensures { IfOk result (λ best. (system : System) (groups : List Group) → count ≡ length groups
+        → ArePositive system groups → AreRowsBelow system groups count values.now
+        → IsBestCut system groups best.pieces best.cost) }
+{
+    let mut rears = Vec::new(alloc);
+    let mut left = values;
+    for first in (0..count).rev() {
+        let (row, rest) = left.split_at((count - first) as usize);
+        rears.push(best_from(alloc, first, row, rears.as_slice())?)?;
+        left = rest;
+    }
+    let Some(best) = rears.pop() else {
+        unreachable!();
+    };
+    Ok(best)
+}

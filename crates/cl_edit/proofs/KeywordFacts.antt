@@ -1,0 +1,61 @@
+-- Keywords of lines, and what the words of a line are read as.
+use Rattle.std.proofs.Common.{◌≡◌, ◌≢◌, ℕ, true, false, Some, None, List, [], ◌∷◌, refl, ap, ◌∙◌}
+use Rattle.std.specs.Prelude.{Err, codes}
+use Rattle.std.specs.Str.{bytes_eq}
+use Rattle.std.proofs.lemmas.Slice.Eq.{bytes_eq-Decides}
+use Rattle.cl_edit.specs.declared.edit.Edit.{Edit}
+use Rattle.cl_edit.specs.declared.fault.Unread.{Unread}
+use Rattle.cl_edit.specs.declared.fault.Unread.TheVariants.{Bad, NoMemory}
+use Rattle.cl_edit.specs.Inner.Parts.{parts, then_read, if_done, Reads, ReadsUpTo}
+use Rattle.cl_edit.specs.Inner.LineReads.{fields_in, words_in, edit_in}
+
+pub of_keyword : (word keyword : List ℕ) → bytes_eq word keyword ≡ true → word ≡ keyword
+of_keyword word keyword same = (bytes_eq-Decides word keyword).0 same
+
+-- a word that is no keyword
+pub other_keyword : (word : List ℕ) (words : List (List ℕ))
+    → bytes_eq word (codes "range") ≡ false
+    → bytes_eq word (codes "whole") ≡ false
+    → bytes_eq word (codes "period") ≡ false
+    → bytes_eq word (codes "offset") ≡ false
+    → bytes_eq word (codes "jitter") ≡ false
+    → bytes_eq word (codes "distances") ≡ false
+    → bytes_eq word (codes "burst") ≡ false
+    → bytes_eq word (codes "deadline") ≡ false
+    → bytes_eq word (codes "swap") ≡ false
+    → bytes_eq word (codes "move") ≡ false
+    → bytes_eq word (codes "access") ≡ false
+    → bytes_eq word (codes "task") ≡ false
+    → bytes_eq word (codes "drop-task") ≡ false
+    → bytes_eq word (codes "chain") ≡ false
+    → bytes_eq word (codes "drop-chain") ≡ false
+    → bytes_eq word (codes "report") ≡ false
+    → fields_in word words ≡ None
+unfolding fields_in
+other_keyword word words n1 n2 n3 n4 n5 n6 n7 n8 n9 n10 n11 n12 n13 n14 n15 n16 = rw (n1, n2, n3, n4, n5, n6, n7, n8, n9, n10, n11, n12, n13, n14, n15, n16) refl
+
+-- the edit of a line of that keyword and those words
+pub line_read : (line keyword : List ℕ) (words : List (List ℕ)) → parts 0x20 line ≡ keyword ∷ words → edit_in line ≡ then_read (fields_in keyword words) if_done
+unfolding edit_in words_in
+line_read line keyword words are = ap words_in are
+
+pub no_word_read : (line : List ℕ) → parts 0x20 line ≡ [] → edit_in line ≡ None
+unfolding edit_in words_in
+no_word_read line none = ap words_in none
+
+-- where words are left there is none
+pub words_left : (line keyword : List ℕ) (words left : List (List ℕ)) (edit : Edit) → parts 0x20 line ≡ keyword ∷ words → fields_in keyword words ≡ Some (edit, left) → left ≢ [] → edit_in line ≡ None
+words_left line keyword words left edit are read some =
+    line_read line keyword words are ∙ ap (λ o. then_read o if_done) read ∙ none_if left some
+  where
+    none_if : (left : List (List ℕ)) → left ≢ [] → if_done edit left ≡ None
+    none_if [] some = absurd (some refl)
+    none_if (word ∷ left) some = refl
+
+pub no_word_left : (line keyword : List ℕ) (words left : List (List ℕ)) (edit : Edit) → parts 0x20 line ≡ keyword ∷ words → fields_in keyword words ≡ Some (edit, left) → left ≡ [] → edit_in line ≡ Some edit
+no_word_left line keyword words left edit are read none = line_read line keyword words are ∙ ap (λ o. then_read o if_done) read ∙ ap (if_done edit) none
+
+pub unread_line : (line keyword : List ℕ) (words left : List (List ℕ)) (fault : Unread) → parts 0x20 line ≡ keyword ∷ words
+    → ReadsUpTo {X = Edit} (Err fault) left (fields_in keyword words) → Reads {X = Edit} (Err fault) (edit_in line)
+unread_line line keyword words left Bad are bad = line_read line keyword words are ∙ ap (λ o. then_read o if_done) bad
+unread_line line keyword words left NoMemory are bad = tt

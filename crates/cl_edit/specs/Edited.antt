@@ -1,0 +1,121 @@
+-- What an edit makes of a model: the changed model, or the first refusal. Source: this project's profile.
+use Rattle.std.specs.Prelude.{ℕ, Bool, true, false, nat_lt, List, [], ◌∷◌, ◌++◌, length, Option, Some, None, Result, Ok, Err, unwrap_or}
+use Rattle.cl_model.specs.declared.limits.TheConstants.{MOST_TASKS, MOST_CHAINS}
+use Rattle.cl_model.specs.declared.place.Part.TheVariants as part
+use Rattle.cl_model.specs.declared.refusal.Code.TheVariants.{M10, E2, E3}
+use Rattle.cl_model.specs.declared.refusal.Refusal.{Refusal}
+use Rattle.cl_model.specs.declared.model.SystemModel.{SystemModel}
+use Rattle.cl_model.specs.declared.stimulus.StimulusKind.{StimulusKind}
+use Rattle.cl_model.specs.declared.stimulus.StimulusKind.TheVariants as pattern
+use Rattle.cl_model.specs.Named.{has_name, index_of, stimulus_names, task_names, chain_names, runnable_names, all_runnables, kind_named}
+use Rattle.cl_model.specs.ByNumber.{task_named, chain_named}
+use Rattle.cl_model.specs.Groups.{step_named}
+use Rattle.cl_model.specs.Place.{top, section_place}
+use Rattle.cl_model.specs.Refusals.{refuse, unless, answer}
+use Rattle.cl_model.specs.Validity.{refusals_of}
+use Rattle.cl_edit.specs.declared.edit.Edit.{Edit}
+use Rattle.cl_edit.specs.declared.edit.Edit.TheVariants.{Range, Whole, Period, Offset, Jitter, Distances, Burst, Deadline, Swap, Move, Kind, AddTask, DropTask, AddChain, DropChain, Report}
+use Rattle.cl_edit.specs.Changes.{with_range, with_whole, with_kind, with_period, with_offset, with_jitter, with_distances, with_burst, with_deadline, with_swap, with_place, with_access, with_new_task, without_task, with_new_chain, without_chain}
+
+-- ---- what an edit looks up
+
+-- E2: a name that is looked up is there
+abbrev pub found : (name : List ℕ) → (names : List (List ℕ)) → List Refusal
+found name names = unless (has_name name names) E2 top
+
+-- the names of the runnables of all tasks
+abbrev pub all_names : SystemModel → List (List ℕ)
+all_names model = runnable_names (all_runnables model.tasks)
+
+-- E2, and E3: the stimulus is of a kind that the edit sets
+abbrev pub kind_found : Option StimulusKind → (sets : StimulusKind → Bool) → List Refusal
+kind_found None sets = refuse E2 top
+kind_found (Some kind) sets = unless (sets kind) E3 top
+
+-- periodic, sporadic, a burst
+abbrev pub is_periodic : StimulusKind → Bool
+is_periodic (pattern.Periodic period offset jitter) = true
+is_periodic _ = false
+
+abbrev pub is_sporadic : StimulusKind → Bool
+is_sporadic (pattern.Sporadic least greatest) = true
+is_sporadic _ = false
+
+abbrev pub is_burst : StimulusKind → Bool
+is_burst (pattern.Burst period offset count distance) = true
+is_burst _ = false
+
+-- a kind that has an offset
+abbrev pub has_offset : StimulusKind → Bool
+has_offset (pattern.Sporadic least greatest) = false
+has_offset _ = true
+
+-- ---- the first checks: E2, E3 and M10
+
+unfoldable pub edit_checks : SystemModel → Edit → List Refusal
+edit_checks model (Range runnable least greatest) = found runnable (all_names model)
+edit_checks model (Whole runnable whole) = found runnable (all_names model)
+edit_checks model (Period stimulus period) = kind_found (kind_named model stimulus) is_periodic
+edit_checks model (Offset stimulus offset) = kind_found (kind_named model stimulus) has_offset
+edit_checks model (Jitter stimulus jitter) = kind_found (kind_named model stimulus) is_periodic
+edit_checks model (Distances stimulus least greatest) = kind_found (kind_named model stimulus) is_sporadic
+edit_checks model (Burst stimulus period count distance) = kind_found (kind_named model stimulus) is_burst
+edit_checks model (Deadline task deadline) = found task (task_names model)
+edit_checks model (Swap one other) = found one (task_names model) ++ found other (task_names model)
+edit_checks model (Move task core priority) = found task (task_names model)
+edit_checks model (Kind task access) = found task (task_names model)
+edit_checks model (AddTask task) = unless (nat_lt (length model.tasks) MOST_TASKS) M10 (section_place part.Task)
+edit_checks model (DropTask task) = found task (task_names model)
+edit_checks model (AddChain chain) = unless (nat_lt (length model.chains) MOST_CHAINS) M10 (section_place part.Chain)
+edit_checks model (DropChain chain) = found chain (chain_names model)
+edit_checks model Report = []
+
+-- ---- the change
+
+-- the number of the task, the chain, the stimulus of that name: 0 where there is none
+abbrev pub task_number : SystemModel → List ℕ → ℕ
+task_number model name = unwrap_or (task_named model name) 0
+
+abbrev pub chain_number : SystemModel → List ℕ → ℕ
+chain_number model name = unwrap_or (chain_named model name) 0
+
+abbrev pub stimulus_number : SystemModel → List ℕ → ℕ
+stimulus_number model name = unwrap_or (index_of name (stimulus_names model)) 0
+
+-- the model with the change of an edit that passes the first checks
+unfoldable pub with_edit : SystemModel → Edit → SystemModel
+with_edit model (Range runnable least greatest) = with_range model (step_named model runnable) least greatest
+with_edit model (Whole runnable whole) = with_whole model (step_named model runnable) whole
+with_edit model (Period stimulus period) = with_kind model (stimulus_number model stimulus) (with_period period)
+with_edit model (Offset stimulus offset) = with_kind model (stimulus_number model stimulus) (with_offset offset)
+with_edit model (Jitter stimulus jitter) = with_kind model (stimulus_number model stimulus) (with_jitter jitter)
+with_edit model (Distances stimulus least greatest) = with_kind model (stimulus_number model stimulus) (with_distances least greatest)
+with_edit model (Burst stimulus period count distance) = with_kind model (stimulus_number model stimulus) (with_burst period count distance)
+with_edit model (Deadline task deadline) = with_deadline model (task_number model task) deadline
+with_edit model (Swap one other) = with_swap model (task_number model one) (task_number model other)
+with_edit model (Move task core priority) = with_place model (task_number model task) core priority
+with_edit model (Kind task access) = with_access model (task_number model task) access
+with_edit model (AddTask task) = with_new_task model task
+with_edit model (DropTask task) = without_task model (task_number model task)
+with_edit model (AddChain chain) = with_new_chain model chain
+with_edit model (DropChain chain) = without_chain model (chain_number model chain)
+with_edit model Report = model
+
+-- ---- the edited model
+
+-- the first refusal of the checks of the edit and then of the changed model, or that model where nothing is refused
+unfoldable pub edited : SystemModel → Edit → Result SystemModel Refusal
+edited model edit = answer (edit_checks model edit ++ refusals_of (with_edit model edit)) (with_edit model edit)
+
+-- the same of what is a model already, or refused
+abbrev pub then_edited : Result SystemModel Refusal → Edit → Result SystemModel Refusal
+then_edited (Ok model) edit = edited model edit
+then_edited (Err refusal) edit = Err refusal
+
+-- a list of edits in order, while none is refused
+abbrev pub after_from : Result SystemModel Refusal → List Edit → Result SystemModel Refusal
+after_from answer [] = answer
+after_from answer (edit ∷ edits) = after_from (then_edited answer edit) edits
+
+unfoldable pub after : SystemModel → List Edit → Result SystemModel Refusal
+after model edits = after_from (Ok model) edits

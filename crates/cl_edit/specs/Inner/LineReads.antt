@@ -1,0 +1,151 @@
+-- What the words of a line are read as.
+use Rattle.std.specs.Prelude.{◌≡◌, ℕ, zero, suc, ◌<◌, true, false, if◌then◌else◌, Option, Some, None, List, [], ◌∷◌, codes}
+use Rattle.std.specs.Option.{option_map, option_and_then}
+use Rattle.std.specs.Str.{bytes_eq}
+use Rattle.cl_model.specs.declared.limits.TheConstants.{MOST_TICKS, MOST_PRIORITY, MOST_RUNNABLES, MOST_ACCESSES, MOST_STEPS, MOST_HOPS, LEAST_JOBS_OF_BURST, MOST_JOBS_OF_BURST}
+use Rattle.cl_model.specs.declared.task.RunnableDef.{RunnableDef}
+use Rattle.cl_model.specs.declared.task.TaskDef.{TaskDef}
+use Rattle.cl_edit.specs.declared.edit.Edit.{Edit}
+use Rattle.cl_edit.specs.declared.edit.Edit.TheVariants.{Range, Whole, Period, Offset, Jitter, Distances, Burst, Deadline, Swap, Move, Kind, AddTask, DropTask, AddChain, DropChain, Report}
+use Rattle.cl_edit.specs.declared.limits.TheConstants.{MOST_EDITS, MOST_REPORTS}
+use Rattle.cl_edit.specs.Reading.{IsLineEdit, is_report}
+use Rattle.cl_edit.specs.Inner.Parts.{parts, first_read, then_read, with_left, if_done}
+use Rattle.cl_edit.specs.Inner.Fields.{name_in, number_in, time_in, flag_in, access_in, deadline_in, names_in}
+
+-- what is read of words, and the words that are left
+abbrev pub Read : Type 0 → Type 0
+Read X = Option (X × List (List ℕ))
+
+-- ---- lines of fixed length
+
+abbrev pub range_in : List (List ℕ) → Read Edit
+range_in words = then_read (first_read name_in words) (λ runnable words. then_read (first_read time_in words) (λ least words.
+    then_read (first_read time_in words) (λ greatest words. Some (Range runnable least greatest, words))))
+
+abbrev pub whole_in : List (List ℕ) → Read Edit
+whole_in words = then_read (first_read name_in words) (λ runnable words. then_read (first_read flag_in words) (λ whole words.
+    Some (Whole runnable whole, words)))
+
+abbrev pub period_in : List (List ℕ) → Read Edit
+period_in words = then_read (first_read name_in words) (λ stimulus words. then_read (first_read time_in words) (λ period words.
+    Some (Period stimulus period, words)))
+
+abbrev pub offset_in : List (List ℕ) → Read Edit
+offset_in words = then_read (first_read name_in words) (λ stimulus words. then_read (first_read (number_in 0 MOST_TICKS) words) (λ offset words.
+    Some (Offset stimulus offset, words)))
+
+abbrev pub jitter_in : List (List ℕ) → Read Edit
+jitter_in words = then_read (first_read name_in words) (λ stimulus words. then_read (first_read (number_in 0 MOST_TICKS) words) (λ jitter words.
+    Some (Jitter stimulus jitter, words)))
+
+abbrev pub distances_in : List (List ℕ) → Read Edit
+distances_in words = then_read (first_read name_in words) (λ stimulus words. then_read (first_read time_in words) (λ least words.
+    then_read (first_read time_in words) (λ greatest words. Some (Distances stimulus least greatest, words))))
+
+abbrev pub burst_in : List (List ℕ) → Read Edit
+burst_in words = then_read (first_read name_in words) (λ stimulus words. then_read (first_read time_in words) (λ period words.
+    then_read (first_read (number_in LEAST_JOBS_OF_BURST MOST_JOBS_OF_BURST) words) (λ count words.
+    then_read (first_read time_in words) (λ distance words. Some (Burst stimulus period count distance, words)))))
+
+abbrev pub deadline_line_in : List (List ℕ) → Read Edit
+deadline_line_in words = then_read (first_read name_in words) (λ task words. then_read (first_read deadline_in words) (λ deadline words.
+    Some (Deadline task deadline, words)))
+
+abbrev pub swap_in : List (List ℕ) → Read Edit
+swap_in words = then_read (first_read name_in words) (λ one words. then_read (first_read name_in words) (λ other words.
+    Some (Swap one other, words)))
+
+abbrev pub move_in : List (List ℕ) → Read Edit
+move_in words = then_read (first_read name_in words) (λ task words. then_read (first_read name_in words) (λ core words.
+    then_read (first_read (number_in 0 MOST_PRIORITY) words) (λ priority words. Some (Move task core priority, words))))
+
+abbrev pub access_line_in : List (List ℕ) → Read Edit
+access_line_in words = then_read (first_read name_in words) (λ task words. then_read (first_read access_in words) (λ access words.
+    Some (Kind task access, words)))
+
+abbrev pub drop_task_in : List (List ℕ) → Read Edit
+drop_task_in words = then_read (first_read name_in words) (λ task words. Some (DropTask task, words))
+
+abbrev pub drop_chain_in : List (List ℕ) → Read Edit
+drop_chain_in words = then_read (first_read name_in words) (λ chain words. Some (DropChain chain, words))
+
+abbrev pub chain_in : List (List ℕ) → Read Edit
+chain_in words = then_read (first_read name_in words) (λ name words. then_read (first_read (names_in MOST_STEPS) words) (λ runnables words.
+    then_read (first_read (names_in MOST_HOPS) words) (λ labels words.
+    Some (AddChain (record { name = name; runnables = runnables; labels = labels }), words))))
+
+-- ---- the line of a new task
+
+-- a runnable of it
+abbrev pub runnable_in : List (List ℕ) → Read RunnableDef
+runnable_in words = then_read (first_read name_in words) (λ name words. then_read (first_read time_in words) (λ least words.
+    then_read (first_read time_in words) (λ greatest words. then_read (first_read (names_in MOST_ACCESSES) words) (λ reads words.
+    then_read (first_read (names_in MOST_ACCESSES) words) (λ writes words.
+    Some (record { name = name; least = least; greatest = greatest; whole = false; reads = reads; writes = writes }, words))))))
+
+-- at most so many runnables, of all words
+unfoldable pub runnables_in : (most : ℕ) → List (List ℕ) → Option (List RunnableDef)
+runnables_in most [] = Some []
+runnables_in zero (word ∷ words) = None
+runnables_in (suc most) (word ∷ words) = then_read (runnable_in (word ∷ words)) (λ r left. option_map (λ rs. r ∷ rs) (runnables_in most left))
+
+-- the edit with a new task, where it has a runnable
+abbrev pub with_runnables : TaskDef → List RunnableDef → Option Edit
+with_runnables task [] = None
+with_runnables task (r ∷ rs) = Some (AddTask (record task { runnables = r ∷ rs }))
+
+-- what stands in front of its runnables
+abbrev pub task_head_in : List (List ℕ) → Read TaskDef
+task_head_in words = then_read (first_read name_in words) (λ name words. then_read (first_read name_in words) (λ core words.
+    then_read (first_read name_in words) (λ stimulus words. then_read (first_read (number_in 0 MOST_PRIORITY) words) (λ priority words.
+    then_read (first_read access_in words) (λ access words. then_read (first_read deadline_in words) (λ deadline words.
+    Some (record { name = name; core = core; stimulus = stimulus; priority = priority; access = access; deadline = deadline; runnables = [] }, words)))))))
+
+-- and its runnables, of all words
+abbrev pub task_in : List (List ℕ) → Read Edit
+task_in words = then_read (task_head_in words) (λ task words.
+    with_left [] (option_and_then (with_runnables task) (runnables_in MOST_RUNNABLES words)))
+
+-- ---- a line
+
+-- the edit of a keyword and of the words behind it
+unfoldable pub fields_in : (keyword : List ℕ) → List (List ℕ) → Read Edit
+fields_in keyword words =
+    if bytes_eq keyword (codes "range") then range_in words
+    else if bytes_eq keyword (codes "whole") then whole_in words
+    else if bytes_eq keyword (codes "period") then period_in words
+    else if bytes_eq keyword (codes "offset") then offset_in words
+    else if bytes_eq keyword (codes "jitter") then jitter_in words
+    else if bytes_eq keyword (codes "distances") then distances_in words
+    else if bytes_eq keyword (codes "burst") then burst_in words
+    else if bytes_eq keyword (codes "deadline") then deadline_line_in words
+    else if bytes_eq keyword (codes "swap") then swap_in words
+    else if bytes_eq keyword (codes "move") then move_in words
+    else if bytes_eq keyword (codes "access") then access_line_in words
+    else if bytes_eq keyword (codes "task") then task_in words
+    else if bytes_eq keyword (codes "drop-task") then drop_task_in words
+    else if bytes_eq keyword (codes "chain") then chain_in words
+    else if bytes_eq keyword (codes "drop-chain") then drop_chain_in words
+    else if bytes_eq keyword (codes "report") then Some (Report, words)
+    else None
+
+-- the edit of all words of a line
+unfoldable pub words_in : List (List ℕ) → Option Edit
+words_in [] = None
+words_in (keyword ∷ words) = then_read (fields_in keyword words) if_done
+
+-- the edit of a line without its end
+unfoldable pub edit_in : List ℕ → Option Edit
+edit_in text = words_in (parts 0x20 text)
+
+-- ---- a list of lines
+
+-- so many edits, with so many reports among them, leave room for one more
+pub record HasRoom (edits reports : ℕ) (edit : Edit) : Type 0 where
+  pub few : edits < MOST_EDITS
+  pub few_reports : is_report edit ≡ true → reports < MOST_REPORTS
+
+-- an edit may be listed below so many
+pub record MayFollow (edits reports : ℕ) (edit : Edit) : Type 0 where
+  pub line : IsLineEdit edit
+  pub room : HasRoom edits reports edit

@@ -1,0 +1,140 @@
+//! Single words of an edit: names, numbers, words of a list, and lists of names.
+ghost use Rattle.std.specs.Prelude.{◌≡◌, [], ◌∷◌, IfOk, IfErr};
+ghost use Rattle.cl_edit.specs.declared.fault.Unread.TheVariants.{Bad};
+ghost use Rattle.cl_edit.specs.Inner.Parts.{first_read, Reads, ReadsUpTo};
+ghost use Rattle.cl_edit.specs.Inner.Fields.{name_in, number_in, time_in, flag_in, access_in, deadline_in, names_in};
+
+use crate::fault::Unread;
+use crate::words::Parts;
+use cl_model::{AccessKind, List, MOST_TICKS, Name};
+use cl_text::read_decimal;
+use std::alloc::Global;
+
+fn name_of(word: &[u8]) -> Result<Name, Unread>
+    ensures { Reads result (name_in word.now) }
+{
+    Name::read(word).ok_or(Unread::Bad)
+}
+
+fn number_of(word: &[u8], least: u64, most: u64) -> Result<u64, Unread>
+    ensures { Reads result (number_in least most word.now) }
+{
+    let Some(number) = read_decimal(word, most) else {
+        return Err(Unread::Bad);
+    };
+    if least <= number {
+        Ok(number)
+    } else {
+        Err(Unread::Bad)
+    }
+}
+
+fn time_of(word: &[u8]) -> Result<u64, Unread>
+    ensures { Reads result (time_in word.now) }
+{
+    number_of(word, 1, MOST_TICKS)
+}
+
+fn flag_of(word: &[u8]) -> Result<bool, Unread>
+    ensures { Reads result (flag_in word.now) }
+{
+    match word {
+        b"yes" => Ok(true),
+        b"no" => Ok(false),
+        _ => Err(Unread::Bad),
+    }
+}
+
+fn access_of(word: &[u8]) -> Result<AccessKind, Unread>
+    ensures { Reads result (access_in word.now) }
+{
+    match word {
+        b"explicit" => Ok(AccessKind::Explicit),
+        b"implicit" => Ok(AccessKind::Implicit),
+        b"timed" => Ok(AccessKind::Timed),
+        _ => Err(Unread::Bad),
+    }
+}
+
+fn deadline_of(word: &[u8]) -> Result<Option<u64>, Unread>
+    ensures { Reads result (deadline_in word.now) }
+{
+    match word {
+        b"*" => Ok(None),
+        _ => Ok(Some(time_of(word)?)),
+    }
+}
+
+fn names_of(alloc: Global, word: &[u8], most: usize) -> Result<List<Name>, Unread>
+    ensures { Reads result (names_in most word.now) }
+{
+    let mut names = List::new(alloc);
+    if word == b"*".as_slice() {
+        return Ok(names);
+    }
+    let mut parts = Parts::of(word, b',');
+    while let Some(part) = parts.next() {
+        if names.len() == most {
+            return Err(Unread::Bad);
+        }
+        names.push(name_of(part)?)?;
+    }
+    Ok(names)
+}
+
+/// The next word of a line.
+fn word<'a>(words: &mut Parts<'a>) -> Result<&'a [u8], Unread>
+    ensures some { IfOk result (λ word. words.old ≡ word.now ∷ words.new) }
+    ensures none { IfErr result (λ fault. (fault ≡ Bad) × (words.old ≡ [])) }
+{
+    words.next().ok_or(Unread::Bad)
+}
+
+/// A name.
+pub(crate) fn name(words: &mut Parts<'_>) -> Result<Name, Unread>
+    ensures { ReadsUpTo result words.new (first_read name_in words.old) }
+{
+    name_of(word(words)?)
+}
+
+/// A number from `least` to `most`.
+pub(crate) fn number(words: &mut Parts<'_>, least: u64, most: u64) -> Result<u64, Unread>
+    ensures { ReadsUpTo result words.new (first_read (number_in least most) words.old) }
+{
+    number_of(word(words)?, least, most)
+}
+
+/// A time from 1 tick up.
+pub(crate) fn time(words: &mut Parts<'_>) -> Result<u64, Unread>
+    ensures { ReadsUpTo result words.new (first_read time_in words.old) }
+{
+    time_of(word(words)?)
+}
+
+/// Yes or no.
+pub(crate) fn flag(words: &mut Parts<'_>) -> Result<bool, Unread>
+    ensures { ReadsUpTo result words.new (first_read flag_in words.old) }
+{
+    flag_of(word(words)?)
+}
+
+/// A kind of access.
+pub(crate) fn access(words: &mut Parts<'_>) -> Result<AccessKind, Unread>
+    ensures { ReadsUpTo result words.new (first_read access_in words.old) }
+{
+    access_of(word(words)?)
+}
+
+/// A deadline, or that there is none.
+pub(crate) fn deadline(words: &mut Parts<'_>) -> Result<Option<u64>, Unread>
+    ensures { ReadsUpTo result words.new (first_read deadline_in words.old) }
+{
+    deadline_of(word(words)?)
+}
+
+/// At most so many names, or that there is none.
+pub(crate) fn names(alloc: Global, words: &mut Parts<'_>, most: usize) -> Result<List<Name>, Unread>
+    ensures { ReadsUpTo result words.new (first_read (names_in most) words.old) }
+{
+    names_of(alloc, word(words)?, most)
+}

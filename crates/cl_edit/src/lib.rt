@@ -1,0 +1,27 @@
+//! Edits of a model: small changes, the texts that list them, and the model that an edit makes of another.
+#![tactic(auto)]
+
+mod apply;
+mod changes;
+mod edit;
+mod fault;
+mod fields;
+mod find;
+mod kinds;
+pub mod laws;
+mod limits;
+mod lines;
+mod ranges;
+mod reading;
+mod task_line;
+mod words;
+
+pub use apply::apply_edit;
+use cl_model::ModelFault;
+pub use edit::Edit;
+pub use fault::EditsFault;
+pub use limits::{MOST_EDITS, MOST_REPORTS};
+pub use reading::read_edits;
+
+/// Why an edit isn't made: its first refusal, or want of memory.
+pub type EditFault = ModelFault;

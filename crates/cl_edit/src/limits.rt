@@ -1,0 +1,7 @@
+//! The limits of a list of edits.
+
+/// The most edits in a text, reports among them.
+pub const MOST_EDITS: usize = 4_096;
+
+/// The most reports in a text.
+pub const MOST_REPORTS: usize = 64;

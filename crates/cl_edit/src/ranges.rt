@@ -1,0 +1,49 @@
+//! Whether an edit is in range.
+ghost use Rattle.std.specs.Prelude.{◌↔◌, IsTrue};
+ghost use Rattle.cl_edit.specs.Ranges.{IsEditInRange};
+
+use crate::edit::Edit;
+use cl_model::{MOST_PRIORITY, MOST_TICKS};
+use cl_valid::{
+    is_burst_count, is_chain_in_range, is_deadline_in_range, is_task_in_range, is_time,
+};
+
+impl Edit {
+    /// Whether each of its numbers may stand in a model file at the key that the edit sets, and each of its lists has no
+    /// more members than there. It takes no memory.
+    pub fn in_range(&self) -> bool
+        ensures { IsTrue result ↔ IsEditInRange self.now }
+    {
+        match self {
+            Edit::Range {
+                least,
+                greatest,
+                ..
+            }
+            | Edit::Distances {
+                least,
+                greatest,
+                ..
+            } => is_time(*least) && is_time(*greatest),
+            Edit::Period { period, .. } => is_time(*period),
+            Edit::Offset { offset, .. } => *offset <= MOST_TICKS,
+            Edit::Jitter { jitter, .. } => *jitter <= MOST_TICKS,
+            Edit::Burst {
+                period,
+                count,
+                distance,
+                ..
+            } => is_time(*period) && is_burst_count(*count) && is_time(*distance),
+            Edit::Deadline { deadline, .. } => is_deadline_in_range(*deadline),
+            Edit::Move { priority, .. } => *priority <= MOST_PRIORITY,
+            Edit::AddTask(task) => is_task_in_range(task),
+            Edit::AddChain(chain) => is_chain_in_range(chain),
+            Edit::Whole { .. }
+            | Edit::Swap { .. }
+            | Edit::Kind { .. }
+            | Edit::DropTask { .. }
+            | Edit::DropChain { .. }
+            | Edit::Report => true,
+        }
+    }
+}

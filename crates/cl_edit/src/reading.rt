@@ -1,0 +1,91 @@
+//! A text, read as a list of edits.
+ghost use Rattle.std.specs.Prelude.{◌≡◌, ◌≢◌, ◌↔◌, ◌++◌, ℕ, List, IsTrue, Err, IfOk};
+ghost use Rattle.cl_edit.specs.declared.edit.Edit.{Edit};
+ghost use Rattle.cl_edit.specs.declared.fault.EditsFault.TheVariants.{BadLine};
+ghost use Rattle.cl_edit.specs.declared.fault.Unread.TheVariants.{Bad};
+ghost use Rattle.cl_edit.specs.Inner.LineReads.{HasRoom, MayFollow};
+ghost use Rattle.cl_edit.specs.Lines.{edit_line};
+ghost use Rattle.cl_edit.specs.Reading.{IsLineEdit, is_report, AreEditsOf, IsBadLine};
+
+use crate::edit::Edit;
+use crate::fault::{EditsFault, Unread};
+use crate::limits::{MOST_EDITS, MOST_REPORTS};
+use crate::lines::edit_of;
+use cl_model::List;
+use cl_text::next_line;
+use std::alloc::Global;
+
+/// The edit of the line that the text begins with, and what follows the line.
+fn edit_after(alloc: Global, text: &[u8]) -> Result<(Edit, &[u8]), Unread>
+    ensures some { IfOk result (λ read. IsLineEdit read.0 × (text.now ≡ edit_line read.0 ++ read.1.now)) }
+    ensures none { result ≡ Err Bad → (edit : Edit) (rest : List ℕ) → IsLineEdit edit → text.now ≢ edit_line edit ++ rest }
+{
+    let Some(end) = next_line(text, 0) else {
+        return Err(Unread::Bad);
+    };
+    let edit = edit_of(alloc, &text[..end])?;
+    Ok((edit, &text[end + 1..]))
+}
+
+fn is_report(edit: &Edit) -> bool
+    ensures { result ≡ is_report edit.now }
+{
+    matches!(edit, Edit::Report)
+}
+
+/// Whether so many edits, with so many reports among them, leave room for one more.
+fn has_room(edits: usize, reports: usize, edit: &Edit) -> bool
+    ensures { IsTrue result ↔ HasRoom edits reports edit.now }
+{
+    edits < MOST_EDITS && (reports < MOST_REPORTS || !is_report(edit))
+}
+
+/// The same, where the edit may be listed below so many edits with so many reports among them.
+fn listed_after(
+    alloc: Global,
+    text: &[u8],
+    edits: usize,
+    reports: usize,
+) -> Result<(Edit, &[u8]), Unread>
+    ensures some { IfOk result (λ read. MayFollow edits reports read.0 × (text.now ≡ edit_line read.0 ++ read.1.now)) }
+    ensures none { result ≡ Err Bad → (edit : Edit) (rest : List ℕ) → MayFollow edits reports edit → text.now ≢ edit_line edit ++ rest }
+{
+    let (edit, rest) = edit_after(alloc, text)?;
+    if has_room(edits, reports, &edit) {
+        Ok((edit, rest))
+    } else {
+        Err(Unread::Bad)
+    }
+}
+
+/// The edits that a text lists. Times are in ticks.
+///
+/// Each is in range, and each name in it is of the name grammar. `BadLine` comes exactly where the text lists no edits: at
+/// its first line that is outside the grammar, that is one too many, or that has no end, counted from 1. `NoMemory` comes
+/// where there is no memory for the edits. Either leaves nothing.
+pub fn read_edits(alloc: Global, text: &[u8]) -> Result<List<Edit>, EditsFault>
+    ensures edits { IfOk result (AreEditsOf text.now) }
+    ensures bad_line { (line : ℕ) → result ≡ Err (BadLine line) → IsBadLine text.now line }
+{
+    let Some(lines) = text.strip_prefix(b"chainlat edits 1\n".as_slice()) else {
+        return Err(EditsFault::BadLine { line: 1 });
+    };
+    let mut edits = List::new(alloc);
+    let mut reports = 0;
+    let mut left = lines;
+    while !left.is_empty() {
+        let (edit, rest) = match listed_after(alloc, left, edits.len(), reports) {
+            Ok(read) => read,
+            Err(Unread::NoMemory) => return Err(EditsFault::NoMemory),
+            Err(Unread::Bad) => {
+                return Err(EditsFault::BadLine {
+                    line: edits.len() as u64 + 2,
+                });
+            }
+        };
+        reports += usize::from(is_report(&edit));
+        edits.push(edit)?;
+        left = rest;
+    }
+    Ok(edits)
+}

@@ -1,0 +1,46 @@
+-- A chain whose tasks are all timed and periodic is within the limit, with exact lengths, or past it.
+use Rattle.std.proofs.Common.{◌≡◌, ◌⊎◌, ℕ, ◌<◌, true, List, length, inl, inr, arith}
+use Rattle.std.proofs.lemmas.Bool.{cases_lt}
+use Rattle.cl_model.specs.declared.group.Group.{Group}
+use Rattle.cl_model.specs.declared.model.SystemModel.{SystemModel}
+use Rattle.cl_model.specs.Groups.{groups_at}
+use Rattle.cl_model.specs.Validity.{IsValid}
+use Rattle.cl_runs.specs.TaskTiming.{System}
+use Rattle.cl_runs.specs.SystemOf.{system_of}
+use Rattle.cl_exact.specs.declared.beat.Beat.{Beat}
+use Rattle.cl_exact.specs.TimedPeriodic.{is_timed_periodic_chain}
+use Rattle.cl_exact.specs.Hyperperiod.{hyper_limit, IsWithinLimit, IsPastLimit}
+use Rattle.cl_exact.specs.ExactLengths.{Witnesses, AreExactLengths}
+use Rattle.cl_exact.specs.Inner.Beats.{AreBeatsOf}
+use Rattle.cl_exact.proofs.PeriodFacts.{least_of_none, has_least, is_hyperperiod}
+use Rattle.cl_exact.proofs.ModelExact.{has_beats, lengths_exist}
+
+-- a chain of these beats is within the limit or past it
+limit_of_beats : (system : System) (groups : List Group) (beats : List Beat) → AreBeatsOf system groups beats
+    → IsWithinLimit system groups ⊎ IsPastLimit system groups
+limit_of_beats system groups beats of =
+    let least = has_least beats of.are_beats (length beats) 0 1 (omega arith) (least_of_none beats) in
+    let is = is_hyperperiod system groups beats least.0 of least.1 in
+    elim (cases_lt (hyper_limit system groups) least.0) [
+      | inl past ↦ inr (record { hyperperiod = least.0; is_hyperperiod = is; past = past })
+      | inr within ↦ inl (record { hyperperiod = least.0; is_hyperperiod = is; within = within })
+    ]
+
+-- so is each of a valid model
+pub within_or_past_limit : (model : SystemModel) → IsValid model → (chain : ℕ) → chain < length model.chains
+    → is_timed_periodic_chain model chain ≡ true
+    → IsWithinLimit (system_of model) (groups_at model chain) ⊎ IsPastLimit (system_of model) (groups_at model chain)
+within_or_past_limit model valid chain within timed =
+    let beats = has_beats model valid chain timed within in
+    limit_of_beats (system_of model) (groups_at model chain) beats.0 beats.1
+
+-- and within the limit it has exact lengths, as it has past it
+pub exact_lengths_exist : (model : SystemModel) → IsValid model → (chain : ℕ) → chain < length model.chains → is_timed_periodic_chain model chain ≡ true
+    → ((exact : Witnesses) × AreExactLengths (system_of model) (groups_at model chain) exact × IsWithinLimit (system_of model) (groups_at model chain))
+    ⊎ IsPastLimit (system_of model) (groups_at model chain)
+exact_lengths_exist model valid chain within timed =
+    let had = lengths_exist model valid chain within timed in
+    elim (within_or_past_limit model valid chain within timed) [
+      | inl within_limit ↦ inl (had.exact, had.are, within_limit)
+      | inr past ↦ inr past
+    ]

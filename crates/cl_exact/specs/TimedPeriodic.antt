@@ -1,0 +1,29 @@
+-- Which chains have fixed moments: those whose tasks are all timed and periodic. Source: this project's profile.
+use Rattle.std.specs.Prelude.{ℕ, Bool, true, false, ◌&&◌, List}
+use Rattle.std.specs.List.{list_all}
+use Rattle.cl_model.specs.declared.group.Group.{Group}
+use Rattle.cl_model.specs.declared.model.SystemModel.{SystemModel}
+use Rattle.cl_model.specs.declared.stimulus.StimulusKind.{StimulusKind}
+use Rattle.cl_model.specs.declared.stimulus.StimulusKind.TheVariants.{Periodic, Sporadic, Burst}
+use Rattle.cl_model.specs.Groups.{groups_at}
+use Rattle.cl_runs.specs.TaskTiming.{Timing, System, timing_at}
+use Rattle.cl_runs.specs.SystemOf.{system_of}
+use Rattle.cl_comm.specs.AccessMoments.{is_timed}
+
+-- whether jobs arrive by one period
+abbrev pub is_periodic : StimulusKind → Bool
+is_periodic (Periodic period offset jitter) = true
+is_periodic (Sporadic least greatest) = false
+is_periodic (Burst period offset count distance) = false
+
+-- whether a task is timed and periodic
+abbrev pub is_timed_periodic_task : Timing → Bool
+is_timed_periodic_task task = is_timed task.access && is_periodic task.pattern
+
+-- whether the tasks of all groups of a chain are
+unfoldable pub are_timed_periodic : System → List Group → Bool
+are_timed_periodic system groups = list_all (λ (group : Group). is_timed_periodic_task (timing_at system group.task)) groups
+
+-- whether those of the chain of a number of a model are
+abbrev pub is_timed_periodic_chain : SystemModel → (chain : ℕ) → Bool
+is_timed_periodic_chain model chain = are_timed_periodic (system_of model) (groups_at model chain)

@@ -1,0 +1,87 @@
+//! The beats of the groups of a chain of a model. Times are in ticks.
+ghost use Rattle.std.specs.Prelude.{◌≡◌, true, ◌<◌, length};
+ghost use Rattle.cl_model.specs.Groups.{groups_at};
+ghost use Rattle.cl_model.specs.Validity.{IsValid};
+ghost use Rattle.cl_runs.specs.TaskTiming.{timing_at};
+ghost use Rattle.cl_runs.specs.SystemOf.{system_of};
+ghost use Rattle.cl_comm.specs.AccessMoments.{is_timed};
+ghost use Rattle.cl_exact.specs.TimedPeriodic.{is_periodic, is_timed_periodic_task, is_timed_periodic_chain};
+ghost use Rattle.cl_exact.specs.Inner.Beats.{IsBeat, IsBeatOf, AreBeatsOf};
+
+use crate::beat::Beat;
+use arrayvec::ArrayVec;
+use cl_model::{AccessKind, MOST_STEPS, StimulusKind, ValidModel};
+
+/// Whether tasks of that kind of access are timed.
+fn is_timed(access: AccessKind) -> bool
+    ensures { result ≡ is_timed access }
+{
+    matches!(access, AccessKind::Timed)
+}
+
+/// Whether jobs arrive by one period.
+fn is_periodic(kind: StimulusKind) -> bool
+    ensures { result ≡ is_periodic kind }
+{
+    matches!(kind, StimulusKind::Periodic { .. })
+}
+
+/// Whether a task is timed and periodic.
+fn is_timed_periodic_task(model: &ValidModel, task: u32) -> bool
+    requires { task < length model.now.tasks }
+    ensures { result ≡ is_timed_periodic_task (timing_at (system_of model.now) task) }
+{
+    let def = &model.plain().tasks.as_slice()[task as usize];
+    let timed = is_timed(def.access);
+    let periodic = is_periodic(model.stimulus_of(task));
+    timed && periodic
+}
+
+/// Whether the tasks of a chain are all timed and periodic.
+///
+/// It looks at each group of the chain at most once, and takes no memory.
+pub fn is_timed_periodic(model: &ValidModel, chain: u32) -> bool
+    requires { chain < length model.now.chains }
+    ensures { result ≡ is_timed_periodic_chain model.now chain }
+{
+    for place in 0..model.group_count(chain) {
+        if !is_timed_periodic_task(model, model.group(chain, place).task) {
+            return false;
+        }
+    }
+    true
+}
+
+/// The beat of a task that is timed and periodic.
+fn beat_of(model: &ValidModel, task: u32) -> Beat
+    requires is_task { task < length model.now.tasks }
+    requires periodic { is_timed_periodic_task (timing_at (system_of model.now) task) ≡ true }
+    ensures of { IsBeatOf (timing_at (system_of model.now) task) result }
+    ensures beat { IsBeat result }
+{
+    let kind = model.stimulus_of(task);
+    let deadline = model.plain().tasks.as_slice()[task as usize].deadline_under(kind);
+    let StimulusKind::Periodic { period, offset, .. } = kind else {
+        unreachable!();
+    };
+    Beat {
+        offset,
+        period,
+        deadline,
+    }
+}
+
+/// The beats of the groups of a chain whose tasks are all timed and periodic.
+pub(crate) fn beats_of(model: &ValidModel, chain: u32) -> ArrayVec<Beat, MOST_STEPS>
+    requires is_chain { chain < length model.now.chains }
+    requires timed_periodic { is_timed_periodic_chain model.now chain ≡ true }
+    ensures of { AreBeatsOf (system_of model.now) (groups_at model.now chain) result.items }
+    ensures valid { IsValid model.now }
+{
+    let mut beats = ArrayVec::new();
+    let _ = model.plain();
+    for place in 0..model.group_count(chain) {
+        beats.push(beat_of(model, model.group(chain, place).task));
+    }
+    beats
+}

@@ -1,0 +1,154 @@
+//! Exact lengths. Times are in ticks.
+ghost use Rattle.std.specs.Prelude.{◌≡◌, ℕ, ◌+◌, ◌-◌, ◌*◌, ◌<◌, ◌≤◌, true, List, length, IfOk, IfErr, OnOk, OnErr};
+ghost use Rattle.cl_model.specs.declared.group.Group.{Group};
+ghost use Rattle.cl_model.specs.Groups.{groups_at};
+ghost use Rattle.cl_runs.specs.TaskTiming.{System};
+ghost use Rattle.cl_runs.specs.SystemOf.{system_of};
+ghost use Rattle.cl_exact.specs.TimedPeriodic.{is_timed_periodic_chain};
+ghost use Rattle.cl_exact.specs.Hyperperiod.{hyper_limit, IsWithinLimit, IsPastLimit};
+ghost use Rattle.cl_exact.specs.ExactLengths.{AreExactLengths};
+ghost use Rattle.cl_exact.specs.Ties.{AreTied};
+ghost use Rattle.cl_exact.specs.RunPromises.{HaveResponses, AlwaysIdealUntilTheEnd, AreExactInRuns};
+ghost use Rattle.cl_exact.specs.Inner.Beats.{AreBeats, AreBeatsOf, beat_in, read_at};
+ghost use Rattle.cl_exact.specs.Inner.Blocks.{EARLY};
+ghost use Rattle.cl_exact.specs.Inner.Periods.{IsLeastMultiple};
+ghost use Rattle.cl_exact.specs.Inner.Walks.{start_up_of};
+ghost use Rattle.cl_exact.specs.Inner.Found.{MOST_HYPERPERIOD, last_beat, IsGreatestReaction, IsOldest, IsForwardWitness, IsAgeWitness, IsSameUpTo};
+
+use crate::beat::Beat;
+use crate::beats::beats_of;
+use crate::exact_lengths::ExactLengths;
+use crate::hyperperiod::{hyper_limit, hyperperiod};
+use crate::limit::HyperLimit;
+use crate::scan::{first_with, greatest_reaction};
+use crate::start_up::{first_steady_job, last_steady_job};
+use crate::walk::{backward_jobs, forward_jobs};
+use crate::witness::Witness;
+use cl_model::ValidModel;
+use cl_time::Steps;
+use std::sync::ledger::Ledger;
+
+/// The forward chain from a first job.
+fn forward_witness(beats: &[Beat], first: u64) -> Witness
+    requires beats { AreBeats beats.now }
+    requires some { 1 ≤ first }
+    requires early { read_at (beat_in beats.now 0) first ≤ EARLY }
+    ensures { IsForwardWitness beats.now first result }
+{
+    let jobs = forward_jobs(beats, first);
+    let last = beats.len() - 1;
+    let from = beats[0].read(first - 1);
+    let to = beats[last].write(jobs.as_slice()[last]);
+    Witness {
+        length: to - from,
+        from,
+        to,
+        jobs,
+    }
+}
+
+/// The backward chain of a last job, up to the write of the job after it.
+fn age_witness(beats: &[Beat], last: u64) -> Witness
+    requires beats { AreBeats beats.now }
+    requires late { start_up_of beats.now ≤ read_at (last_beat beats.now) last }
+    requires early { read_at (last_beat beats.now) last ≤ EARLY }
+    ensures { IsAgeWitness beats.now last result }
+{
+    let jobs = backward_jobs(beats, last);
+    let from = beats[0].read(jobs.as_slice()[0]);
+    let to = beats[beats.len() - 1].write(last + 1);
+    Witness {
+        length: to - from,
+        from,
+        to,
+        jobs,
+    }
+}
+
+/// The same chain up to the write of the last job, a period before.
+fn reduced_witness(age: &Witness, period: u64) -> Witness
+    requires length { period ≤ age.now.length }
+    requires to { period ≤ age.now.to }
+    ensures { IsSameUpTo age.now period result }
+{
+    Witness {
+        length: age.length - period,
+        from: age.from,
+        to: age.to - period,
+        jobs: age.jobs.copy(),
+    }
+}
+
+/// The first of the last jobs that read at or after the start-up whose backward chain has the greatest age. That is the
+/// greatest reaction, and the job after it ends the first forward chain that has it, of those that begin after the
+/// backward chain of the very first of these last jobs.
+fn oldest(beats: &[Beat], count: u64, age: u64) -> u64
+    requires beats { AreBeats beats.now }
+    requires few { count * (beat_in beats.now 0).period ≤ MOST_HYPERPERIOD }
+    requires greatest { IsGreatestReaction beats.now count age }
+    ensures oldest { IsOldest beats.now age result }
+    ensures early { read_at (last_beat beats.now) result ≤ EARLY }
+{
+    let walk = backward_jobs(beats, last_steady_job(beats));
+    let Some(next) = first_with(beats, walk.as_slice()[0] + 1, count, age) else {
+        unreachable!();
+    };
+    forward_jobs(beats, next).as_slice()[beats.len() - 1] - 1
+}
+
+/// The exact lengths of a chain with this hyperperiod.
+fn exact_lengths(beats: &[Beat], hyperperiod: u64) -> ExactLengths
+    requires beats { AreBeats beats.now }
+    requires hyperperiod { IsLeastMultiple beats.now hyperperiod }
+    requires few { hyperperiod ≤ MOST_HYPERPERIOD }
+    ensures exact { (system : System) (groups : List Group) → AreBeatsOf system groups beats.now → AreExactLengths system groups result }
+    ensures tied { (system : System) (groups : List Group) → AreBeatsOf system groups beats.now → AreTied system groups result }
+{
+    let count = hyperperiod / beats[0].period;
+    let greatest = greatest_reaction(beats, first_steady_job(beats), count);
+    let age = age_witness(beats, oldest(beats, count, greatest.reaction));
+    ExactLengths {
+        reaction: forward_witness(beats, greatest.job),
+        reduced: reduced_witness(&age, beats[beats.len() - 1].period),
+        age,
+    }
+}
+
+/// The exact reaction, age and reduced age of a chain whose tasks are all timed and periodic, each with a witness: the
+/// longest of all its job chains over the ideal moments, once all its tasks have begun, and among equals the one of the
+/// least first job, or last job for an age.
+///
+/// The reaction equals the age, and the reduced age is the age less the last period, with the same jobs. Where none of the
+/// chain's tasks is late, each legal run reads and writes at the ideal moments until its end, no complete chain of it is
+/// longer, and each witness is a complete chain of each run that lasts to its end.
+///
+/// `HyperLimit` comes exactly where the hyperperiod of the chain exceeds the limit, which it carries. It counts one step
+/// and takes no memory. Its time grows with the number of first jobs in the hyperperiod, at most a million, times the number
+/// of groups.
+pub fn exact<L: Ledger>(
+    model: &ValidModel,
+    chain: u32,
+    steps: &mut Steps<L>,
+) -> Result<ExactLengths, HyperLimit>
+    requires is_chain { chain < length model.now.chains }
+    requires timed_periodic { is_timed_periodic_chain model.now chain ≡ true }
+    ensures exact { IfOk result (AreExactLengths (system_of model.now) (groups_at model.now chain)) }
+    ensures tied { IfOk result (AreTied (system_of model.now) (groups_at model.now chain)) }
+    ensures in_runs { IfOk result (λ exact. HaveResponses (system_of model.now) (groups_at model.now chain)
+        → AreExactInRuns (system_of model.now) (groups_at model.now chain) exact) }
+    ensures ideal { HaveResponses (system_of model.now) (groups_at model.now chain)
+        → AlwaysIdealUntilTheEnd (system_of model.now) (groups_at model.now chain) }
+    ensures within { OnOk result (IsWithinLimit (system_of model.now) (groups_at model.now chain)) }
+    ensures past { OnErr result (IsPastLimit (system_of model.now) (groups_at model.now chain)) }
+    ensures limit { IfErr result (λ past. past.limit ≡ hyper_limit (system_of model.now) (groups_at model.now chain)) }
+    ensures steps { steps.new ≡ steps.old + 1 }
+{
+    steps.tick();
+    let numbers = beats_of(model, chain);
+    let beats = numbers.as_slice();
+    let limit = hyper_limit(beats);
+    match hyperperiod(beats, limit) {
+        Some(hyperperiod) => Ok(exact_lengths(beats, hyperperiod)),
+        None => Err(HyperLimit { limit }),
+    }
+}

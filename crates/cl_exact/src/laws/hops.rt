@@ -1,0 +1,33 @@
+//! Earliest readers and latest writers over ideal moments: each hop one way is the hop the other way round.
+ghost use Rattle.std.specs.Prelude.{ℕ, suc, ◌-◌, ◌<◌, ◌≤◌, ◌↔◌, List, length, slice_index};
+ghost use Rattle.cl_model.specs.declared.group.Group.{Group};
+ghost use Rattle.cl_model.specs.Groups.{group_at};
+ghost use Rattle.cl_runs.specs.TaskTiming.{System, IsSound};
+ghost use Rattle.cl_runs.specs.Chains.{IsEarliestReader, IsLatestWriter, JobChain, first_job, last_job, IsForwardChain, AreBackwardLinks};
+ghost use Rattle.cl_runs.specs.RunChains.{ideal_moments};
+ghost use Rattle.cl_runs.specs.MomentOrder.{AreGroupsOf};
+ghost use Rattle.cl_exact.specs.Hops.{HasNoWriter};
+
+/// The earliest reader of a writing job is at or before a job exactly where the writing job is at or before the latest
+/// writer for that job; and where a job has no writer at all, each earliest reader comes after it.
+pub fn readers_follow_writers()
+    ensures within { (system : System) → IsSound system → (groups : List Group) → AreGroupsOf system groups
+        → (i writing first reading last : ℕ) → suc i < length groups
+        → IsEarliestReader (ideal_moments system) (group_at groups i) (group_at groups (suc i)) writing first
+        → IsLatestWriter (ideal_moments system) (group_at groups i) (group_at groups (suc i)) last reading
+        → (first ≤ reading) ↔ (writing ≤ last) }
+    ensures none { (system : System) → IsSound system → (groups : List Group) → AreGroupsOf system groups
+        → (i writing first reading : ℕ) → suc i < length groups
+        → IsEarliestReader (ideal_moments system) (group_at groups i) (group_at groups (suc i)) writing first
+        → HasNoWriter (ideal_moments system) (group_at groups i) (group_at groups (suc i)) reading
+        → reading < first }
+{}
+
+/// So a complete forward chain ends at or before the last job of a backward chain exactly where it begins at or before
+/// its first.
+pub fn forward_chains_follow_backward_chains()
+    ensures { (system : System) → IsSound system → (groups : List Group) → AreGroupsOf system groups
+        → (chain : JobChain) (jobs : List ℕ) → IsForwardChain (ideal_moments system) groups chain
+        → AreBackwardLinks (ideal_moments system) groups jobs
+        → (last_job chain ≤ slice_index jobs (length jobs - 1)) ↔ (first_job chain ≤ slice_index jobs 0) }
+{}

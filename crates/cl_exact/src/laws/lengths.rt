@@ -1,0 +1,47 @@
+//! Exact lengths themselves: a chain has one of each, with one witness.
+ghost use Rattle.std.specs.Prelude.{◌≡◌, ◌⊎◌, ℕ, ◌<◌, true, List, length};
+ghost use Rattle.cl_model.specs.declared.model.SystemModel.{SystemModel};
+ghost use Rattle.cl_model.specs.Groups.{groups_at};
+ghost use Rattle.cl_model.specs.Validity.{IsValid};
+ghost use Rattle.cl_runs.specs.SystemOf.{system_of};
+ghost use Rattle.cl_exact.specs.TimedPeriodic.{is_timed_periodic_chain};
+ghost use Rattle.cl_exact.specs.Ties.{AreTied, HasExactLengths};
+ghost use Rattle.cl_model.specs.declared.group.Group.{Group};
+ghost use Rattle.cl_runs.specs.TaskTiming.{System};
+ghost use Rattle.cl_exact.specs.ExactLengths.{Witnesses, AreExactLengths};
+ghost use Rattle.cl_exact.specs.Hyperperiod.{IsHyperperiod, IsWithinLimit, IsPastLimit};
+
+/// A chain has one exact length of each kind, and one witness of it.
+pub fn exact_lengths_are_unique()
+    ensures { (system : System) (groups : List Group) (one other : Witnesses)
+        → AreExactLengths system groups one → AreExactLengths system groups other → one ≡ other }
+{}
+
+/// A chain has one hyperperiod.
+pub fn one_hyperperiod()
+    ensures { (system : System) (groups : List Group) (one other : ℕ)
+        → IsHyperperiod system groups one → IsHyperperiod system groups other → one ≡ other }
+{}
+
+/// So its hyperperiod isn't both within the limit and past it; and that of each chain of a valid model whose tasks are all
+/// timed and periodic is one of both.
+pub fn chains_are_within_the_limit_or_past_it()
+    ensures not_both { (system : System) (groups : List Group) → IsWithinLimit system groups → IsPastLimit system groups → ⊥ }
+    ensures either { (model : SystemModel) → IsValid model → (chain : ℕ) → chain < length model.chains
+        → is_timed_periodic_chain model chain ≡ true
+        → IsWithinLimit (system_of model) (groups_at model chain) ⊎ IsPastLimit (system_of model) (groups_at model chain) }
+{}
+
+/// A chain of a valid model whose tasks are all timed and periodic has exact lengths, whatever its hyperperiod.
+pub fn exact_lengths_exist()
+    ensures { (model : SystemModel) → IsValid model → (chain : ℕ) → chain < length model.chains
+        → is_timed_periodic_chain model chain ≡ true → HasExactLengths (system_of model) (groups_at model chain) }
+{}
+
+/// Its exact reaction equals its exact age, and its exact reduced age is that age less the last period, with the same jobs.
+pub fn exact_lengths_are_tied()
+    ensures { (model : SystemModel) → IsValid model → (chain : ℕ) → chain < length model.chains
+        → is_timed_periodic_chain model chain ≡ true
+        → (exact : Witnesses) → AreExactLengths (system_of model) (groups_at model chain) exact
+        → AreTied (system_of model) (groups_at model chain) exact }
+{}

@@ -1,0 +1,21 @@
+//! One hyperperiod of first jobs shows all lengths.
+ghost use Rattle.std.specs.Prelude.{◌≡◌, ℕ, ◌<◌, ◌≤◌, true, length};
+ghost use Rattle.cl_model.specs.declared.model.SystemModel.{SystemModel};
+ghost use Rattle.cl_model.specs.Groups.{groups_at};
+ghost use Rattle.cl_model.specs.Validity.{IsValid};
+ghost use Rattle.cl_runs.specs.SystemOf.{system_of};
+ghost use Rattle.cl_runs.specs.Chains.{JobChain};
+ghost use Rattle.cl_exact.specs.TimedPeriodic.{is_timed_periodic_chain};
+ghost use Rattle.cl_exact.specs.Hyperperiod.{IsMultipleOfPeriods};
+ghost use Rattle.cl_exact.specs.ExactLengths.{IsSteadyForward};
+ghost use Rattle.cl_exact.specs.Turns.{HasEarlyTwin};
+
+/// Each forward chain that counts has the length of one that begins less than a hyperperiod, or any other common multiple
+/// of the periods, after the first of them. So the greatest over one hyperperiod is the greatest over all.
+pub fn one_hyperperiod_shows_all()
+    ensures { (model : SystemModel) → IsValid model → (chain : ℕ) → chain < length model.chains
+        → is_timed_periodic_chain model chain ≡ true
+        → (ticks : ℕ) → 1 ≤ ticks → IsMultipleOfPeriods (system_of model) (groups_at model chain) ticks
+        → (jobs : JobChain) → IsSteadyForward (system_of model) (groups_at model chain) jobs
+        → HasEarlyTwin (IsSteadyForward (system_of model) (groups_at model chain)) ticks jobs }
+{}

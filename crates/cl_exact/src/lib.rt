@@ -1,0 +1,26 @@
+//! The exact lengths of chains whose tasks are all timed and periodic, with a witness of each.
+//!
+//! No call takes memory. Times are in ticks.
+#![tactic(auto)]
+
+mod beat;
+mod beats;
+mod block;
+mod exact_lengths;
+mod finding;
+mod hop;
+mod hyperperiod;
+mod job_numbers;
+pub mod laws;
+mod limit;
+mod scan;
+mod start_up;
+mod walk;
+mod witness;
+
+pub use beats::is_timed_periodic;
+pub use exact_lengths::ExactLengths;
+pub use finding::exact;
+pub use job_numbers::JobNumbers;
+pub use limit::{HyperLimit, MOST_FIRST_JOBS};
+pub use witness::Witness;

@@ -1,0 +1,69 @@
+-- The two timed tasks: their system is that of a model, sound, and neither is late.
+use Rattle.std.proofs.Common.{◌≡◌, ℕ, ◌<◌, ◌≤◌, refl, sym, ◌∙◌, arith}
+use Rattle.std.proofs.lemmas.List.Elements.{All-from_recursion}
+use Rattle.cl_model.specs.declared.group.Group.{Group}
+use Rattle.cl_model.specs.Groups.{groups_of}
+use Rattle.cl_runs.specs.TaskTiming.{TimeRange, timing_at, IsSoundTask, IsSound}
+use Rattle.cl_runs.specs.SystemOf.{system_of}
+use Rattle.cl_resp.specs.Question.{greatest_execution, longest_hold, block_of, question_of}
+use Rattle.cl_resp.specs.Response.{demand, busy_window, IsSettled}
+use Rattle.cl_exact.specs.TimedPeriodic.{are_timed_periodic}
+use Rattle.cl_exact.specs.RunPromises.{HasResponse, HasItsRunnables, IsSettledTimedChain}
+use Rattle.cl_examples.specs.Examples.{from_a_to_b}
+use Rattle.cl_examples.specs.ExampleModel.{chain_ab, two_tasks_model}
+use Rattle.cl_examples.specs.TimedExample.{timed_tasks}
+use Rattle.cl_examples.specs.TimedModel.{timed_model}
+use Rattle.cl_examples.proofs.ExampleRun.{both, only}
+
+pub timed_system : system_of timed_model ≡ timed_tasks
+unfolding system_of timed_tasks timed_model two_tasks_model
+timed_system = refl
+
+pub timed_groups : groups_of timed_model chain_ab ≡ from_a_to_b
+unfolding groups_of timed_model two_tasks_model
+timed_groups = refl
+
+core_is : (i : ℕ) → i < 2 → (timing_at timed_tasks i).core ≡ i
+unfolding timed_tasks
+core_is = both (λ i. (timing_at timed_tasks i).core ≡ i) refl refl
+
+pub timed_sound : IsSound timed_tasks
+unfolding timed_tasks
+timed_sound = record {
+  tasks = both (λ i. IsSoundTask 2 (timing_at timed_tasks i))
+      (record {
+        on_core = omega arith;
+        some_runnable = omega arith;
+        times = only (λ (range : TimeRange). (1 ≤ range.least) × (range.least ≤ range.greatest)) _ (omega arith, omega arith);
+        pattern = omega arith;
+        above_jitter = omega arith;
+        within_distance = omega arith;
+      })
+      (record {
+        on_core = omega arith;
+        some_runnable = omega arith;
+        times = only (λ (range : TimeRange). (1 ≤ range.least) × (range.least ≤ range.greatest)) _ (omega arith, omega arith);
+        pattern = omega arith;
+        above_jitter = omega arith;
+        within_distance = omega arith;
+      });
+  distinct = λ i j hi hj cores priorities. sym (core_is i hi) ∙ cores ∙ core_is j hj;
+}
+
+settled_a : IsSettled timed_tasks 0 1
+unfolding timed_tasks question_of greatest_execution longest_hold block_of demand busy_window
+settled_a = record { is_task = omega arith; window = 1; answered = refl }
+
+settled_b : IsSettled timed_tasks 1 1
+unfolding timed_tasks question_of greatest_execution longest_hold block_of demand busy_window
+settled_b = record { is_task = omega arith; window = 1; answered = refl }
+
+pub timed_settled : IsSettledTimedChain timed_tasks from_a_to_b
+unfolding timed_tasks are_timed_periodic
+timed_settled = record {
+  runnables = All-from_recursion (HasItsRunnables timed_tasks) from_a_to_b
+      (record { first = omega arith; last = omega arith }, (record { first = omega arith; last = omega arith }, _));
+  timed = refl;
+  settled = All-from_recursion (λ (group : Group). HasResponse timed_tasks group.task) from_a_to_b
+      (record { response = 1; settled = settled_a }, (record { response = 1; settled = settled_b }, _));
+}

@@ -1,0 +1,25 @@
+-- How many executions of runnables a simulation is counted to have, before anything is drawn. Source: this project's
+-- profile
+use Rattle.std.specs.Prelude.{ℕ, ◌+◌, ◌-◌, ◌*◌, ◌/◌, ◌%◌, length, sum_by}
+use Rattle.std.specs.Int.{div_ceil}
+use Rattle.cl_model.specs.declared.model.SystemModel.{SystemModel}
+use Rattle.cl_model.specs.declared.stimulus.StimulusKind.{StimulusKind}
+use Rattle.cl_model.specs.declared.stimulus.StimulusKind.TheVariants.{Periodic, Sporadic, Burst}
+use Rattle.cl_runs.specs.TaskTiming.{Timing}
+use Rattle.cl_runs.specs.SystemOf.{system_of}
+use Rattle.cl_gen.specs.Arrivals.{arrivals_below}
+
+-- how many jobs are counted in the first ticks: as many as the least gaps allow
+unfoldable pub arrival_count : StimulusKind → (ticks : ℕ) → ℕ
+arrival_count (Periodic period offset jitter) ticks = div_ceil (ticks - offset) period
+arrival_count (Sporadic least greatest) ticks = div_ceil ticks least
+arrival_count (Burst period offset count distance) ticks =
+    arrivals_below (λ k. offset + k / count * period + k % count * distance) ticks
+
+-- how many executions are counted of a task: its runnables times its jobs
+unfoldable pub task_executions : (ticks : ℕ) → Timing → ℕ
+task_executions ticks task = length task.ranges * arrival_count task.pattern ticks
+
+-- of all tasks
+abbrev pub execution_count : SystemModel → (ticks : ℕ) → ℕ
+execution_count model ticks = sum_by (task_executions ticks) (system_of model).tasks

@@ -1,0 +1,76 @@
+//! How many executions of runnables a simulation is counted to have. Times are in ticks.
+ghost use Rattle.std.specs.Prelude.{◌≡◌, ◌+◌, ◌*◌, ◌^◌, ◌<◌, ◌≤◌, length};
+ghost use Rattle.cl_model.specs.declared.stimulus.StimulusKind.TheVariants.{Burst};
+ghost use Rattle.cl_model.specs.Ranges.{IsKindInRange};
+ghost use Rattle.cl_model.specs.Timing.{IsKindOrdered};
+ghost use Rattle.cl_runs.specs.TaskTiming.{timing_at};
+ghost use Rattle.cl_runs.specs.SystemOf.{system_of};
+ghost use Rattle.cl_gen.specs.Count.{arrival_count, task_executions, execution_count};
+
+use crate::limits::MOST_RUN_TICKS;
+use cl_model::{StimulusKind, ValidModel};
+
+/// How many jobs of bursts arrive in the first ticks: those of whole periods, and then as many as one burst has in the
+/// ticks that are left.
+fn burst_arrivals(period: u64, offset: u64, count: u64, distance: u64, ticks: u64) -> u64
+    requires range { IsKindInRange (Burst period offset count distance) }
+    requires ordered { IsKindOrdered (Burst period offset count distance) }
+    requires ticks { ticks ≤ MOST_RUN_TICKS }
+    ensures count { result ≡ arrival_count (Burst period offset count distance) ticks }
+    ensures few { result ≤ ticks }
+{
+    let width = ticks.saturating_sub(offset);
+    let rest = width % period;
+    width / period * count + count.min(rest.div_ceil(distance))
+}
+
+/// How many jobs of a task are counted in the first ticks.
+#[tactic(auto, unfolding(crate::specs::Count::arrival_count))]
+fn arrival_count(pattern: StimulusKind, ticks: u64) -> u64
+    requires range { IsKindInRange pattern }
+    requires ordered { IsKindOrdered pattern }
+    requires ticks { ticks ≤ MOST_RUN_TICKS }
+    ensures count { result ≡ arrival_count pattern ticks }
+    ensures few { result ≤ ticks }
+{
+    match pattern {
+        StimulusKind::Periodic { period, offset, .. } => {
+            ticks.saturating_sub(offset).div_ceil(period)
+        }
+        StimulusKind::Sporadic { least, .. } => ticks.div_ceil(least),
+        StimulusKind::Burst {
+            period,
+            offset,
+            count,
+            distance,
+        } => burst_arrivals(period, offset, count, distance, ticks),
+    }
+}
+
+/// How many executions are counted of a task.
+#[tactic(auto, unfolding(crate::specs::Count::task_executions))]
+fn task_executions(model: &ValidModel, task: u32, ticks: u64) -> u64
+    requires task { task < length model.now.tasks }
+    requires ticks { ticks ≤ MOST_RUN_TICKS }
+    ensures count { result ≡ task_executions ticks (timing_at (system_of model.now) task) }
+    ensures few { result ≤ 2 ^ 40 }
+{
+    let runnables = model.plain().tasks.as_slice()[task as usize]
+        .runnables
+        .len();
+    runnables as u64 * arrival_count(model.stimulus_of(task), ticks)
+}
+
+/// How many executions are counted of all tasks.
+pub(crate) fn execution_count(model: &ValidModel, ticks: u64) -> u64
+    requires { ticks ≤ MOST_RUN_TICKS }
+    ensures { result ≡ execution_count model.now ticks }
+{
+    // read for what it says: the model is valid
+    let _plain = model.plain();
+    let mut count = 0;
+    for task in 0..model.tasks() {
+        count += task_executions(model, task, ticks);
+    }
+    count
+}

@@ -1,0 +1,120 @@
+-- What is kept of the tasks and of the chains of a model where another follows it, and what is changed.
+use Rattle.std.proofs.Common.{◌≡◌, ◌≢◌, ℕ, ◌+◌, ◌<◌, ◌≤◌, inl, inr, List, length, get_or, refl, sym, ap, ◌∙◌, subst, arith, Some, None}
+use Rattle.std.proofs.lemmas.List.{get_or-map, get_or_default}
+use Rattle.std.proofs.Math.ListN.{length-map}
+use Rattle.cl_model.specs.declared.model.SystemModel.{SystemModel}
+use Rattle.cl_model.specs.ByNumber.{task_at, chain_at, task_named, chain_named}
+use Rattle.cl_model.specs.Validity.{IsValid}
+use Rattle.cl_runs.specs.SystemOf.{system_of}
+use Rattle.cl_runs.specs.TaskTiming.{no_timing, timing_at}
+use Rattle.cl_runs.proofs.ModelSystem.{count_is}
+use Rattle.cl_bound.specs.declared.answer.TaskAnswer.{TaskAnswer}
+use Rattle.cl_bound.specs.Answers.{answer_to, answers_of}
+use Rattle.cl_analyse.specs.Headline.{question_at}
+use Rattle.cl_analyse.specs.declared.findings.ChainAnswer.{ChainAnswer}
+use Rattle.cl_analyse.specs.declared.findings.ChainAnswer.TheVariants.{Late}
+use Rattle.cl_analyse.specs.declared.findings.ExactAnswer.{ExactAnswer}
+use Rattle.cl_analyse.specs.declared.findings.ExactAnswer.TheVariants.{ChainLate}
+use Rattle.cl_analyse.specs.declared.findings.Findings.{Findings}
+use Rattle.cl_analyse.specs.ChainAnswers.{OnLate, chain_answer_of, exact_answer_at, IsExactAnswer}
+use Rattle.cl_analyse.specs.Findings.{AreFindings}
+use Rattle.cl_analyse.proofs.AnswerLists.{chain_answer_found}
+use Rattle.cl_incr.specs.Questions.{ChainQuestion, chain_question}
+use Rattle.cl_incr.specs.Changed.{IsChangedTask, IsChangedChain}
+use Rattle.cl_incr.specs.declared.chains.ChainFindings.{ChainFindings}
+use Rattle.cl_incr.specs.Inner.Kept.{AreBothAsked, AreFoundOf}
+use Rattle.cl_incr.specs.Inner.Asked.{AsksOne}
+use Rattle.cl_incr.proofs.EqualAnswers.{same_answers, chain_answers_same, exact_answers_same, late_where_not_asked}
+
+one_number : (one other : ℕ) → Some one ≡ Some other → one ≡ other
+one_number one other same = cc
+
+-- ---- tasks
+
+module _ (model : SystemModel) (answers : List TaskAnswer) (are : answers ≡ answers_of (system_of model)) where
+  pub answer_count : length answers ≡ length model.tasks
+  unfolding answers_of
+  answer_count = ap length are ∙ length-map (system_of model).tasks (answer_to (system_of model)) ∙ count_is model
+
+  pub answer_found : (task : ℕ) (found : TaskAnswer) → task < length model.tasks → found ≡ get_or answers task found
+      → found ≡ answer_to (system_of model) (timing_at (system_of model) task)
+  unfolding answers_of
+  answer_found task found within at =
+      at ∙ ap (λ (list : List TaskAnswer). get_or list task found) are
+      ∙ get_or-map (answer_to (system_of model)) (system_of model).tasks task no_timing found (omega (arith, within, count_is model))
+
+module _ (old new : SystemModel) (task : ℕ) where
+  pub kept_answer : (answers : List TaskAnswer) (before : ℕ) (found : TaskAnswer) → answers ≡ answers_of (system_of old) → before < length old.tasks
+      → found ≡ get_or answers before found → question_at old before ≡ question_at new task
+      → found ≡ answer_to (system_of new) (timing_at (system_of new) task)
+  kept_answer answers before found are within at same = answer_found old answers are before found within at ∙ same_answers old new before task same
+
+  -- a task that wasn't there, or had another question
+  pub new_task : task < length new.tasks → task_named old (task_at new task).name ≡ None → IsChangedTask old new task
+  new_task is_task none = record { is_task = is_task; changed = λ before named. absurd cc }
+
+  pub other_question : (before : ℕ) → task < length new.tasks → task_named old (task_at new task).name ≡ Some before
+      → question_at old before ≢ question_at new task → IsChangedTask old new task
+  other_question before is_task named differs = record {
+    is_task = is_task;
+    changed = λ other other_named same.
+        let one : before ≡ other = one_number before other (sym named ∙ other_named) in
+        differs (ap (question_at old) one ∙ same);
+  }
+
+-- ---- chains
+
+-- an answer in a list of answers, by its place
+exact_at : (answers : List ExactAnswer) (chain : ℕ) (found : ExactAnswer) → chain < length answers → found ≡ get_or answers chain found
+    → found ≡ exact_answer_at answers chain
+exact_at answers chain found within at = at ∙ get_or_default answers chain found ChainLate within
+
+module _ (old new : SystemModel) (chain : ℕ) where
+  -- what is found of the chain that had the question before is found of the chain that has it now
+  pub kept_chain : (findings : Findings) (before : ℕ) (found : ChainFindings) → IsValid old → AreFindings old findings → before < length old.chains
+      → found.bounds ≡ get_or findings.chains before found.bounds → found.exact ≡ get_or findings.exacts before found.exact
+      → AreBothAsked (chain_question old before) (chain_question new chain) → AreFoundOf new chain found
+  kept_chain findings before found valid are within bounds_at exact_at_before asked =
+      let was_bounds = chain_answer_found old findings.chains before found.bounds are.chains within bounds_at in
+      let is_exact = exact_at findings.exacts before found.exact (omega (arith, within, are.exacts.one_a_chain)) exact_at_before in
+      record {
+        bounds = was_bounds ∙ chain_answers_same old new before chain asked.question asked.old_asks asked.new_asks;
+        exact = exact_answers_same old new valid before chain within asked.question asked.old_asks asked.new_asks found.exact
+            (subst (IsExactAnswer old before (chain_answer_of old (chain_at old before))) (sym is_exact) (are.exacts.each before within));
+      }
+
+  -- a chain that wasn't there, or had another question
+  pub new_chain : chain < length new.chains → chain_named old (chain_at new chain).name ≡ None → IsChangedChain old new chain
+  new_chain is_chain none = record { is_chain = is_chain; changed = λ before named. absurd cc }
+
+  asked_by_both : (before : ℕ) (question : ChainQuestion) → chain_question new chain ≡ Some question → chain_question old before ≡ chain_question new chain
+      → AreBothAsked (chain_question old before) (chain_question new chain)
+  asked_by_both before question is same = record { question = question; old_asks = same ∙ is; new_asks = is }
+
+  pub other_chain : (before : ℕ) → chain < length new.chains → chain_named old (chain_at new chain).name ≡ Some before
+      → ¬ AreBothAsked (chain_question old before) (chain_question new chain) → chain_question new chain ≢ None → IsChangedChain old new chain
+  other_chain before is_chain named differ asks = record {
+    is_chain = is_chain;
+    changed = λ other other_named same.
+        let one : before ≡ other = one_number before other (sym named ∙ other_named) in
+        let alike : chain_question old before ≡ chain_question new chain = ap (chain_question old) one ∙ same in
+        elim (chain_question new chain) as (λ question. chain_question new chain ≡ question → ⊥) [
+          | None ↦ asks
+          | Some question ↦ λ is. differ (asked_by_both before question is alike)
+        ] refl;
+  }
+
+  -- the steps for a chain that is answered anew: none where it is late
+  late_steps : (bounds : ChainAnswer) (task before after : ℕ) → bounds ≡ Late task → OnLate bounds (after ≡ before) → after ≡ before
+  late_steps bounds task before after late on_late = subst (λ answer. OnLate answer (after ≡ before)) late on_late
+
+  pub anew_steps : (bounds : ChainAnswer) (before now after : ℕ) → bounds ≡ chain_answer_of new (chain_at new chain) → now ≤ before + 1 → after ≤ now + 1
+      → OnLate bounds (now ≡ before) → OnLate bounds (after ≡ now) → (chain_question new chain ≢ None → IsChangedChain old new chain)
+      → AsksOne (IsChangedChain old new chain) 2 before after
+  anew_steps bounds before now after are one two late_one late_two changed =
+      elim (chain_question new chain) as (λ question. chain_question new chain ≡ question → AsksOne (IsChangedChain old new chain) 2 before after) [
+        | None ↦ λ none.
+            let late = late_where_not_asked new chain none in
+            inl (omega (arith, late_steps bounds late.0 before now (are ∙ late.1) late_one, late_steps bounds late.0 now after (are ∙ late.1) late_two))
+        | Some question ↦ λ asks. inr (changed (λ none. cc), omega (arith, one, two))
+      ] refl

@@ -1,0 +1,10 @@
+pub mod EqualGroups
+pub mod EqualBounds
+pub mod EqualChains
+pub mod EqualLengths
+pub mod EqualAnswers
+pub mod AskedSteps
+pub mod SameQuestions
+pub mod SameTasks
+pub mod KeptAnswers
+pub mod Reports

@@ -1,0 +1,4 @@
+pub mod Questions
+pub mod Changed
+pub mod SessionState
+pub mod Inner

@@ -1,0 +1,13 @@
+//! What the lengths of a chain depend on: equal questions have equal answers, so that a session over a model that is
+//! edited asks only what an edit changed.
+#![tactic(auto)]
+
+mod chains;
+mod comparing;
+pub mod laws;
+mod question;
+mod session;
+mod tasks;
+
+pub use question::{GroupQuestion, HopLine};
+pub use session::Session;

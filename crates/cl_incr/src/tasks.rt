@@ -1,0 +1,102 @@
+//! The answers for the tasks of an edited model: those that stood before where the questions are the same, and else asked
+//! anew. Times are in ticks.
+ghost use Rattle.std.specs.Prelude.{◌≡◌, ℕ, ◌<◌, ◌↔◌, length, IfOk, IsTrue};
+ghost use Rattle.cl_model.specs.declared.model.SystemModel.{SystemModel};
+ghost use Rattle.cl_model.specs.ByNumber.{task_at};
+ghost use Rattle.cl_runs.specs.SystemOf.{system_of};
+ghost use Rattle.cl_runs.specs.TaskTiming.{timing_at};
+ghost use Rattle.cl_bound.specs.Answers.{answer_to, answers_of};
+ghost use Rattle.cl_analyse.specs.Headline.{question_at};
+ghost use Rattle.cl_incr.specs.Changed.{IsChangedTask};
+ghost use Rattle.cl_incr.specs.Inner.Kept.{IsKeptTask};
+ghost use Rattle.cl_incr.specs.Inner.Asked.{AsksOne, AsksTasks};
+
+use cl_analyse::answer_question;
+use cl_bound::TaskAnswer;
+use cl_model::{List, TaskDef, ValidModel};
+use cl_resp::{Question, ask};
+use cl_time::{NoMemory, Steps};
+use std::alloc::Global;
+use std::sync::ledger::Ledger;
+
+/// A task of a valid model, given by its number.
+pub(crate) fn task_of(model: &ValidModel, task: u32) -> &TaskDef
+    requires { task < length model.now.tasks }
+    ensures { result.now ≡ task_at model.now task }
+{
+    &model.plain().tasks.as_slice()[task as usize]
+}
+
+/// Whether two questions of tasks of models are the same.
+fn is_same_question(one: &Question, other: &Question) -> bool
+    ensures { (old new : SystemModel) → (before task : ℕ) → one.now ≡ question_at old before
+        → other.now ≡ question_at new task → IsTrue result ↔ (one.now ≡ other.now) }
+{
+    one == other
+}
+
+/// The answer that stood before for a task, which has this question now. It is kept where the task of that name had the same
+/// question.
+fn kept_answer(
+    alloc: Global,
+    old: &ValidModel,
+    answers: &List<TaskAnswer>,
+    new: &ValidModel,
+    task: u32,
+    question: &Question,
+) -> Result<Option<TaskAnswer>, NoMemory>
+    requires answers { answers.now ≡ answers_of (system_of old.now) }
+    requires task { task < length new.now.tasks }
+    requires question { question.now ≡ question_at new.now task }
+    ensures { IfOk result (IsKeptTask old.now new.now task) }
+{
+    let Some(before) = old.task_named(&task_of(new, task).name) else {
+        return Ok(None);
+    };
+    let question_before = ask(alloc, old, before)?;
+    if is_same_question(&question_before, question) {
+        Ok(Some(answers.as_slice()[before as usize]))
+    } else {
+        Ok(None)
+    }
+}
+
+/// The answer for a task of the new model, which counts a step where its question is changed.
+fn answer_task<L: Ledger>(
+    alloc: Global,
+    old: &ValidModel,
+    answers: &List<TaskAnswer>,
+    new: &ValidModel,
+    task: u32,
+    steps: &mut Steps<L>,
+) -> Result<TaskAnswer, NoMemory>
+    requires answers { answers.now ≡ answers_of (system_of old.now) }
+    requires task { task < length new.now.tasks }
+    ensures answer { IfOk result (λ answer. answer ≡ answer_to (system_of new.now) (timing_at (system_of new.now) task)) }
+    ensures steps { AsksOne (IsChangedTask old.now new.now task) 1 steps.old steps.new }
+{
+    let question = ask(alloc, new, task)?;
+    match kept_answer(alloc, old, answers, new, task, &question)? {
+        Some(kept) => Ok(kept),
+        None => Ok(answer_question(&question, steps)),
+    }
+}
+
+/// The answers for all tasks of the new model, in file order. Each changed question counts a step.
+pub(crate) fn answer_tasks<L: Ledger>(
+    alloc: Global,
+    old: &ValidModel,
+    answers: &List<TaskAnswer>,
+    new: &ValidModel,
+    steps: &mut Steps<L>,
+) -> Result<List<TaskAnswer>, NoMemory>
+    requires { answers.now ≡ answers_of (system_of old.now) }
+    ensures answers { IfOk result (λ answers. answers ≡ answers_of (system_of new.now)) }
+    ensures steps { AsksTasks old.now new.now (length new.now.tasks) steps.old steps.new }
+{
+    let mut new_answers = List::new(alloc);
+    for task in 0..new.tasks() {
+        new_answers.push(answer_task(alloc, old, answers, new, task, steps)?)?;
+    }
+    Ok(new_answers)
+}

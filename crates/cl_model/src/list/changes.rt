@@ -1,0 +1,27 @@
+//! Changes of a list in place.
+ghost use Rattle.std.specs.Prelude.{◌≡◌, ◌<◌, length, slice_index_or, remove, Some, slice_get};
+ghost use Rattle.std.specs.Borrow.{sem};
+
+use crate::list::List;
+
+impl<T> List<T> {
+    ghost use Rattle.cl_model.specs.ListLends.{lends_item};
+
+    /// The item at a place, counted from 0, to be changed. The others stay.
+    pub fn item_mut(&mut self, place: usize) -> &mut T
+        requires { place < length self.old }
+        ensures* writes_back { sem 𝓛 (lends_item T.row self.entry place result) }
+        ensures value { slice_get self.old place ≡ Some result.now }
+    {
+        &mut self.items[place]
+    }
+
+    /// Takes the item at a place, counted from 0, out of the list. The others keep their order.
+    pub fn remove(&mut self, place: usize) -> T
+        requires { place < length self.old }
+        ensures item { slice_get self.old place ≡ Some result }
+        ensures others { self.new ≡ remove self.old place }
+    {
+        self.items.remove(place)
+    }
+}

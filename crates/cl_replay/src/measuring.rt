@@ -1,0 +1,28 @@
+//! What is measured of all chains of a model.
+ghost use Rattle.std.specs.Prelude.{map, IfOk};
+ghost use Rattle.cl_runs.specs.SystemOf.{system_of};
+ghost use Rattle.cl_runs.specs.Legal.{IsLegal};
+ghost use Rattle.cl_chain.specs.JobChains.{measured_of};
+ghost use Rattle.cl_replay.specs.Replay.{AreMeasured};
+
+use cl_chain::{Measured, measure};
+use cl_model::{List, ValidModel};
+use cl_run_data::RunData;
+use cl_time::NoMemory;
+use std::alloc::Global;
+
+/// What is measured of each chain in a run, in file order.
+pub(crate) fn measure_all(
+    alloc: Global,
+    model: &ValidModel,
+    run: &RunData,
+) -> Result<List<Measured>, NoMemory>
+    requires { IsLegal (system_of model.now) run.now }
+    ensures { IfOk result (λ measured. AreMeasured model.now run.now (map measured_of measured)) }
+{
+    let mut measured = List::new(alloc);
+    for chain in 0..model.chains() {
+        measured.push(measure(alloc, model, run, chain)?)?;
+    }
+    Ok(measured)
+}

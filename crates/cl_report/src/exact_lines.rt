@@ -1,0 +1,116 @@
+//! The lines of exact lengths.
+ghost use Rattle.std.specs.Prelude.{◌≡◌, ◌<◌, ◌++◌, length, slice_index, OnOk};
+ghost use Rattle.cl_model.specs.Groups.{groups_at};
+ghost use Rattle.cl_runs.specs.SystemOf.{system_of};
+ghost use Rattle.cl_exact.specs.ExactLengths.{AreExactLengths};
+ghost use Rattle.cl_analyse.specs.declared.findings.ExactAnswer.TheVariants.{Exact};
+ghost use Rattle.cl_analyse.specs.ChainAnswers.{exact_answer_at};
+ghost use Rattle.cl_analyse.specs.Findings.{AreFindings};
+ghost use Rattle.cl_report.specs.Report.{kind_word, job_words, jobs_words, witness_line, past_line, exact_lines};
+
+use crate::lines::{put_chain_name, put_task_name};
+use cl_analyse::{ExactAnswer, Findings};
+use cl_exact::{ExactLengths, Witness};
+use cl_model::{LengthKind, ValidModel};
+use cl_text::Text;
+use cl_time::NoMemory;
+
+/// Puts the lines of the exact lengths of a chain.
+pub(crate) fn put_exact(
+    text: &mut Text,
+    model: &ValidModel,
+    findings: &Findings,
+    chain: u32,
+) -> Result<(), NoMemory>
+    requires found { AreFindings model.now findings.now }
+    requires within { chain < length model.now.chains }
+    ensures { OnOk result
+        (text.new ≡ text.old ++ exact_lines model.now chain (exact_answer_at findings.now.exacts chain)) }
+{
+    match &findings.exacts.as_slice()[chain as usize] {
+        ExactAnswer::Exact(lengths) => put_witnesses(text, model, chain, lengths),
+        ExactAnswer::Past { limit } => put_past(text, model, chain, *limit),
+        ExactAnswer::NotTimed | ExactAnswer::ChainLate => Ok(()),
+    }
+}
+
+/// Puts the lines of the three exact lengths of a chain.
+fn put_witnesses(
+    text: &mut Text,
+    model: &ValidModel,
+    chain: u32,
+    lengths: &ExactLengths,
+) -> Result<(), NoMemory>
+    requires within { chain < length model.now.chains }
+    requires lengths { AreExactLengths (system_of model.now) (groups_at model.now chain) lengths.now }
+    ensures { OnOk result (text.new ≡ text.old ++ exact_lines model.now chain (Exact lengths.now)) }
+{
+    put_witness(text, model, chain, LengthKind::Reaction, lengths.reaction())?;
+    put_witness(text, model, chain, LengthKind::Age, lengths.age())?;
+    put_witness(text, model, chain, LengthKind::Reduced, lengths.reduced())
+}
+
+/// Puts the line of an exact length of a chain.
+fn put_witness(
+    text: &mut Text,
+    model: &ValidModel,
+    chain: u32,
+    kind: LengthKind,
+    witness: &Witness,
+) -> Result<(), NoMemory>
+    requires within { chain < length model.now.chains }
+    requires jobs { length witness.now.jobs ≡ length (groups_at model.now chain) }
+    ensures { OnOk result (text.new ≡ text.old ++ witness_line model.now chain kind witness.now) }
+{
+    text.put(b"exact ")?;
+    put_chain_name(text, model, chain)?;
+    text.put(b" ")?;
+    text.put(kind_word(kind))?;
+    text.put(b" ")?;
+    text.put_number(witness.length)?;
+    text.put(b" from ")?;
+    text.put_number(witness.from)?;
+    text.put(b" to ")?;
+    text.put_number(witness.to)?;
+    text.put(b" jobs")?;
+    put_jobs(text, model, chain, witness.jobs.as_slice())?;
+    text.put(b"\n")
+}
+
+/// Puts the jobs of a chain, one for each group.
+fn put_jobs(text: &mut Text, model: &ValidModel, chain: u32, jobs: &[u64]) -> Result<(), NoMemory>
+    requires within { chain < length model.now.chains }
+    requires jobs { length jobs.now ≡ length (groups_at model.now chain) }
+    ensures { OnOk result (text.new ≡ text.old ++ jobs_words model.now chain jobs.now) }
+{
+    for place in 0..model.group_count(chain) {
+        text.put(b" ")?;
+        put_task_name(text, model, model.group(chain, place).task)?;
+        text.put(b":")?;
+        text.put_number(jobs[place as usize])?;
+    }
+    Ok(())
+}
+
+/// Puts the line of a chain whose hyperperiod exceeds a limit.
+fn put_past(text: &mut Text, model: &ValidModel, chain: u32, limit: u64) -> Result<(), NoMemory>
+    requires { chain < length model.now.chains }
+    ensures { OnOk result (text.new ≡ text.old ++ past_line model.now chain limit) }
+{
+    text.put(b"exact ")?;
+    put_chain_name(text, model, chain)?;
+    text.put(b" past ")?;
+    text.put_number(limit)?;
+    text.put(b"\n")
+}
+
+/// The word of a kind of length.
+pub(crate) fn kind_word(kind: LengthKind) -> &'static [u8]
+    ensures { result.now ≡ kind_word kind }
+{
+    match kind {
+        LengthKind::Reaction => b"reaction",
+        LengthKind::Age => b"age",
+        LengthKind::Reduced => b"reduced",
+    }
+}

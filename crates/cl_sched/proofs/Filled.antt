@@ -1,0 +1,136 @@
+-- Filling the entries of a core: what is filled stays what is scheduled, as further entries come.
+use Rattle.std.proofs.Common.{◌≡◌, ◌≢◌, ℕ, ◌+◌, ◌-◌, ◌<◌, ◌≤◌, inl, inr, Option, None, List, [], ◌++◌, replicate, length, get_or, set, take, refl, sym, ap, ◌∙◌, subst, arith, length-append}
+use Rattle.std.proofs.lemmas.Bool.{cases_lt, cases_eq}
+use Rattle.std.proofs.lemmas.List.{length-replicate, length-set, get_or-set_same, get_or-set_other, get_or_append_left, get_or-append_right, get_or-replicate, take-append-le, take-replicate}
+use Rattle.std.proofs.Math.Seq.{take-append-add}
+use Rattle.cl_runs.specs.TaskTiming.{System}
+use Rattle.cl_runs.specs.declared.job.JobTable.{JobTable}
+use Rattle.cl_runs.specs.Run.{Run, core_entries}
+use Rattle.cl_runs.specs.Legal.{IsScheduled}
+use Rattle.cl_sched.specs.declared.core_progress.CoreProgress.{CoreProgress}
+use Rattle.cl_sched.specs.CoreProgress.{ticks_of, IsReached}
+use Rattle.cl_sched.specs.Filling.{AreScheduled, IsFilled, HasFilled}
+
+module _ (system : System) (table : JobTable) (core : ℕ) (entries : List (Option ℕ)) (n : ℕ) (who : Option ℕ) where
+  abbrev longer : List (Option ℕ)
+  longer = entries ++ replicate n who
+
+  first_entries : (tick : ℕ) → length entries ≤ tick → tick < length entries + n → take tick longer ≡ entries ++ replicate (tick - length entries) who
+  first_entries tick after before =
+      let m : length entries + (tick - length entries) ≡ tick = omega (arith, after) in
+      ap (λ k. take k longer) (sym m) ∙ take-append-add entries (replicate n who) (tick - length entries)
+      ∙ ap (λ l. entries ++ l) (take-replicate (tick - length entries) n who (omega (arith, before)))
+
+  further_entry : (tick : ℕ) → length entries ≤ tick → tick < length entries + n → get_or longer tick None ≡ who
+  further_entry tick after before = get_or-append_right entries (replicate n who) (length entries) tick None refl after
+      ∙ get_or-replicate n (tick - length entries) who None (omega (arith, after, before))
+
+  -- further entries that are scheduled
+  pub scheduled_longer : AreScheduled system table core entries
+      → ((tick : ℕ) → length entries ≤ tick → tick < length entries + n
+      → IsScheduled system table (ticks_of (entries ++ replicate (tick - length entries) who)) tick core who)
+      → AreScheduled system table core longer
+  scheduled_longer so_far further tick h = elim (cases_lt tick (length entries)) [
+    | inl old ↦ subst (λ e. IsScheduled system table (ticks_of (take tick longer)) tick core e) (sym (get_or_append_left entries (replicate n who) None tick old))
+        (subst (λ (l : List (Option ℕ)). IsScheduled system table (ticks_of l) tick core (get_or entries tick None))
+        (sym (take-append-le tick entries (replicate n who) (omega (arith, old)))) (so_far tick old))
+    | inr new ↦
+        let before : tick < length entries + n = omega (arith, h, length-append entries (replicate n who), length-replicate n who) in
+        subst (λ e. IsScheduled system table (ticks_of (take tick longer)) tick core e) (sym (further_entry tick new before))
+        (subst (λ (l : List (Option ℕ)). IsScheduled system table (ticks_of l) tick core who) (sym (first_entries tick new before)) (further tick new before))
+  ]
+
+-- ---- a core of a run, filled up to where it is reached
+
+pub record IsFilledTo (system : System) (core : ℕ) (start run : Run) (reached : CoreProgress) : Type 0 where
+  pub is_core : core < length start.entries
+  pub table : run.table ≡ start.table
+  pub cores : length run.entries ≡ length start.entries
+  pub others : (other : ℕ) → other ≢ core → core_entries run other ≡ core_entries start other
+  pub reached_is : IsReached system run.table core (core_entries run core) reached
+  pub scheduled : AreScheduled system run.table core (core_entries run core)
+
+pub filled_at_start : (system : System) (core : ℕ) (run : Run) (reached : CoreProgress) → core < length run.entries
+    → IsReached system run.table core (core_entries run core) reached → AreScheduled system run.table core (core_entries run core)
+    → IsFilledTo system core run run reached
+filled_at_start system core run reached is at scheduled = record {
+  is_core = is;
+  table = refl;
+  cores = refl;
+  others = λ other apart. refl;
+  reached_is = at;
+  scheduled = scheduled;
+}
+
+module _ (system : System) (core : ℕ) (start run : Run) (reached : CoreProgress) (filled : IsFilledTo system core start run reached) where
+  -- filled further
+  pub filled_further : (n until : ℕ) (who : Option ℕ) (new : Run) (moved : CoreProgress)
+      → new ≡ record run { entries = set run.entries core (core_entries run core ++ replicate n who) }
+      → until ≡ reached.tick + n
+      → ((tick : ℕ) → reached.tick ≤ tick → tick < until
+      → IsScheduled system run.table (ticks_of (core_entries run core ++ replicate (tick - reached.tick) who)) tick core who)
+      → IsReached system run.table core (core_entries run core ++ replicate n who) moved
+      → IsFilledTo system core start new moved
+  filled_further n until who new moved is end scheduled at =
+      let entries = core_entries run core in
+      let place : core < length run.entries = omega (arith, filled.is_core, filled.cores) in
+      let tick : reached.tick ≡ length entries = filled.reached_is.tick in
+      let table_is : new.table ≡ run.table = ap (λ (r : Run). r.table) is in
+      let own : core_entries new core ≡ entries ++ replicate n who
+      = ap (λ (r : Run). core_entries r core) is ∙ get_or-set_same run.entries core (entries ++ replicate n who) [] place in
+      let further : AreScheduled system run.table core (entries ++ replicate n who)
+      = scheduled_longer system run.table core entries n who filled.scheduled
+      (λ t after before. subst (λ m. IsScheduled system run.table (ticks_of (entries ++ replicate (t - m) who)) t core who) tick
+      (scheduled t (omega (arith, tick, after)) (omega (arith, tick, before, end)))) in
+      record {
+        is_core = filled.is_core;
+        table = table_is ∙ filled.table;
+        cores = ap (λ (r : Run). length r.entries) is ∙ length-set run.entries core (entries ++ replicate n who) ∙ filled.cores;
+        others = λ other apart. ap (λ (r : Run). core_entries r other) is
+            ∙ get_or-set_other run.entries core other (entries ++ replicate n who) [] apart ∙ filled.others other apart;
+        reached_is = subst (λ (t : JobTable). IsReached system t core (core_entries new core) moved) (sym table_is)
+            (subst (λ (l : List (Option ℕ)). IsReached system run.table core l moved) (sym own) at);
+        scheduled = subst (λ (t : JobTable). AreScheduled system t core (core_entries new core)) (sym table_is)
+            (subst (λ (l : List (Option ℕ)). AreScheduled system run.table core l) (sym own) further);
+      }
+
+  -- and filled to the end
+  pub filled_to_end : reached.tick ≡ start.table.ticks → HasFilled system core start run
+  filled_to_end end = record {
+    table = filled.table;
+    cores = filled.cores;
+    others = filled.others;
+    filled = record {
+      ticks = sym filled.reached_is.tick ∙ end ∙ ap (λ (t : JobTable). t.ticks) (sym filled.table);
+      scheduled = filled.scheduled;
+    };
+  }
+
+-- ---- one core after the other
+
+-- the cores below n are filled, and the others are empty
+pub record AreFilledBelow (system : System) (n : ℕ) (start run : Run) : Type 0 where
+  pub table : run.table ≡ start.table
+  pub cores : length run.entries ≡ length start.entries
+  pub filled : (core : ℕ) → core < n → IsFilled system run core
+  pub empty : (core : ℕ) → n ≤ core → core_entries run core ≡ []
+
+filled_along : (system : System) (core : ℕ) (old new : Run) → new.table ≡ old.table → core_entries new core ≡ core_entries old core
+    → IsFilled system old core → IsFilled system new core
+filled_along system core old new table entries filled = record {
+  ticks = ap length entries ∙ filled.ticks ∙ ap (λ (t : JobTable). t.ticks) (sym table);
+  scheduled = subst (λ (t : JobTable). AreScheduled system t core (core_entries new core)) (sym table)
+      (subst (λ (l : List (Option ℕ)). AreScheduled system old.table core l) (sym entries) filled.scheduled);
+}
+
+pub one_more : (system : System) (n : ℕ) (start run new : Run) → AreFilledBelow system n start run → HasFilled system n run new
+    → AreFilledBelow system (n + 1) start new
+one_more system n start run new below has = record {
+  table = has.table ∙ below.table;
+  cores = has.cores ∙ below.cores;
+  filled = λ core h. elim (cases_eq core n) [
+    | inl same ↦ subst (λ c. IsFilled system new c) (sym same) has.filled
+    | inr apart ↦ filled_along system core run new has.table (has.others core apart) (below.filled core (omega (arith, h, apart)))
+  ];
+  empty = λ core h. has.others core (λ same. omega (arith, h, same)) ∙ below.empty core (omega (arith, h));
+}

@@ -1,0 +1,42 @@
+-- The jobs of a lawful table of a sound system: each takes time, and they are released in order.
+use Rattle.std.proofs.Common.{◌≡◌, ℕ, ◌<◌, ◌≤◌, inl, inr, length, ap, arith}
+use Rattle.std.proofs.lemmas.Bool.{cases_lt}
+use Rattle.cl_runs.specs.TaskTiming.{System, timing_at, IsSound}
+use Rattle.cl_runs.specs.declared.job.JobTable.{JobTable}
+use Rattle.cl_runs.specs.Table.{no_job, job_at, table_jobs, HasTimes, IsLawful}
+use Rattle.cl_runs.proofs.ArrivalFacts as facts
+use Rattle.cl_runs.proofs.LawfulJobs.{times_length, times_positive}
+use Rattle.cl_sched.specs.Progress.{TakeTime}
+
+module _ (system : System) (sound : IsSound system) (table : JobTable) (lawful : IsLawful system table) (i : ℕ) (is : i < length system.tasks) where
+  times : (k : ℕ) → k < length (table_jobs table i) → HasTimes (timing_at system i) (job_at (table_jobs table i) k)
+  times k h = (lawful.jobs i is).times k no_job h
+
+  -- a job has one time per runnable
+  pub places : (k : ℕ) → k < length (table_jobs table i) → length (job_at (table_jobs table i) k).times ≡ length (timing_at system i).ranges
+  places k h = times_length (timing_at system i) (job_at (table_jobs table i) k) (times k h)
+
+  pub take_time : TakeTime (table_jobs table i)
+  take_time = record {
+    some = λ k h. omega (arith, places k h, (sound.tasks i is).some_runnable);
+    ticks = λ k p h place. times_positive system.cores (timing_at system i) (sound.tasks i is) (job_at (table_jobs table i) k) (times k h) p
+        (omega (arith, place, places k h));
+  }
+
+  -- no job is released after a later one
+  pub in_order : (k l : ℕ) → k ≤ l → l < length (table_jobs table i)
+      → (job_at (table_jobs table i) k).release ≤ (job_at (table_jobs table i) l).release
+  in_order k l h below =
+      let task = sound.tasks i is in
+      let follow = (lawful.jobs i is).arrivals in
+      elim (cases_lt k l) [
+        | inl earlier ↦ omega (
+          arith,
+          facts.released_within (timing_at system i).pattern table.ticks (table_jobs table i) follow k (omega arith),
+          task.above_jitter,
+          task.within_distance,
+          facts.arrivals_apart (timing_at system i).pattern task.pattern table.ticks (table_jobs table i) follow k l earlier below,
+          facts.released_late (timing_at system i).pattern table.ticks (table_jobs table i) follow l below,
+        )
+        | inr same ↦ let one : k ≡ l = omega arith in omega (arith, ap (λ n. (job_at (table_jobs table i) n).release) one)
+      ]

@@ -1,0 +1,10 @@
+pub mod LawfulTables
+pub mod Standing
+pub mod CoreLists
+pub mod Steady
+pub mod ModelJobs
+pub mod Begun
+pub mod Advanced
+pub mod Executing
+pub mod Filled
+pub mod FullCores

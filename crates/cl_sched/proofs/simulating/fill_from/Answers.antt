@@ -1,0 +1,42 @@
+use Rattle.std.proofs.Common.{◌≡◌, ◌-◌, ◌++◌, replicate, ap, sym, ◌∙◌, subst, arith}
+use Rattle.cl_runs.specs.declared.job.JobTable.{JobTable}
+use Rattle.cl_runs.specs.Run.{Run, core_entries}
+use Rattle.cl_runs.specs.SystemOf.{system_of}
+use Rattle.cl_runs.specs.Table.{IsLawful}
+use Rattle.cl_runs.proofs.ModelSystem.{system_sound}
+use Rattle.cl_sched.specs.CoreProgress.{IsReached}
+use Rattle.cl_sched.proofs.Filled.{filled_further}
+use Rattle.cl_sched.proofs.simulating.fill_from.Goals as goal
+
+pub next-next-requires-clause-underway : goal.next-next-requires-clause-underway
+next-next-requires-clause-underway c = record {
+  system = system_of c.args.model.now;
+  table = c.events.run.table;
+  sound = system_sound c.args.model.now c.plain-plain.ensures.valid;
+  lawful = subst (λ (t : JobTable). IsLawful (system_of c.args.model.now) t) (sym c.events.invariant.filled.table) c.requires.lawful;
+  is = record { core = c.args.core; entries = core_entries c.events.run c.args.core; is = c.events.invariant.filled.reached_is };
+}
+
+pub events-preserved : goal.events-preserved
+events-preserved c =
+    let system = system_of c.args.model.now in
+    let filled = c.events.invariant.filled in
+    let run = c.events.run in
+    let next = c.next-next.result in
+    let n = next.until - c.events.reached.tick in
+    let entries = core_entries run c.args.core in
+    let lawful : IsLawful system run.table = subst (λ (t : JobTable). IsLawful system t) (sym filled.table) c.requires.lawful in
+    let table : c.table-in-events.result.now ≡ run.table = c.table-in-events.ensures ∙ ap (λ (r : Run). r.table) c.in_ok-push.ensures.ok in
+    let moved : IsReached system run.table c.args.core (entries ++ replicate n next.who) c.advance.new.self
+    = subst (λ (t : JobTable). IsReached system t c.args.core (entries ++ replicate n next.who) c.advance.new.self) table
+    (c.advance.ensures.reached c.args.core entries
+    (subst (λ (t : JobTable). IsReached system t c.args.core entries c.events.reached) (sym table) filled.reached_is)) in
+    record {
+      filled = filled_further system c.args.core c.args.run.now run c.events.reached filled n next.until next.who c.push.new.self c.advance.new.self
+          c.in_ok-push.ensures.ok (omega (arith, c.next-next.ensures.next.some))
+          (λ t after before. c.next-next.ensures.scheduled system run.table c.args.core entries
+          (system_sound c.args.model.now c.plain-plain.ensures.valid) lawful filled.reached_is t after before)
+          moved;
+      end = c.events.invariant.end;
+      within = omega (arith, c.advance.ensures.tick, c.next-next.ensures.within);
+    }

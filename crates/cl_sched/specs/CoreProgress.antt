@@ -1,0 +1,137 @@
+-- How far the tasks of a core have come, and what the core does next. Times are in ticks.
+use Rattle.std.specs.Prelude.{◌≡◌, ◌≢◌, ◌↔◌, ℕ, Option, Some, None, ◌+◌, ◌^◌, ◌<◌, ◌≤◌, List, length, slice_index_or, count_by}
+use Rattle.std.specs.Option.{option_map}
+use Rattle.cl_model.specs.declared.model.SystemModel.{SystemModel}
+use Rattle.cl_model.specs.ByNumber.{task_at}
+use Rattle.cl_runs.specs.TaskTiming.{System, timing_at, IsSound}
+use Rattle.cl_runs.specs.declared.job.JobTable.{JobTable}
+use Rattle.cl_runs.specs.Table.{table_jobs, IsLawful}
+use Rattle.cl_runs.specs.Run.{is_task}
+use Rattle.cl_sched.specs.declared.progress.Progress.{Progress}
+use Rattle.cl_sched.specs.declared.core_progress.CoreProgress.{CoreProgress}
+use Rattle.cl_sched.specs.declared.core_progress.Next.{Next}
+use Rattle.cl_sched.specs.Progress.{IsAtRunnable, HasComeTo, IsHolding}
+
+-- the ticks of a task among entries of its core
+abbrev pub ticks_of : List (Option ℕ) → (task : ℕ) → ℕ
+ticks_of entries task = count_by (is_task task) entries
+
+-- what stands past the last task of a core
+unfoldable pub no_progress : Progress
+no_progress = record { task = 0; priority = 0; job = 0; place = 0; left = 0; release = 0 }
+
+abbrev pub progress_at : List Progress → (index : ℕ) → Progress
+progress_at tasks index = slice_index_or tasks index no_progress
+
+-- a task of a core with these entries so far, and how far it has come
+pub record IsOfCore (system : System) (table : JobTable) (core : ℕ) (entries : List (Option ℕ)) (progress : Progress)
+    : Type 0 where
+  pub is_task : progress.task < length system.tasks
+  pub on_core : (timing_at system progress.task).core ≡ core
+  pub priority : progress.priority ≡ (timing_at system progress.task).priority
+  pub has_come : HasComeTo (table_jobs table progress.task) (ticks_of entries progress.task) progress
+
+-- a task of a core is held
+abbrev pub Holds : System → JobTable → Progress → Type 0
+Holds system table progress = IsHolding (timing_at system progress.task) (table_jobs table progress.task) progress
+
+-- a task with some number of executed ticks has come so far
+abbrev pub HasCome : JobTable → Progress → Type 0
+HasCome table progress = (done : ℕ) × HasComeTo (table_jobs table progress.task) done progress
+
+-- and a job of it is left
+abbrev pub HasJobLeft : JobTable → Progress → Type 0
+HasJobLeft table progress = (done : ℕ) × IsAtRunnable (table_jobs table progress.task) done progress
+
+-- where a task of a core stands in a list
+pub record IsListed (task : ℕ) (tasks : List Progress) : Type 0 where
+  pub index : ℕ
+  pub within : index < length tasks
+  pub is : (progress_at tasks index).task ≡ task
+
+-- a list has each task of a core once, with how far it has come where these are the entries so far
+pub record AreOfCore (system : System) (table : JobTable) (core : ℕ) (entries : List (Option ℕ)) (tasks : List Progress)
+    : Type 0 where
+  pub each : (index : ℕ) → index < length tasks → IsOfCore system table core entries (progress_at tasks index)
+  pub all : (task : ℕ) → task < length system.tasks → (timing_at system task).core ≡ core → IsListed task tasks
+  pub once : (one other : ℕ) → one < length tasks → other < length tasks
+      → (progress_at tasks one).task ≡ (progress_at tasks other).task → one ≡ other
+
+-- the held task of a core is the one at an index, or none is held
+pub record IsHeldAt (system : System) (table : JobTable) (tasks : List Progress) (held : Option ℕ) : Type 0 where
+  pub within : (index : ℕ) → held ≡ Some index → index < length tasks
+  pub holds : (index : ℕ) → held ≡ Some index → Holds system table (progress_at tasks index)
+  pub alone : (index : ℕ) → index < length tasks → Holds system table (progress_at tasks index) → held ≡ Some index
+
+-- how far the tasks of a core have come where these are the entries so far
+pub record IsReached (system : System) (table : JobTable) (core : ℕ) (entries : List (Option ℕ)) (reached : CoreProgress)
+    : Type 0 where
+  pub tick : reached.tick ≡ length entries
+  pub tasks : AreOfCore system table core entries reached.tasks.items
+  pub held : IsHeldAt system table reached.tasks.items reached.held
+
+-- a task has a higher priority than the best so far, if there is one
+abbrev pub IsBetter : List Progress → (best : Option ℕ) → (index : ℕ) → Type 0
+IsBetter tasks best index = (other : ℕ) → best ≡ Some other
+    → (progress_at tasks other).priority < (progress_at tasks index).priority
+
+-- of the first n tasks that are released at a tick, the one of highest priority, or none where none is released
+abbrev pub IsBestOf : List Progress → (n tick : ℕ) → Option ℕ → Type 0
+IsBestOf tasks n tick None = (index : ℕ) → index < n → tick < (progress_at tasks index).release
+IsBestOf tasks n tick (Some best) = (best < n) × ((progress_at tasks best).release ≤ tick)
+    × ((index : ℕ) → index < n → (progress_at tasks index).release ≤ tick
+    → (progress_at tasks index).priority ≤ (progress_at tasks best).priority)
+
+-- none of the first n tasks is released after a tick and before an event
+abbrev pub AreSteadyOf : List Progress → (n tick event : ℕ) → Type 0
+AreSteadyOf tasks n tick event = (index : ℕ) → index < n → tick < (progress_at tasks index).release
+    → event ≤ (progress_at tasks index).release
+
+-- what a core does from a tick on, and until when: the held task goes on, and where none is held, the released one of
+-- highest priority does, until a further task is released
+abbrev pub IsChoice : List Progress → (held : Option ℕ) → (tick : ℕ) → (chosen : Option ℕ) → (until : ℕ) → Type 0
+IsChoice tasks (Some held) tick chosen until = chosen ≡ Some held
+IsChoice tasks None tick chosen until = IsBestOf tasks (length tasks) tick chosen
+    × AreSteadyOf tasks (length tasks) tick until
+
+-- what a core does next, as long as no event comes and the runnable isn't finished
+pub record IsNext (reached : CoreProgress) (next : Next) : Type 0 where
+  pub choice : IsChoice reached.tasks.items reached.held reached.tick next.chosen next.until
+  pub who : next.who ≡ option_map (λ index. (progress_at reached.tasks.items index).task) next.chosen
+  pub some : reached.tick < next.until
+  pub fits : next.until < 2 ^ 64
+  pub in_list : (index : ℕ) → next.chosen ≡ Some index → index < length reached.tasks.items
+  pub within_left : (index : ℕ) → next.chosen ≡ Some index
+      → next.until ≤ reached.tick + (progress_at reached.tasks.items index).left
+
+-- a core is underway with a table: it is reached after some entries
+pub record IsUnderwayIn (system : System) (table : JobTable) (reached : CoreProgress) : Type 0 where
+  pub core : ℕ
+  pub entries : List (Option ℕ)
+  pub is : IsReached system table core entries reached
+
+-- with some table
+pub record IsUnderway (reached : CoreProgress) : Type 0 where
+  pub system : System
+  pub table : JobTable
+  pub sound : IsSound system
+  pub lawful : IsLawful system table
+  pub is : IsUnderwayIn system table reached
+
+-- how far a task has come at tick 0
+pub record IsUnbegun (model : SystemModel) (table : JobTable) (task : ℕ) (progress : Progress) : Type 0 where
+  pub task_is : progress.task ≡ task
+  pub priority : progress.priority ≡ (task_at model task).priority
+  pub has_come : HasComeTo (table_jobs table task) 0 progress
+
+-- the task at an index of a list has executed its runnable for so many ticks, and is the held one exactly where it holds
+pub record HasExecuted (system : System) (table : JobTable) (index ticks : ℕ) (old new : CoreProgress) : Type 0 where
+  pub tick : new.tick ≡ old.tick
+  pub as_many : length new.tasks.items ≡ length old.tasks.items
+  pub others : (other : ℕ) → other ≢ index → progress_at new.tasks.items other ≡ progress_at old.tasks.items other
+  pub task : (progress_at new.tasks.items index).task ≡ (progress_at old.tasks.items index).task
+  pub priority : (progress_at new.tasks.items index).priority ≡ (progress_at old.tasks.items index).priority
+  pub further : (done : ℕ)
+      → IsAtRunnable (table_jobs table (progress_at old.tasks.items index).task) done (progress_at old.tasks.items index)
+      → HasComeTo (table_jobs table (progress_at old.tasks.items index).task) (done + ticks) (progress_at new.tasks.items index)
+  pub held : (other : ℕ) → (new.held ≡ Some other) ↔ ((other ≡ index) × Holds system table (progress_at new.tasks.items index))

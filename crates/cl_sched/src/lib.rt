@@ -1,0 +1,10 @@
+//! The simulator: the legal run of a job table, from event to event.
+#![tactic(auto)]
+
+mod core_progress;
+mod progress;
+mod simulating;
+
+pub use core_progress::{CoreProgress, Next};
+pub use progress::Progress;
+pub use simulating::simulate;

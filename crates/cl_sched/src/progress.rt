@@ -1,0 +1,98 @@
+//! How far a task has come with its jobs, which it executes in order. Times are in ticks.
+ghost use Rattle.std.specs.Prelude.{◌≡◌, ℕ, ◌+◌, ◌<◌, ◌≤◌, length};
+ghost use Rattle.cl_runs.specs.Table.{job_at, table_jobs};
+ghost use Rattle.cl_runs.specs.Work.{work_before, work_through};
+ghost use Rattle.cl_sched.specs.Progress.{TakeTime, IsAtRunnable, HasComeTo};
+
+use cl_runs::{Job, JobTable};
+
+/// How far a task has come: the runnable of its first unfinished job that it executes next, and what is left of that.
+#[derive(Clone, Copy, Debug, PartialEq, Eq)]
+pub struct Progress {
+    pub task: u32,
+    pub priority: u64,
+    /// The number of the first unfinished job, or the number of jobs where all have finished.
+    pub job: usize,
+    /// The place of the first unfinished runnable of that job.
+    pub place: usize,
+    /// How many ticks of that runnable are left.
+    pub left: u64,
+    /// When that job is released, and the greatest number where all jobs have finished.
+    pub release: u64,
+}
+
+/// The jobs of a task.
+pub fn jobs_of(table: &JobTable, task: u32) -> &[Job]
+    requires { task < length table.now.jobs }
+    ensures { result.now ≡ table_jobs table.now task }
+{
+    table.jobs.as_slice()[task as usize].as_slice()
+}
+
+impl Progress {
+    /// Where a task stands before a job.
+    pub(crate) fn before(jobs: &[Job], task: u32, priority: u64, job: usize) -> Progress
+        requires take_time { TakeTime jobs.now }
+        requires job { job ≤ length jobs.now }
+        ensures task { result.task ≡ task }
+        ensures priority { result.priority ≡ priority }
+        ensures begins { HasComeTo jobs.now (work_before jobs.now job 0) result }
+    {
+        match jobs.get(job) {
+            Some(next) => Progress {
+                task,
+                priority,
+                job,
+                place: 0,
+                left: next.times.as_slice()[0],
+                release: next.release,
+            },
+            None => Progress {
+                task,
+                priority,
+                job,
+                place: 0,
+                left: 0,
+                release: u64::MAX,
+            },
+        }
+    }
+
+    /// Where it stands where the runnable has finished.
+    fn after_runnable(self, jobs: &[Job]) -> Progress
+        requires take_time { TakeTime jobs.now }
+        requires at { (done : ℕ) × IsAtRunnable jobs.now done self }
+        ensures task { result.task ≡ self.task }
+        ensures priority { result.priority ≡ self.priority }
+        ensures next { HasComeTo jobs.now (work_through jobs.now self.job self.place) result }
+    {
+        let times = jobs[self.job].times.as_slice();
+        let place = self.place + 1;
+        if place < times.len() {
+            return Progress {
+                place,
+                left: times[place],
+                ..self
+            };
+        }
+        Progress::before(jobs, self.task, self.priority, self.job + 1)
+    }
+
+    /// Where it stands after so many further ticks of the runnable.
+    pub(crate) fn after(self, jobs: &[Job], ticks: u64) -> Progress
+        requires take_time { TakeTime jobs.now }
+        requires at { (done : ℕ) × IsAtRunnable jobs.now done self }
+        requires ticks { ticks ≤ self.left }
+        ensures task { result.task ≡ self.task }
+        ensures priority { result.priority ≡ self.priority }
+        ensures further { (done : ℕ) → IsAtRunnable jobs.now done self → HasComeTo jobs.now (done + ticks) result }
+    {
+        if ticks < self.left {
+            return Progress {
+                left: self.left - ticks,
+                ..self
+            };
+        }
+        self.after_runnable(jobs)
+    }
+}

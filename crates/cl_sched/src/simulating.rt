@@ -1,0 +1,89 @@
+//! The legal run of a job table. Times are in ticks.
+ghost use Rattle.std.specs.Prelude.{◌≡◌, ◌<◌, ◌≤◌, [], length, replicate, IfOk, OnOk};
+ghost use Rattle.cl_runs.specs.SystemOf.{system_of};
+ghost use Rattle.cl_runs.specs.Table.{IsLawful};
+ghost use Rattle.cl_runs.specs.Run.{core_entries};
+ghost use Rattle.cl_runs.specs.Legal.{IsLegal};
+ghost use Rattle.cl_sched.specs.Continuing.{HasContinuations};
+ghost use Rattle.cl_sched.specs.CoreProgress.{IsReached};
+ghost use Rattle.cl_sched.specs.Filling.{AreScheduled, HasFilled};
+
+use crate::core_progress::CoreProgress;
+use cl_model::ValidModel;
+use cl_run_data::RunData;
+use cl_runs::JobTable;
+use cl_time::NoMemory;
+use std::alloc::Global;
+
+/// Fills the entries of a core to the end of the run, from event to event.
+fn fill_from(
+    model: &ValidModel,
+    run: &mut RunData,
+    core: u32,
+    reached: &mut CoreProgress,
+) -> Result<(), NoMemory>
+    requires lawful { IsLawful (system_of model.now) run.old.table }
+    requires core { core < length run.old.entries }
+    requires reached { IsReached (system_of model.now) run.old.table core (core_entries run.old core) reached.old }
+    requires scheduled { AreScheduled (system_of model.now) run.old.table core (core_entries run.old core) }
+    requires within { reached.old.tick ≤ run.old.table.ticks }
+    ensures { OnOk result (HasFilled (system_of model.now) core run.old run.new) }
+{
+    // read for what it says: the model is valid
+    let _plain = model.plain();
+    let end = run.table().ticks;
+    'events: while reached.tick < end {
+        let next = reached.next(end);
+        run.push(core, next.who, next.until - reached.tick)?;
+        reached.advance(model, run.table(), next, next.until);
+    }
+    Ok(())
+}
+
+/// Fills the entries of a core.
+fn fill_core(
+    alloc: Global,
+    model: &ValidModel,
+    run: &mut RunData,
+    core: u32,
+) -> Result<(), NoMemory>
+    requires lawful { IsLawful (system_of model.now) run.old.table }
+    requires core { core < length run.old.entries }
+    requires in_model { core < length model.now.cores }
+    requires empty { core_entries run.old core ≡ [] }
+    ensures { OnOk result (HasFilled (system_of model.now) core run.old run.new) }
+{
+    let mut reached = CoreProgress::begin(alloc, model, run.table(), core)?;
+    fill_from(model, run, core, &mut reached)
+}
+
+/// Fills the entries of all cores.
+fn fill(alloc: Global, model: &ValidModel, run: &mut RunData) -> Result<(), NoMemory>
+    requires lawful { IsLawful (system_of model.now) run.old.table }
+    requires empty { run.old.entries ≡ replicate (length model.now.cores) [] }
+    ensures table { OnOk result (run.new.table ≡ run.old.table) }
+    ensures legal { OnOk result (IsLegal (system_of model.now) run.new) }
+{
+    for core in 0..model.cores() {
+        fill_core(alloc, model, run, core)?;
+    }
+    Ok(())
+}
+
+/// The legal run of a lawful table, which is the only one. It goes from event to event: a release, the finish of a job
+/// or of a runnable, or the end; so a long time in which nothing happens costs no more than a short one. The only error
+/// is that there is no memory for the run; then the table is dropped.
+pub fn simulate(alloc: Global, model: &ValidModel, table: JobTable) -> Result<RunData, NoMemory>
+    requires { IsLawful (system_of model.now) table }
+    ensures table { IfOk result (λ run. run.table ≡ table) }
+    ensures legal { IfOk result (IsLegal (system_of model.now)) }
+    ensures continuation { IfOk result (HasContinuations (system_of model.now)) }
+{
+    // read for what it says: the model is valid
+    let _plain = model.plain();
+    let mut run = RunData::start(alloc, table, model.cores())?;
+    match fill(alloc, model, &mut run) {
+        Ok(()) => Ok(run),
+        Err(no_memory) => Err(no_memory),
+    }
+}

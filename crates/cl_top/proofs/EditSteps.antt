@@ -1,0 +1,125 @@
+-- Edits that are made one by one: what they have come to so far, and what is left.
+use Rattle.std.proofs.Common.{◌≡◌, ℕ, zero, suc, ◌+◌, ◌<◌, ◌≤◌, inl, inr, List, [], ◌∷◌, ◌++◌, length, drop, get_or, Result, Ok, Err, refl, sym, ap, ◌∙◌, subst, arith}
+use Rattle.std.proofs.lemmas.List.{append_assoc, append-nil}
+use Rattle.cl_model.specs.declared.model.SystemModel.{SystemModel}
+use Rattle.cl_model.specs.declared.refusal.Refusal.{Refusal}
+use Rattle.cl_edit.specs.declared.edit.Edit.{Edit}
+use Rattle.cl_edit.specs.Edited.{edited}
+use Rattle.cl_edit.specs.Reading.{AreEditsOf}
+use Rattle.cl_incr.specs.Changed.{AsksForChanges}
+use Rattle.cl_top.specs.declared.outcome.Outcome.{Outcome}
+use Rattle.cl_top.specs.declared.status.TheConstants.{DONE}
+use Rattle.cl_top.specs.Commands.Edit.{edits_refused, behind, IsWrittenBy, EditsTo, AreEditedTo}
+use Rattle.cl_top.specs.Inner.Edits.{IsMade, HasAsked, HaveAsked}
+use Rattle.cl_top.specs.Steps.{AsksThen, AskForChanges, AreFewOfEdits}
+
+-- ---- lists
+
+drop_step : {X : Type 0} (xs : List X) (k : ℕ) (d : X) → k < length xs → drop k xs ≡ get_or xs k d ∷ drop (suc k) xs
+drop_step [] k d within = absurd (omega (arith, within))
+drop_step (x ∷ xs) zero d within = refl
+drop_step (x ∷ xs) (suc k) d within = drop_step xs k d (omega (arith, within))
+
+drop_past : {X : Type 0} (xs : List X) (k : ℕ) → length xs ≤ k → drop k xs ≡ []
+drop_past [] zero past = refl
+drop_past [] (suc k) past = refl
+drop_past (x ∷ xs) zero past = absurd (omega (arith, past))
+drop_past (x ∷ xs) (suc k) past = drop_past xs k (omega (arith, past))
+
+-- ---- what one edit asks for
+
+-- no step asks for nothing
+none_asked : (old new : SystemModel) (steps : ℕ) → AsksForChanges old new steps steps
+none_asked old new steps = record {
+  tasks = [];
+  chains = [];
+  different_tasks = λ k within. absurd (omega (arith, within));
+  different_chains = λ k within. absurd (omega (arith, within));
+  changed_tasks = λ k d within. absurd (omega arith);
+  changed_chains = λ k d within. absurd (omega arith);
+  few = omega arith;
+}
+
+pub nothing_asked : (edits : List Edit) (model : SystemModel) (steps : ℕ) → AskForChanges edits model steps steps
+nothing_asked [] model steps = omega arith
+nothing_asked (edit ∷ edits) model steps = by_edit (λ new. nothing_asked edits new steps) (edited model edit)
+  where
+    by_edit : ((new : SystemModel) → AskForChanges edits new steps steps) → (made : Result SystemModel Refusal)
+        → AsksThen model made (λ new between. AskForChanges edits new between steps) steps steps
+    by_edit rest (Err refusal) = omega arith
+    by_edit rest (Ok new) = (steps, none_asked model new steps, rest new)
+
+-- by what the session says of a refused edit and of one that isn't
+pub asked_by : (old : SystemModel) (made : Result SystemModel Refusal) (before after : ℕ)
+    → ((new : SystemModel) → made ≡ Ok new → AsksForChanges old new before after) → ((refusal : Refusal) → made ≡ Err refusal → after ≡ before) → HasAsked old made before after
+asked_by old (Ok new) before after asks none = asks new refl
+asked_by old (Err refusal) before after asks none = omega (arith, none refusal refl)
+
+-- ---- the edits so far
+
+pub record AreEditedSoFar (edits : List Edit) (first : SystemModel) (before : ℕ) (place : ℕ) (model : SystemModel) (text : List ℕ) (steps : ℕ) : Type 0 where
+  pub outcome : (rest : Outcome) → AreEditedTo (drop place edits) (place + 2) model rest → AreEditedTo edits 2 first (behind text rest)
+  pub asked : (after : ℕ) → AskForChanges (drop place edits) model steps after → AskForChanges edits first before after
+
+pub none_so_far : (edits : List Edit) (model : SystemModel) (steps : ℕ) → AreEditedSoFar edits model steps 0 model [] steps
+none_so_far edits model steps = record { outcome = λ rest is. is; asked = λ after is. is }
+
+module _ (edits : List Edit) (first : SystemModel) (before : ℕ) (place : ℕ) (model : SystemModel) (text : List ℕ) (steps : ℕ) (so_far : AreEditedSoFar edits first before place model text steps) where
+  module _ (edit default : Edit) (within : place < length edits) (here : get_or edits place default ≡ edit) where
+    rest_is : drop place edits ≡ edit ∷ drop (suc place) edits
+    rest_is = drop_step edits place default within ∙ ap (λ e. e ∷ drop (suc place) edits) here
+
+    -- one more edit was made
+    pub one_more : (next : ℕ) → next ≡ suc place → (new : SystemModel) (after : List ℕ) (steps_after : ℕ) → IsMade model edit new text after → HasAsked model (edited model edit) steps steps_after
+        → AreEditedSoFar edits first before next new after steps_after
+    one_more next is_next new after steps_after made asked = record {
+      outcome = λ rest later.
+          let number : next + 2 ≡ suc (place + 2) = omega (arith, is_next) in
+          let is = subst (λ k. AreEditedTo (drop (suc place) edits) k new rest) number (subst (λ k. AreEditedTo (drop k edits) (next + 2) new rest) is_next later) in
+          let come : AreEditedTo (edit ∷ drop (suc place) edits) (place + 2) model (behind made.written rest) =
+          subst (λ m. EditsTo m (place + 2) (IsWrittenBy model edit) (AreEditedTo (drop (suc place) edits) (suc (place + 2))) (behind made.written rest)) (sym made.made)
+          (made.written, made.writes, (rest, is, refl)) in
+          subst (λ t. AreEditedTo edits 2 first (record { status = rest.status; text = t })) (sym (append_assoc text made.written rest.text) ∙ ap (λ t. t ++ rest.text) (sym made.put))
+          (so_far.outcome (behind made.written rest) (subst (λ (es : List Edit). AreEditedTo es (place + 2) model (behind made.written rest)) (sym rest_is) come));
+      asked = λ end later.
+          let is = subst (λ k. AskForChanges (drop k edits) new steps_after end) is_next later in
+          so_far.asked end (subst (λ (es : List Edit). AskForChanges es model steps end) (sym rest_is)
+          (subst (λ m. AsksThen model m (λ new between. AskForChanges (drop (suc place) edits) new between end) steps end) (sym made.made)
+          (steps_after, subst (λ m. HasAsked model m steps steps_after) made.made asked, is)));
+    }
+
+    -- an edit is refused
+    pub one_refused : (refusal : Refusal) → edited model edit ≡ Err refusal → AreEditedTo edits 2 first (behind text (edits_refused (place + 2) refusal))
+    one_refused refusal is =
+        so_far.outcome (edits_refused (place + 2) refusal) (subst (λ (es : List Edit). AreEditedTo es (place + 2) model (edits_refused (place + 2) refusal)) (sym rest_is)
+        (subst (λ m. EditsTo m (place + 2) (IsWrittenBy model edit) (AreEditedTo (drop (suc place) edits) (suc (place + 2))) (edits_refused (place + 2) refusal)) (sym is) refl))
+
+    -- what was asked, where the edits end with this one
+    last_asked : (made : Result SystemModel Refusal) (end : ℕ) → HasAsked model made steps end
+        → AsksThen model made (λ new between. AskForChanges (drop (suc place) edits) new between end) steps end
+    last_asked (Err refusal) end asked = asked
+    last_asked (Ok new) end asked = (end, asked, nothing_asked (drop (suc place) edits) new end)
+
+    pub asked_here : (end : ℕ) → HasAsked model (edited model edit) steps end → AskForChanges edits first before end
+    asked_here end asked = so_far.asked end (subst (λ (es : List Edit). AskForChanges es model steps end) (sym rest_is) (last_asked (edited model edit) end asked))
+
+  -- all edits were made
+  pub all_made : length edits ≤ place → AreEditedTo edits 2 first (record { status = DONE; text = text })
+  all_made past =
+      subst (λ t. AreEditedTo edits 2 first (record { status = DONE; text = t })) (append-nil text)
+      (so_far.outcome (record { status = DONE; text = [] }) (subst (λ (es : List Edit). AreEditedTo es (place + 2) model (record { status = DONE; text = [] })) (sym (drop_past edits place past)) refl))
+
+  pub all_asked : length edits ≤ place → AskForChanges edits first before steps
+  all_asked past = so_far.asked steps (subst (λ (es : List Edit). AskForChanges es model steps steps) (sym (drop_past edits place past)) (omega arith))
+
+-- ---- the whole
+
+pub few_of_text : (model : SystemModel) (text : List ℕ) (edits : List Edit) (before after : ℕ) → AreEditsOf text edits → HaveAsked edits model before after → AreFewOfEdits (Ok model) text before after
+few_of_text model text edits before after are asked = record {
+  started = asked.started;
+  start = asked.start;
+  rest = inr (record { model = model; is_read = refl; edits = edits; are = are; ask = asked.ask });
+}
+
+pub few_of_none : (read : Result SystemModel Refusal) (text : List ℕ) (steps : ℕ) → AreFewOfEdits read text steps steps
+few_of_none read text steps = record { started = steps; start = omega arith; rest = inl (omega arith) }

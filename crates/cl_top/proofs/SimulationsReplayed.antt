@@ -1,0 +1,90 @@
+-- What is simulated can be replayed.
+use Rattle.std.proofs.Common.{◌≡◌, ℕ, ◌≤◌, inl, inr, List, Some, None, Ok, sym, ap, subst, ◌∙◌, arith, length}
+use Rattle.std.proofs.lemmas.Bool.{cases_lt}
+use Rattle.cl_model.specs.declared.model.SystemModel.{SystemModel}
+use Rattle.cl_model.specs.AreNamed.{AreNamed}
+use Rattle.cl_model.specs.Reading.{model_of}
+use Rattle.cl_model.specs.Validity.{refusal_of, IsValid}
+use Rattle.cl_model.proofs.ReadModels.{read_named}
+use Rattle.cl_runs.specs.Legal.{IsLegal}
+use Rattle.cl_runs.specs.Run.{Run}
+use Rattle.cl_runs.specs.SystemOf.{system_of}
+use Rattle.cl_gen.specs.declared.limits.TheConstants.{MOST_RUN_TICKS, MOST_EXECUTIONS}
+use Rattle.cl_gen.specs.Count.{execution_count}
+use Rattle.cl_gen.proofs.LawfulTables.{table_ticks}
+use Rattle.cl_trace.specs.Trace.{spelled}
+use Rattle.cl_trace.proofs.LegalTraces.{legal_trace}
+use Rattle.cl_trace.proofs.OneTrace.{one_run, no_bad_line}
+use Rattle.cl_trace.proofs.ShortTraces.{short_trace}
+use Rattle.cl_top.specs.declared.opening.TheConstants.{TRACE_LIMIT}
+use Rattle.cl_top.specs.declared.command.Command.TheVariants.{Replay}
+use Rattle.cl_top.specs.declared.outcome.Outcome.{Outcome}
+use Rattle.cl_top.specs.declared.status.TheConstants.{DONE}
+use Rattle.cl_top.specs.Command.{model_file, trace_file}
+use Rattle.cl_top.specs.Commands.Replay.{IsOfRun, IsOfTrace}
+use Rattle.cl_top.specs.Commands.Simulate.{IsSimulated, IsTraced}
+use Rattle.cl_top.specs.Files.{Fetched, Bytes, told_fetch}
+use Rattle.cl_top.specs.Outcome.{ValidatesTo, ReadsTo, OpensTo, OpensFile, HasOutcome}
+use Rattle.cl_top.specs.Simulated.{IsSimulatedFile}
+use Rattle.cl_top.proofs.CountedExecutions.{table_counted}
+use Rattle.cl_top.proofs.Openings.{OpenedAs, Reaches, opened_cases, valid_read}
+use Rattle.cl_top.proofs.ReplaysOfRuns.{breaks_none}
+use Rattle.cl_top.proofs.Tellings.{told_bytes}
+
+-- what comes next of a file whose bytes are read as a model that isn't refused
+next_of : (next : SystemModel → Outcome → Type 0) (found : Outcome) (fetch : Fetched) (bytes : List ℕ) (model : SystemModel) → fetch ≡ Bytes bytes
+    → model_of bytes ≡ Ok model → refusal_of model ≡ None → OpensTo 1 fetch (λ bytes. ReadsTo (model_of bytes) next) found → next model found
+next_of next found fetch bytes model gave means none opens =
+    subst (λ refusal. ValidatesTo model refusal next found) none
+    (subst (λ read. ReadsTo read next found) means
+    (subst (λ (f : Fetched). OpensTo 1 f (λ bytes. ReadsTo (model_of bytes) next) found) gave opens))
+
+module _ (model : SystemModel) (valid : IsValid model) (named : AreNamed model) (run : Run) (legal : IsLegal (system_of model) run) (few : run.table.ticks ≤ MOST_RUN_TICKS) where
+  -- the trace of a legal run whose executions are few enough is within the limit of a file
+  fits : execution_count model run.table.ticks ≤ MOST_EXECUTIONS → length (spelled model run) ≤ TRACE_LIMIT
+  fits counted = omega (arith, counted, short_trace model valid named run legal few, table_counted model valid run.table legal.lawful)
+
+  replayed_run : (found : Outcome) → IsOfRun model run found → found.status ≡ DONE
+  replayed_run found (inl is) = is.done
+  replayed_run found (inr is) = breaks_none model run found legal is
+
+  -- the trace of a legal run is replayed
+  replayed : (found : Outcome) → IsOfTrace model (spelled model run) found → found.status ≡ DONE
+  replayed found (inl has) =
+      replayed_run found (subst (λ r. IsOfRun model r found) (one_run model valid named (spelled model run) has.run run has.trace (legal_trace model valid run legal few)) has.of_run)
+  replayed found (inr bad) = absurd (no_bad_line model valid named (spelled model run) run bad.number (legal_trace model valid run legal few) bad.bad)
+
+module _ (contents : ℕ → List ℕ) (ticks seed : ℕ) (found : Outcome) (file : IsSimulatedFile contents ticks seed) (replays : HasOutcome (Some Replay) (told_fetch contents) found) where
+  module _ (reached : Reaches (told_fetch contents (model_file 1)) (IsSimulated ticks seed) file.outcome) where
+    -- the trace file, opened
+    opened : OpensFile (trace_file 2) (told_fetch contents) (IsOfTrace reached.model) found
+    opened = next_of (λ model. OpensFile (trace_file 2) (told_fetch contents) (IsOfTrace model)) found (told_fetch contents (model_file 1)) reached.bytes reached.model
+        reached.gave reached.means reached.unrefused replays
+
+    of_trace : IsTraced ticks seed reached.model file.outcome → execution_count reached.model ticks ≤ MOST_EXECUTIONS → found.status ≡ DONE
+    of_trace is counted =
+        let model = reached.model in
+        let valid : IsValid model = valid_read reached.bytes model reached.means reached.unrefused in
+        let named : AreNamed model = read_named reached.bytes model reached.means in
+        let same : is.run.table.ticks ≡ ticks = ap (λ table. table.ticks) is.table ∙ table_ticks model ticks seed in
+        let few : is.run.table.ticks ≤ MOST_RUN_TICKS = subst (λ t. t ≤ MOST_RUN_TICKS) (sym same) file.few in
+        let holds : contents 2 ≡ spelled model is.run = file.holds ∙ ap (λ (o : Outcome). o.text) is.printed in
+        let short : length (spelled model is.run) ≤ TRACE_LIMIT = fits model valid named is.run is.legal few (subst (λ t. execution_count model t ≤ MOST_EXECUTIONS) (sym same) counted) in
+        let within : length (contents 2) ≤ TRACE_LIMIT = subst (λ (text : List ℕ). length text ≤ TRACE_LIMIT) (sym holds) short in
+        let told : IsOfTrace model (contents 2) found = subst (λ (f : Fetched). OpensTo 2 f (IsOfTrace model) found) (told_bytes TRACE_LIMIT (contents 2) within) opened in
+        replayed model valid named is.run is.legal few found (subst (λ (text : List ℕ). IsOfTrace model text found) holds told)
+
+    of_model : found.status ≡ DONE
+    of_model = elim (cases_lt MOST_EXECUTIONS (execution_count reached.model ticks)) [
+      | inl many ↦ absurd (omega (arith, file.done, ap (λ (o : Outcome). o.status) (reached.comes_next.refused many)))
+      | inr counted ↦ of_trace (reached.comes_next.simulated counted) counted
+    ]
+
+  pub simulation_replayed : found.status ≡ DONE
+  simulation_replayed = by_cases (opened_cases (IsSimulated ticks seed) file.outcome 1 (told_fetch contents (model_file 1)) file.comes)
+    where
+      by_cases : OpenedAs (IsSimulated ticks seed) file.outcome 1 (told_fetch contents (model_file 1)) → found.status ≡ DONE
+      by_cases (inl (is, fault)) = absurd (omega (arith, file.done, ap (λ (o : Outcome). o.status) fault))
+      by_cases (inr (inl (is, long))) = absurd (omega (arith, file.done, ap (λ (o : Outcome). o.status) long))
+      by_cases (inr (inr (inl (refusal, refused)))) = absurd (omega (arith, file.done, ap (λ (o : Outcome). o.status) refused))
+      by_cases (inr (inr (inr reached))) = of_model reached

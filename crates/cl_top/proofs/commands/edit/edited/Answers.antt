@@ -1,0 +1,21 @@
+use Rattle.std.proofs.Common.{ℕ, ap, ◌∙◌, inr}
+use Rattle.std.proofs.lemmas.Result.{IfOk-weaker}
+use Rattle.std.specs.Prelude.{Ok, Err}
+use Rattle.cl_model.specs.declared.refusal.Code.TheVariants.{E1}
+use Rattle.cl_model.specs.Place.{top}
+use Rattle.cl_top.specs.Commands.Edit.{edits_refused}
+use Rattle.cl_top.proofs.EditSteps.{few_of_none}
+use Rattle.cl_top.proofs.commands.edit.edited.Goals as goal
+
+pub returns-in-Err-BadLine-clause-outcome : goal.returns-in-Err-BadLine-clause-outcome
+returns-in-Err-BadLine-clause-outcome g c = IfOk-weaker c.bad_line.result _ _ (λ outcome is. inr (record {
+  number = c.in-Err-BadLine.line;
+  bad = c.in-Err-BadLine.ensures.bad_line c.in-Err-BadLine.line (ap Err c.in-Err-BadLine.field-0-is);
+  printed = is ∙ ap (λ (number : ℕ). edits_refused number (record { code = E1; place = top })) c.in-Err-BadLine.line-is;
+})) c.bad_line.ensures
+
+pub returns-in-Err-BadLine-clause-steps : goal.returns-in-Err-BadLine-clause-steps
+returns-in-Err-BadLine-clause-steps g c = few_of_none (Ok c.args.model) c.args.text.now c.args.steps.now
+
+pub returns-clause-steps : goal.returns-clause-steps
+returns-clause-steps g c = few_of_none (Ok c.args.model) c.args.text.now c.args.steps.now

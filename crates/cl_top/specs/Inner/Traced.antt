@@ -1,0 +1,16 @@
+-- What the simulation of a drawn table comes to.
+use Rattle.std.specs.Prelude.{◌≡◌}
+use Rattle.cl_model.specs.declared.model.SystemModel.{SystemModel}
+use Rattle.cl_runs.specs.declared.job.JobTable.{JobTable}
+use Rattle.cl_runs.specs.Run.{Run}
+use Rattle.cl_runs.specs.SystemOf.{system_of}
+use Rattle.cl_runs.specs.Legal.{IsLegal}
+use Rattle.cl_top.specs.declared.outcome.Outcome.{Outcome}
+use Rattle.cl_top.specs.Commands.Simulate.{traced}
+
+-- the trace of the legal run of a table
+pub record IsTraceOfTable (model : SystemModel) (table : JobTable) (found : Outcome) : Type 0 where
+  pub run : Run
+  pub of_table : run.table ≡ table
+  pub legal : IsLegal (system_of model) run
+  pub printed : found ≡ traced model run

@@ -1,0 +1,16 @@
+-- A trace file that holds what `simulate` made of a model file (this project's profile).
+use Rattle.std.specs.Prelude.{◌≡◌, ℕ, ◌≤◌, List, Some}
+use Rattle.cl_gen.specs.declared.limits.TheConstants.{MOST_RUN_TICKS}
+use Rattle.cl_top.specs.declared.command.Command.TheVariants.{Simulate}
+use Rattle.cl_top.specs.declared.outcome.Outcome.{Outcome}
+use Rattle.cl_top.specs.declared.status.TheConstants.{DONE}
+use Rattle.cl_top.specs.Files.{told_fetch}
+use Rattle.cl_top.specs.Outcome.{HasOutcome}
+
+-- the file of the second word holds the trace to which `simulate` comes at the file of the first
+pub record IsSimulatedFile (contents : ℕ → List ℕ) (ticks seed : ℕ) : Type 0 where
+  pub few : ticks ≤ MOST_RUN_TICKS
+  pub outcome : Outcome
+  pub comes : HasOutcome (Some (Simulate ticks seed)) (told_fetch contents) outcome
+  pub done : outcome.status ≡ DONE
+  pub holds : contents 2 ≡ outcome.text

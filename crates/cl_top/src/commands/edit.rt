@@ -1,0 +1,152 @@
+ghost use Rattle.std.specs.Prelude.{◌≡◌, ℕ, ◌++◌, List, Ok, Err, All, IfOk, OnOk};
+ghost use Rattle.cl_model.specs.Place.{top};
+ghost use Rattle.cl_model.specs.declared.refusal.Refusal.{Refusal};
+ghost use Rattle.cl_edit.specs.Edited.{edited};
+ghost use Rattle.cl_edit.specs.Ranges.{IsEditInRange};
+ghost use Rattle.cl_top.specs.Commands.Edit.{edits_refused, behind, IsWrittenBy, AreEditedTo, IsOfEdits};
+ghost use Rattle.cl_top.specs.Inner.Edits.{IsMade, HasAsked, HaveAsked};
+ghost use Rattle.cl_top.specs.Steps.{AskForChanges, AreFewOfEdits};
+
+use crate::{Outcome, status};
+use cl_edit::{Edit, EditsFault, read_edits};
+use cl_incr::Session;
+use cl_model::{Code, ModelFault, Place, Refusal, ValidModel};
+use cl_report::report;
+use cl_text::Text;
+use cl_time::{NoMemory, Steps};
+use std::alloc::Global;
+use std::sync::ledger::Ledger;
+
+/// The outcome of `edit` of a valid model and of the text of a list of edits: the reports, in order; or the first bad line
+/// of the text; or the reports before the first edit that is refused, and then its refusal. It counts at most one step for
+/// each task and two for each chain of the model, and where each line is an edit, as many for each question that an edit
+/// changes.
+pub(crate) fn edited<L: Ledger>(
+    alloc: Global,
+    model: ValidModel,
+    text: &[u8],
+    steps: &mut Steps<L>,
+) -> Result<Outcome, NoMemory>
+    ensures outcome { IfOk result (IsOfEdits model text.now) }
+    ensures steps { AreFewOfEdits (Ok model) text.now steps.old steps.new }
+{
+    match read_edits(alloc, text) {
+        Ok(edits) => report_edited(alloc, model, edits.as_slice(), steps),
+        Err(EditsFault::BadLine { line }) => bad_line(alloc, line),
+        Err(EditsFault::NoMemory) => Err(NoMemory),
+    }
+}
+
+/// The reports of a model as it is edited.
+fn report_edited<L: Ledger>(
+    alloc: Global,
+    model: ValidModel,
+    edits: &[Edit],
+    steps: &mut Steps<L>,
+) -> Result<Outcome, NoMemory>
+    requires { All IsEditInRange edits.now }
+    ensures outcome { IfOk result (AreEditedTo edits.now 2 model) }
+    ensures steps { HaveAsked edits.now model steps.old steps.new }
+{
+    let session = Session::start(alloc, model, steps)?;
+    report_on(alloc, session, edits, steps)
+}
+
+/// The reports of a session's model as it is edited.
+fn report_on<L: Ledger>(
+    alloc: Global,
+    session: Session,
+    edits: &[Edit],
+    steps: &mut Steps<L>,
+) -> Result<Outcome, NoMemory>
+    requires { All IsEditInRange edits.now }
+    ensures outcome { IfOk result (AreEditedTo edits.now 2 session.model) }
+    ensures steps { AskForChanges edits.now session.model steps.old steps.new }
+{
+    let mut session = session;
+    let mut text = Text::new(alloc);
+    for (place, edit) in edits.iter().enumerate() {
+        if let Err(fault) = make_edit(alloc, &mut session, edit, &mut text, steps) {
+            return stopped(alloc, text, place as u64 + 2, fault);
+        }
+    }
+    Ok(Outcome {
+        status: status::DONE,
+        text,
+    })
+}
+
+/// Makes an edit of the session's model, and puts its report for a report line.
+fn make_edit<L: Ledger>(
+    alloc: Global,
+    session: &mut Session,
+    edit: &Edit,
+    text: &mut Text,
+    steps: &mut Steps<L>,
+) -> Result<(), ModelFault>
+    requires { IsEditInRange edit.now }
+    ensures made { OnOk result (IsMade session.old.model edit.now session.new.model text.old text.new) }
+    ensures refused { (refusal : Refusal) → result ≡ Err (ModelFault.Refused refusal)
+        → (edited session.old.model edit.now ≡ Err refusal) × (text.new ≡ text.old) }
+    ensures steps { HasAsked session.old.model (edited session.old.model edit.now) steps.old steps.new }
+{
+    session.apply(edit, steps)?;
+    put_reported(alloc, session, edit, text)?;
+    Ok(())
+}
+
+/// Puts the report of the session's model for a report line, and nothing for any other edit.
+fn put_reported(
+    alloc: Global,
+    session: &Session,
+    edit: &Edit,
+    text: &mut Text,
+) -> Result<(), NoMemory>
+    ensures { OnOk result ((written : List ℕ) × IsWrittenBy session.now.model edit.now written × (text.new ≡ text.old ++ written)) }
+{
+    match edit {
+        Edit::Report => {
+            let report = report(alloc, session.model(), session.findings())?;
+            text.put(report.as_slice())
+        }
+        _ => Ok(()),
+    }
+}
+
+/// What comes of edits where one of them, in the line of a number, can't be made: the text so far, and behind it the
+/// refusal of that line.
+fn stopped(alloc: Global, text: Text, number: u64, fault: ModelFault) -> Result<Outcome, NoMemory>
+    ensures { IfOk result (λ outcome. (refusal : Refusal) × (fault ≡ ModelFault.Refused refusal) × (outcome ≡ behind text (edits_refused number refusal))) }
+{
+    match fault {
+        ModelFault::Refused(refusal) => refused(alloc, text, number, refusal),
+        ModelFault::NoMemory => Err(NoMemory),
+    }
+}
+
+/// A text, and behind it the refusal of the line of a number.
+fn refused(alloc: Global, text: Text, number: u64, refusal: Refusal) -> Result<Outcome, NoMemory>
+    ensures { IfOk result (λ outcome. outcome ≡ behind text (edits_refused number refusal)) }
+{
+    let mut text = text;
+    text.put(b"edits refused line ")?;
+    text.put_number(number)?;
+    text.put(b" ")?;
+    text.put(format!(in alloc; "{refusal}")?.as_bytes())?;
+    text.put(b"\n")?;
+    Ok(Outcome {
+        status: status::EDITS_REFUSED,
+        text,
+    })
+}
+
+/// The first line that is no edit.
+fn bad_line(alloc: Global, number: u64) -> Result<Outcome, NoMemory>
+    ensures { IfOk result (λ outcome. outcome ≡ edits_refused number (record { code = Code.E1; place = top })) }
+{
+    let refusal = Refusal {
+        code: Code::E1,
+        place: Place::top(),
+    };
+    refused(alloc, Text::new(alloc), number, refusal)
+}

@@ -1,0 +1,60 @@
+-- Words at the beginning of a text: names and printed numbers.
+use Rattle.std.proofs.Common.{◌≡◌, ◌≢◌, ℕ, ◌^◌, ◌<◌, true, false, Option, Some, None, List, [], ◌∷◌, ◌++◌, length, get_or, refl, sym, ap, ◌∙◌, arith}
+use Rattle.std.specs.Prelude.{decimal, MatchOption, IfSome, IfNone}
+use Rattle.std.specs.List.{AllPass, list_all}
+use Rattle.std.proofs.lemmas.Bool.Decides.{nat_tests}
+use Rattle.std.proofs.lemmas.List.{append_cancel_left}
+use Rattle.std.proofs.lemmas.List.Sums.{AllPass-from_list_all}
+use Rattle.cl_model.specs.Name.{IsName, is_name_byte}
+use Rattle.cl_text.specs.Line.{first_word, is_graphic}
+use Rattle.cl_text.proofs.LineLemmas.{first_word-ended, graphic_decimal}
+use Rattle.cl_text.proofs.DecimalLemmas.{grammar_of_decimal}
+use Rattle.cl_trace.specs.Trace.{number_text}
+
+-- both sides of a match
+pub some_of : {X : Type 0} (r : Option X) (P : Type 0) (Q : X → Type 0) → MatchOption r P Q → IfSome r Q
+some_of None P Q h = tt
+some_of (Some x) P Q h = h
+
+pub none_of : {X : Type 0} (r : Option X) (P : Type 0) (Q : X → Type 0) → MatchOption r P Q → IfNone r P
+none_of None P Q h = h
+none_of (Some x) P Q h = tt
+
+-- a byte of a name is a byte of a word
+name_byte_graphic : (byte : ℕ) → is_name_byte byte ≡ true → is_graphic byte ≡ true
+name_byte_graphic byte is = grind (arith, nat_tests)
+
+name_bytes : (name : List ℕ) → IsName name → list_all is_name_byte name ≡ true
+name_bytes name is = grind (arith, nat_tests, is)
+
+name_some : (name : List ℕ) → IsName name → 0 < length name
+name_some name is = grind (arith, nat_tests, is)
+
+pub graphic_name : (name : List ℕ) → IsName name → AllPass is_graphic name
+graphic_name name is k d lt = name_byte_graphic (get_or name k d) (AllPass-from_list_all is_name_byte name (name_bytes name is) k d lt)
+
+pub name_is_some : (name : List ℕ) → IsName name → name ≢ []
+name_is_some name is none = omega (arith, name_some name is, ap length none)
+
+pub decimal_is_some : (n : ℕ) → n < 2 ^ 64 → decimal n ≢ []
+decimal_is_some n fits = (grammar_of_decimal (decimal n) n fits refl).not_empty
+
+-- what stands behind the blank of a number
+pub behind_blank : (text behind rest : List ℕ) (n byte : ℕ) → text ≡ 32 ∷ behind → text ≡ number_text n ++ byte ∷ rest → behind ≡ decimal n ++ byte ∷ rest
+behind_blank text behind rest n byte is fits = cc (sym is ∙ fits)
+
+pub number_word : (behind rest : List ℕ) (n byte : ℕ) → n < 2 ^ 64 → is_graphic byte ≡ false → behind ≡ decimal n ++ byte ∷ rest → first_word behind ≡ decimal n
+number_word behind rest n byte small other is = ap first_word is ∙ first_word-ended (decimal n) rest byte (graphic_decimal n small) other
+
+pub name_word : (text name rest : List ℕ) (byte : ℕ) → IsName name → is_graphic byte ≡ false → text ≡ name ++ byte ∷ rest → first_word text ≡ name
+name_word text name rest byte named other is = ap first_word is ∙ first_word-ended name rest byte (graphic_name name named) other
+
+-- what follows a word is told by the word
+pub rest_is : (text word other behind rest : List ℕ) → text ≡ word ++ behind → word ≡ other → text ≡ other ++ rest → behind ≡ rest
+rest_is text word other behind rest parts same fits =
+    append_cancel_left word behind rest (sym parts ∙ fits ∙ ap (λ w. w ++ rest) (sym same))
+
+-- a text without a byte
+pub no_bytes : (text : List ℕ) → length text ≡ 0 → text ≡ []
+no_bytes [] none = refl
+no_bytes (byte ∷ text) none = absurd (omega arith)

@@ -1,0 +1,28 @@
+use Rattle.std.proofs.Common.{◌≡◌, ◌∷◌, length, ap, sym, ◌∙◌, arith}
+use Rattle.std.proofs.lemmas.Bool.Decides.{nat_tests}
+use Rattle.cl_trace.specs.Trace.{item_text}
+use Rattle.cl_trace.proofs.BadLines.{no_below, too_long}
+use Rattle.cl_trace.proofs.PieceFacts.{no_bytes}
+use Rattle.cl_trace.proofs.Readings.{read_trace_of}
+use Rattle.cl_trace.proofs.reading.ended.Goals as goal
+
+pub returns-in-Some-clause-run : goal.returns-in-Some-clause-run
+unfolding item_text
+returns-in-Some-clause-run c =
+    let none : length c.in-Some.nothing.now ≡ 0 = grind (arith, nat_tests) in
+    read_trace_of c.args.model.now c.args.text.now c.args.run c.args.left.now c.requires.body
+    (c.in-Some.ensures.some ∙ ap (λ t. 101 ∷ 110 ∷ 100 ∷ 10 ∷ t) (no_bytes c.in-Some.nothing.now none))
+
+pub returns-in-Some-2-clause-bad_line : goal.returns-in-Some-2-clause-bad_line
+unfolding item_text
+returns-in-Some-2-clause-bad_line c = λ line is.
+    let same : c.line_at.result ≡ line = cc in
+    too_long c.args.model.now c.plain-plain.ensures.valid c.requires.named c.args.text.now c.args.run c.args.left.now c.requires.body line c.in-Some.nothing.now
+    c.in-Some.ensures.some (λ none. let zero : length c.in-Some.nothing.now ≡ 0 = ap length none in grind (arith, nat_tests)) (sym same ∙ c.line_at.ensures)
+
+pub returns-in-None-clause-bad_line : goal.returns-in-None-clause-bad_line
+unfolding item_text
+returns-in-None-clause-bad_line c = λ line is.
+    let same : c.line_at-in-None.result ≡ line = cc in
+    no_below c.args.model.now c.plain-plain.ensures.valid c.requires.named c.args.text.now c.args.run c.args.left.now c.requires.body line
+    c.in-None.ensures.none (sym same ∙ c.line_at-in-None.ensures)

@@ -1,0 +1,4 @@
+-- What only private clauses cite.
+pub mod TaskStretches
+pub mod Pieces
+pub mod Bodies

@@ -1,0 +1,5 @@
+pub mod Stretches
+pub mod Trace
+pub mod Rules
+pub mod Inner
+pub mod Executions

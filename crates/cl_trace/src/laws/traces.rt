@@ -1,0 +1,37 @@
+//! The traces of runs, and the readings of texts.
+ghost use Rattle.std.specs.Prelude.{◌≡◌, ◌≤◌, ◌⊎◌, ℕ, List};
+ghost use Rattle.cl_model.specs.declared.model.SystemModel.{SystemModel};
+ghost use Rattle.cl_model.specs.AreNamed.{AreNamed};
+ghost use Rattle.cl_model.specs.Validity.{IsValid};
+ghost use Rattle.cl_runs.specs.Run.{Run};
+ghost use Rattle.cl_runs.specs.SystemOf.{system_of};
+ghost use Rattle.cl_runs.specs.Legal.{IsLegal};
+ghost use Rattle.cl_trace.specs.declared.limits.TheConstants.{MOST_TRACE_TICKS};
+ghost use Rattle.cl_trace.specs.Trace.{spelled};
+ghost use Rattle.cl_trace.specs.Rules.{IsTraceOf, IsBadLine};
+
+/// What a legal run of a valid model spells is a trace of that run, where its ticks are few enough.
+pub fn legal_runs_have_traces()
+    ensures { (model : SystemModel) → IsValid model → (run : Run) → IsLegal (system_of model) run → run.table.ticks ≤ MOST_TRACE_TICKS
+        → IsTraceOf model (spelled model run) run }
+{}
+
+/// A text has one first bad line at most.
+pub fn bad_lines_are_unique()
+    ensures { (model : SystemModel) → IsValid model → AreNamed model → (text : List ℕ) (one other : ℕ) → IsBadLine model text one
+        → IsBadLine model text other → one ≡ other }
+{}
+
+/// A text is the trace of one run at most, and then it has no bad line.
+pub fn texts_have_one_answer()
+    ensures run { (model : SystemModel) → IsValid model → AreNamed model → (text : List ℕ) (one other : Run)
+        → IsTraceOf model text one → IsTraceOf model text other → one ≡ other }
+    ensures no_bad_line { (model : SystemModel) → IsValid model → AreNamed model → (text : List ℕ) (run : Run) (line : ℕ)
+        → IsTraceOf model text run → IsBadLine model text line → ⊥ }
+{}
+
+/// And each text has an answer: it is the trace of a run, or it has a first bad line.
+pub fn texts_have_an_answer()
+    ensures { (model : SystemModel) → IsValid model → AreNamed model → (text : List ℕ)
+        → ((run : Run) × IsTraceOf model text run) ⊎ ((line : ℕ) × IsBadLine model text line) }
+{}

@@ -1,0 +1,141 @@
+//! The lines of a trace. Each reading answers what the line says and what follows it.
+ghost use Rattle.std.specs.Prelude.{◌≡◌, ◌≢◌, ◌<◌, ◌≤◌, ℕ, List, ◌∷◌, ◌++◌, [], length, codes, IfOk, IfSome, IfNone};
+ghost use Rattle.cl_text.specs.Line.{line};
+ghost use Rattle.cl_model.specs.Name.{IsName};
+ghost use Rattle.cl_model.specs.ByNumber.{task_at};
+ghost use Rattle.cl_runs.specs.declared.job.Job.{Job};
+ghost use Rattle.cl_trace.specs.declared.limits.TheConstants.{MOST_TRACE_TICKS, MOST_TRACE_NUMBER};
+ghost use Rattle.cl_trace.specs.Trace.{numbers, ticks_words, run_words, JobOf, Runs, item_text};
+ghost use Rattle.cl_trace.specs.Rules.{IsJobOf};
+ghost use Rattle.cl_trace.specs.Inner.Pieces.{AreRead, AreTimes, AreTasksNamed};
+
+use crate::limits::{MOST_TRACE_NUMBER, MOST_TRACE_TICKS};
+use crate::pieces::{after, number_after, task_after};
+use cl_model::{List, ValidModel};
+use cl_runs::Job;
+use cl_time::NoMemory;
+use std::alloc::Global;
+
+/// A stretch of a task, as a line says it.
+#[derive(Clone, Copy, Debug, PartialEq, Eq)]
+pub(crate) struct RunLine {
+    pub task: u32,
+    pub from: u64,
+    pub to: u64,
+}
+
+/// The number of ticks of the line that the text begins with, and what follows the line. `None` exactly where it begins
+/// with no such line.
+pub(crate) fn ticks_after(text: &[u8]) -> Option<(u64, &[u8])>
+    ensures some { IfSome result (λ read. (text.now ≡ line (ticks_words read.0) ++ read.1.now) × (read.0 ≤ MOST_TRACE_TICKS)) }
+    ensures none { IfNone result ((ticks : ℕ) (rest : List ℕ) → ticks ≤ MOST_TRACE_TICKS → text.now ≢ line (ticks_words ticks) ++ rest) }
+{
+    let text = after(text, b"ticks")?;
+    let (ticks, text) = number_after(text, MOST_TRACE_TICKS)?;
+    let rest = after(text, b"\n")?;
+    Some((ticks, rest))
+}
+
+/// The two numbers that the text begins with, of at most `most`, and what follows them.
+pub(crate) fn two_after(text: &[u8], most: u64) -> Option<(u64, u64, &[u8])>
+    ensures some { IfSome result (λ read. text.now ≡ numbers (read.0 ∷ read.1 ∷ []) ++ read.2.now) }
+    ensures within { IfSome result (λ read. (read.0 ≤ most) × (read.1 ≤ most)) }
+    ensures only { (m n : ℕ) (more rest : List ℕ) → m ≤ most → n ≤ most → text.now ≡ numbers (m ∷ n ∷ more) ++ 0x0A ∷ rest
+        → AreRead result m n (numbers more ++ 0x0A ∷ rest) }
+{
+    let (first, text) = number_after(text, most)?;
+    let (second, rest) = number_after(text, most)?;
+    Some((first, second, rest))
+}
+
+/// So many numbers that the text begins with, and what follows them.
+fn times_after(
+    alloc: Global,
+    text: &[u8],
+    count: usize,
+) -> Result<Option<(List<u64>, &[u8])>, NoMemory>
+    ensures some { IfOk result (λ found. IfSome found (λ read. AreTimes count text.now read.0 read.1.now)) }
+    ensures none { IfOk result (λ found. IfNone found ((times rest : List ℕ) → ¬ AreTimes count text.now times (0x0A ∷ rest))) }
+    ensures only { IfOk result (λ found. IfSome found (λ read. (times rest : List ℕ) → AreTimes count text.now times (0x0A ∷ rest)
+        → (read.0 ≡ times) × (read.1.now ≡ 0x0A ∷ rest))) }
+{
+    let mut times = List::new(alloc);
+    let mut left = text;
+    for _ in 0..count {
+        let Some((time, rest)) = number_after(left, MOST_TRACE_NUMBER) else {
+            return Ok(None);
+        };
+        times.push(time)?;
+        left = rest;
+    }
+    Ok(Some((times, left)))
+}
+
+/// The arrival and the release of a line of a task of that name that the text begins with, and what follows them.
+fn job_head_after<'a>(name: &[u8], text: &'a [u8]) -> Option<(u64, u64, &'a [u8])>
+    ensures some { IfSome result (λ read. text.now ≡ codes "job " ++ (name.now ++ (numbers (read.0 ∷ read.1 ∷ []) ++ read.2.now))) }
+    ensures within { IfSome result (λ read. (read.0 ≤ MOST_TRACE_NUMBER) × (read.1 ≤ MOST_TRACE_NUMBER)) }
+    ensures only { (m n : ℕ) (more rest : List ℕ) → m ≤ MOST_TRACE_NUMBER → n ≤ MOST_TRACE_NUMBER
+        → text.now ≡ codes "job " ++ (name.now ++ (numbers (m ∷ n ∷ more) ++ 0x0A ∷ rest)) → AreRead result m n (numbers more ++ 0x0A ∷ rest) }
+{
+    let text = after(text, b"job ")?;
+    let text = after(text, name)?;
+    two_after(text, MOST_TRACE_NUMBER)
+}
+
+/// The job of a task that the text begins with a line of, and what follows the line. `None` exactly where it begins with
+/// no such line.
+pub(crate) fn job_after<'a>(
+    alloc: Global,
+    model: &ValidModel,
+    task: u32,
+    text: &'a [u8],
+) -> Result<Option<(Job, &'a [u8])>, NoMemory>
+    requires { task < length model.now.tasks }
+    ensures some { IfOk result (λ found. IfSome found (λ read.
+        IsJobOf model.now task read.0 × (text.now ≡ item_text model.now (JobOf task read.0) ++ read.1.now))) }
+    ensures named { IsName (task_at model.now task).name }
+    ensures none { IfOk result (λ found. IfNone found ((job : Job) (rest : List ℕ)
+        → IsJobOf model.now task job → text.now ≢ item_text model.now (JobOf task job) ++ rest)) }
+{
+    let task = &model.plain().tasks.as_slice()[task as usize];
+    let Some((arrival, release, behind)) = job_head_after(task.name.as_slice(), text) else {
+        return Ok(None);
+    };
+    let Some((times, behind)) = times_after(alloc, behind, task.runnables.len())? else {
+        return Ok(None);
+    };
+    match after(behind, b"\n") {
+        None => Ok(None),
+        Some(rest) => Ok(Some((
+            Job {
+                arrival,
+                release,
+                times,
+            },
+            rest,
+        ))),
+    }
+}
+
+/// The stretch of a task of the model that the text begins with a line of, its ticks at most `most`, and what follows the
+/// line. `None` exactly where it begins with no such line.
+pub(crate) fn run_after<'a>(
+    model: &ValidModel,
+    text: &'a [u8],
+    most: u64,
+) -> Option<(RunLine, &'a [u8])>
+    requires { AreTasksNamed model.now }
+    ensures some { IfSome result (λ read. text.now ≡ item_text model.now (Runs read.0.task read.0.from read.0.to) ++ read.1.now) }
+    ensures within { IfSome result (λ read. (read.0.task < length model.now.tasks) × (read.0.to ≤ most)) }
+    ensures none { IfNone result ((task from to : ℕ) (rest : List ℕ) → task < length model.now.tasks → from ≤ most → to ≤ most
+        → text.now ≢ item_text model.now (Runs task from to) ++ rest) }
+    ensures only { IfSome result (λ read. (task from to : ℕ) (rest : List ℕ) → task < length model.now.tasks → from ≤ most → to ≤ most
+        → text.now ≡ item_text model.now (Runs task from to) ++ rest → (read.0 ≡ record { task = task; from = from; to = to }) × (read.1.now ≡ rest)) }
+{
+    let text = after(text, b"run ")?;
+    let (task, text) = task_after(model, text)?;
+    let (from, to, text) = two_after(text, most)?;
+    let rest = after(text, b"\n")?;
+    Some((RunLine { task, from, to }, rest))
+}

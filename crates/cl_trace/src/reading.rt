@@ -1,0 +1,105 @@
+//! A trace, read as a run.
+ghost use Rattle.std.specs.Prelude.{◌≡◌, ◌+◌, ◌≤◌, ◌++◌, ℕ, List, ◌-◌, length, take, Err, IfOk};
+ghost use Rattle.cl_trace.specs.declared.fault.TraceFault.TheVariants.{BadLine};
+ghost use Rattle.cl_trace.specs.declared.limits.TheConstants.{MOST_TRACE_TICKS};
+ghost use Rattle.cl_trace.specs.Rules.{IsTraceOf, IsBadLine};
+ghost use Rattle.cl_trace.specs.Inner.Bodies.{IsBody, IsReadUpTo, AreCores};
+ghost use Rattle.cl_trace.specs.Inner.Pieces.{AreTasksNamed, newlines};
+
+use crate::fault::TraceFault;
+use crate::job_lines::table_after;
+use crate::lines::ticks_after;
+use crate::pieces::after;
+use crate::run_lines::runs_after;
+use cl_model::{List, ValidModel};
+use cl_run_data::RunData;
+use cl_runs::{Job, JobTable};
+use cl_time::NoMemory;
+use std::alloc::Global;
+
+/// The run of the lines behind the two first, as many as stand there, and what follows them.
+fn body_after<'a>(
+    alloc: Global,
+    model: &ValidModel,
+    ticks: u64,
+    text: &'a [u8],
+) -> Result<(RunData, &'a [u8]), NoMemory>
+    ensures body { IfOk result (λ read. IsBody model.now ticks text.now read.0 read.1.now) }
+    ensures named { IfOk result (λ _. AreTasksNamed model.now) }
+{
+    let mut jobs = List::new(alloc);
+    match table_after(alloc, model, text, &mut jobs) {
+        Ok(rest) => runs_of(alloc, model, JobTable { ticks, jobs }, rest),
+        Err(no_memory) => Err(no_memory),
+    }
+}
+
+/// The run of a table and of the run lines that stand next, and what follows them.
+fn runs_of<'a>(
+    alloc: Global,
+    model: &ValidModel,
+    table: JobTable,
+    text: &'a [u8],
+) -> Result<(RunData, &'a [u8]), NoMemory>
+    requires { AreTasksNamed model.now }
+    ensures table { IfOk result (λ read. read.0.table ≡ table) }
+    ensures cores { IfOk result (λ read. length read.0.entries ≡ length model.now.cores) }
+    ensures runs { IfOk result (λ read. AreCores model.now table.ticks (length model.now.cores) text.now read.0 read.1.now) }
+{
+    let mut run = RunData::start(alloc, table, model.cores())?;
+    match runs_after(model, &mut run, text) {
+        Ok(rest) => Ok((run, rest)),
+        Err(no_memory) => Err(no_memory),
+    }
+}
+
+/// The number of the line that what is left of a text begins with, counted from 1.
+fn line_at(text: &[u8], left: &[u8]) -> u64
+    requires { length left.now ≤ length text.now }
+    ensures { result ≡ newlines (take (length text.now - length left.now) text.now) + 1 }
+{
+    let read = &text[..text.len() - left.len()];
+    let lines = read.iter().filter(|byte| **byte == b'\n').count();
+    lines as u64 + 1
+}
+
+/// The run of a trace: each core's entries in each tick, and the jobs of each task. Times are in ticks.
+///
+/// The run is in form, and the text spells it. `BadLine` comes exactly where the text is no trace: at its first line that
+/// breaks its rule, counted from 1, or that is missing. `NoMemory` comes where there is no memory for the run. Either leaves
+/// nothing.
+pub fn read_trace(alloc: Global, model: &ValidModel, text: &[u8]) -> Result<RunData, TraceFault>
+    ensures run { IfOk result (IsTraceOf model.now text.now) }
+    ensures bad_line { (line : ℕ) → result ≡ Err (BadLine line) → IsBadLine model.now text.now line }
+{
+    let Some(behind_title) = after(text, b"chainlat trace 1\n") else {
+        return Err(TraceFault::BadLine { line: 1 });
+    };
+    let Some((ticks, behind_ticks)) = ticks_after(behind_title) else {
+        return Err(TraceFault::BadLine { line: 2 });
+    };
+    match body_after(alloc, model, ticks, behind_ticks) {
+        Ok((run, left)) => ended(model, text, run, left),
+        Err(NoMemory) => Err(TraceFault::NoMemory),
+    }
+}
+
+/// The run, where nothing but the last line is left of the text.
+fn ended(model: &ValidModel, text: &[u8], run: RunData, left: &[u8]) -> Result<RunData, TraceFault>
+    requires body { IsReadUpTo model.now text.now run left.now }
+    requires named { AreTasksNamed model.now }
+    ensures run { IfOk result (IsTraceOf model.now text.now) }
+    ensures bad_line { (line : ℕ) → result ≡ Err (BadLine line) → IsBadLine model.now text.now line }
+{
+    // read for its validity: a task has a core of the model
+    let _plain = model.plain();
+    match after(left, b"end\n") {
+        Some(nothing) if nothing.is_empty() => Ok(run),
+        Some(more) => Err(TraceFault::BadLine {
+            line: line_at(text, more),
+        }),
+        None => Err(TraceFault::BadLine {
+            line: line_at(text, left),
+        }),
+    }
+}

@@ -1,0 +1,106 @@
+//! The run lines of a trace: the entries of each core.
+ghost use Rattle.std.specs.Prelude.{◌≡◌, ◌<◌, ◌≤◌, ◌≢◌, ◌↔◌, ◌++◌, ℕ, List, [], length, IsTrue, OnOk, IfOk, IfSome, IfNone};
+ghost use Rattle.cl_runs.specs.Run.{core_entries};
+ghost use Rattle.cl_trace.specs.declared.lines.RunLine.{RunLine};
+ghost use Rattle.cl_trace.specs.Trace.{Runs, item_text};
+ghost use Rattle.cl_trace.specs.Inner.Bodies.{IsStretchWithin, FitsEntries, AreAllEntriesOf, IsRunWith, AreCores, appended};
+ghost use Rattle.cl_trace.specs.Inner.Pieces.{AreTasksNamed};
+
+use crate::lines::{RunLine, run_after};
+use cl_model::ValidModel;
+use cl_run_data::RunData;
+use cl_time::NoMemory;
+
+/// Whether a stretch may be appended to the entries of a core so far: it is of a task of that core, begins where they end
+/// or later, and is a longest one.
+fn fits_core(model: &ValidModel, run: &RunData, core: u32, line: RunLine) -> bool
+    requires is_core { core < length run.now.entries }
+    requires is_task { line.task < length model.now.tasks }
+    ensures { IsTrue result ↔ FitsEntries model.now core (core_entries run.now core) line.task line.from }
+{
+    let filled = run.filled(core);
+    model.core_of(line.task) == core
+        && filled <= line.from
+        && (filled < line.from || filled == 0 || run.entry(core, filled - 1) != Some(line.task))
+}
+
+/// The stretch of a core that the text begins with a line of, where it may be appended to the entries so far, and what
+/// follows the line.
+fn stretch_after<'a>(
+    model: &ValidModel,
+    run: &RunData,
+    core: u32,
+    text: &'a [u8],
+) -> Option<(RunLine, &'a [u8])>
+    requires named { AreTasksNamed model.now }
+    requires is_core { core < length run.now.entries }
+    ensures some { IfSome result (λ read. text.now ≡ item_text model.now (Runs read.0.task read.0.from read.0.to) ++ read.1.now) }
+    ensures within { IfSome result (λ read. IsStretchWithin model.now run.now.table.ticks read.0.task read.0.from read.0.to) }
+    ensures fits { IfSome result (λ read. FitsEntries model.now core (core_entries run.now core) read.0.task read.0.from) }
+    ensures none { IfNone result ((task from to : ℕ) (rest : List ℕ) → IsStretchWithin model.now run.now.table.ticks task from to
+        → FitsEntries model.now core (core_entries run.now core) task from → text.now ≢ item_text model.now (Runs task from to) ++ rest) }
+{
+    let (line, rest) = run_after(model, text, run.table().ticks)?;
+    if line.from < line.to && fits_core(model, run, core, line) {
+        Some((line, rest))
+    } else {
+        None
+    }
+}
+
+/// Appends a stretch to the entries of a core, and idle ticks before it where it begins later than they end.
+fn append(run: &mut RunData, core: u32, line: RunLine) -> Result<(), NoMemory>
+    requires is_core { core < length run.old.entries }
+    requires after { length (core_entries run.old core) ≤ line.from }
+    requires some { line.from < line.to }
+    requires in_time { line.to ≤ run.old.table.ticks }
+    ensures { OnOk result (IsRunWith run.old run.new core (appended (core_entries run.old core) line.task line.from line.to)) }
+{
+    let idle = line.from - run.filled(core);
+    run.push(core, None, idle)?;
+    run.push(core, Some(line.task), line.to - line.from)
+}
+
+/// Reads the entries of a core, as many lines of it as may stand next, and answers what follows them.
+fn entries_after<'a>(
+    model: &ValidModel,
+    run: &mut RunData,
+    core: u32,
+    text: &'a [u8],
+) -> Result<&'a [u8], NoMemory>
+    requires named { AreTasksNamed model.now }
+    requires is_core { core < length run.old.entries }
+    requires of_model { core < length model.now.cores }
+    requires empty { core_entries run.old core ≡ [] }
+    ensures run { OnOk result (IsRunWith run.old run.new core (core_entries run.new core)) }
+    ensures entries { IfOk result (λ rest. AreAllEntriesOf model.now run.old.table.ticks core text.now (core_entries run.new core) rest.now) }
+{
+    let mut left = text;
+    while let Some((line, rest)) = stretch_after(model, run, core, left) {
+        append(run, core, line)?;
+        left = rest;
+    }
+    let idle = run.table().ticks - run.filled(core);
+    run.push(core, None, idle)?;
+    Ok(left)
+}
+
+/// Reads the entries of all cores, core by core, as many lines as may stand next, and answers what follows them.
+pub(crate) fn runs_after<'a>(
+    model: &ValidModel,
+    run: &mut RunData,
+    text: &'a [u8],
+) -> Result<&'a [u8], NoMemory>
+    requires named { AreTasksNamed model.now }
+    requires cores { length run.old.entries ≡ length model.now.cores }
+    requires empty { (core : ℕ) → core_entries run.old core ≡ [] }
+    ensures table { OnOk result (run.new.table ≡ run.old.table) }
+    ensures cores { OnOk result (length run.new.entries ≡ length model.now.cores) }
+    ensures entries { IfOk result (λ rest. AreCores model.now run.old.table.ticks (length model.now.cores) text.now run.new rest.now) }
+{
+    let mut left = text;
+    for core in 0..model.cores() {
+        left = entries_after(model, run, core, left)?;
+    }
+    Ok(left)
+}

@@ -1,0 +1,241 @@
+-- The order that is filled from the lowest priority upward is the first of those that fit, and there is none only where
+-- none fits: whatever fits lowest may be taken out of any other order that fits and put below the rest of it.
+-- Source: Audsley 1991.
+use Rattle.std.proofs.Common.{◌≡◌, ℕ, zero, suc, ◌+◌, ◌<◌, ◌≤◌, inl, inr, max, Bool, true, false, cond, not, ◌&&◌, ◌||◌, Option, Some, None, List, [], ◌∷◌, length, refl, sym, ap, ◌∙◌, subst, arith}
+use Rattle.std.specs.Prelude.{◌==◌, filter, find}
+use Rattle.std.specs.List.{range_with_len}
+use Rattle.std.specs.Option.{option_map, option_and_then}
+use Rattle.std.proofs.lemmas.Bool.{true≢false, false≢true, eqb-true, and_parts, and_right, cases_order, false_from_ne_true, not_from_true, not_from_false, cond-true, cond-false}
+use Rattle.cl_runs.specs.Pattern.{IsPattern}
+use Rattle.cl_runs.specs.TaskTiming.{System, timing_at}
+use Rattle.cl_resp.specs.Question.{longest_hold}
+use Rattle.cl_resp.proofs.FirstFound.{none_passes}
+use Rattle.cl_tune.specs.Dictionary.{ComesNoLater}
+use Rattle.cl_tune.specs.Inner.Filling.{without, fits_below, fits, best_order}
+use Rattle.cl_tune.proofs.Members.{has, has_itself, has_head, has_more, has_cases, has_filter, AreDistinct, HaveSame, all_at, distinct_filter, without_head, without_other, length_without, same_without, lengths_agree}
+use Rattle.cl_tune.proofs.FitsBelow.{fits_same, fits_moved_up}
+
+-- ---- ascending lists
+
+-- each number is below those after it
+abbrev pub AreAscending : List ℕ → Type 0
+AreAscending [] = Unit {0}
+AreAscending (x ∷ xs) = ((y : ℕ) → has y xs ≡ true → x < y) × AreAscending xs
+
+pub ascending_distinct : (xs : List ℕ) → AreAscending xs → AreDistinct xs
+ascending_distinct [] up = tt
+ascending_distinct (x ∷ xs) up = (false_from_ne_true (has x xs) (λ is. absurd (omega (arith, up.0 x is))), ascending_distinct xs up.1)
+
+pub ascending_filter : (p : ℕ → Bool) (xs : List ℕ) → AreAscending xs → AreAscending (filter p xs)
+ascending_filter p [] up = tt
+ascending_filter p (x ∷ xs) up = elim (p x) as (λ b. AreAscending (cond b (x ∷ filter p xs) (filter p xs))) [
+  | true ↦ ((λ y is. up.0 y (and_parts (has y xs) (p y) (sym (has_filter p y xs) ∙ is)).0), ascending_filter p xs up.1)
+  | false ↦ ascending_filter p xs up.1
+]
+
+pub range_from : (a n y : ℕ) → has y (range_with_len a n) ≡ true → a ≤ y
+range_from a zero y is = absurd (false≢true is)
+range_from a (suc n) y is = elim (has_cases y a (range_with_len (a + 1) n) is) [
+  | inl same ↦ omega (arith, same)
+  | inr rest ↦ omega (arith, range_from (a + 1) n y rest)
+]
+
+pub ascending_range : (a n : ℕ) → AreAscending (range_with_len a n)
+ascending_range a zero = tt
+ascending_range a (suc n) = ((λ y is. omega (arith, range_from (a + 1) n y is)), ascending_range (a + 1) n)
+
+-- ---- what is found first
+
+pub found_passes : (test : ℕ → Bool) (xs : List ℕ) (x : ℕ) → find test xs ≡ Some x → (has x xs ≡ true) × (test x ≡ true)
+found_passes test [] x is = cc
+found_passes test (y ∷ ys) x is = go (test y) refl (found_passes test ys x)
+  where
+    go : (b : Bool) → test y ≡ b → (find test ys ≡ Some x → (has x ys ≡ true) × (test x ≡ true)) → (has x (y ∷ ys) ≡ true) × (test x ≡ true)
+    go true e again =
+        let here : Some y ≡ Some x = sym (cond-true (test y) (Some y) (find test ys) e) ∙ is in
+        let same : y ≡ x = cc in
+        (subst (λ n. has n (y ∷ ys) ≡ true) same (has_head y ys), ap test (sym same) ∙ e)
+    go false e again =
+        let rest = again (sym (cond-false (test y) (Some y) (find test ys) e) ∙ is) in
+        (has_more x y ys rest.0, rest.1)
+
+-- of an ascending list, what is found first is the least that passes
+pub found_least : (test : ℕ → Bool) (xs : List ℕ) (x y : ℕ) → AreAscending xs → find test xs ≡ Some x → has y xs ≡ true → test y ≡ true → x ≤ y
+found_least test [] x y up is there passes = absurd (false≢true there)
+found_least test (z ∷ zs) x y up is there passes = go (test z) refl (found_least test zs x y up.1)
+  where
+    go : (b : Bool) → test z ≡ b → (find test zs ≡ Some x → has y zs ≡ true → test y ≡ true → x ≤ y) → x ≤ y
+    go true e again =
+        let here : Some z ≡ Some x = sym (cond-true (test z) (Some z) (find test zs) e) ∙ is in
+        let same : z ≡ x = cc in
+        elim (has_cases y z zs there) [ inl it ↦ omega (arith, same, it) | inr rest ↦ omega (arith, same, up.0 y rest) ]
+    go false e again = elim (has_cases y z zs there) [
+      | inl it ↦ absurd (true≢false (sym passes ∙ sym (ap test it) ∙ e))
+      | inr rest ↦ again (sym (cond-false (test z) (Some z) (find test zs) e) ∙ is) rest passes
+    ]
+
+-- ---- orders that fit
+
+module _ (system : System) where
+  abbrev hold : ℕ → ℕ
+  hold task = longest_hold (timing_at system task)
+
+  -- each task of an order fits below those after it, where what stands before it may hold the core for so long
+  abbrev pub AllFit : (block : ℕ) → List ℕ → Type 0
+  AllFit block [] = Unit {0}
+  AllFit block (task ∷ tasks) = (fits_below system block tasks task ≡ true) × AllFit (max block (hold task)) tasks
+
+  -- an order of tasks that wait
+  pub record IsOrderOf (waiting order : List ℕ) : Type 0 where
+    pub once : AreDistinct order
+    pub same : HaveSame order waiting
+
+  -- one task is taken out of an order that fits and put below the rest
+  pub moved_down : (block : ℕ) (order : List ℕ) (task : ℕ) → AreDistinct order → has task order ≡ true → IsPattern (timing_at system task).pattern
+      → AllFit block order → AllFit (max block (hold task)) (without task order)
+  moved_down block [] task once there well fit = tt
+  moved_down block (x ∷ xs) task once there well fit = go (x == task) refl (moved_down (max block (hold x)) xs task once.1)
+    where
+      go : (b : Bool) → (x == task) ≡ b
+          → (has task xs ≡ true → IsPattern (timing_at system task).pattern → AllFit (max block (hold x)) xs → AllFit (max (max block (hold x)) (hold task)) (without task xs))
+          → AllFit (max block (hold task)) (without task (x ∷ xs))
+      go true e again =
+          let same = eqb-true x task e in
+          let absent : has task xs ≡ false = ap (λ n. has n xs) (sym same) ∙ once.0 in
+          let rest : without task (x ∷ xs) ≡ xs = ap (λ n. without task (n ∷ xs)) same ∙ without_head task xs absent in
+          subst (λ (list : List ℕ). AllFit (max block (hold task)) list) (sym rest) (subst (λ n. AllFit (max block (hold n)) xs) same fit.1)
+      go false e again =
+          let there_rest : has task xs ≡ true = sym (ap (λ b. b || has task xs) e) ∙ there in
+          let swapped : max (max block (hold x)) (hold task) ≡ max (max block (hold task)) (hold x) = omega arith in
+          subst (λ (list : List ℕ). AllFit (max block (hold task)) list) (sym (without_other task x xs e)) (
+            fits_moved_up system block xs x task once.1 there_rest well fit.0,
+            subst (λ n. AllFit n (without task xs)) swapped (again there_rest well fit.1),
+          )
+
+  -- the order without one task is an order of those that wait without it
+  order_without : (waiting order : List ℕ) (task : ℕ) → IsOrderOf waiting order → IsOrderOf (without task waiting) (without task order)
+  order_without waiting order task is = record {
+    once = distinct_filter (λ y. not (y == task)) order is.once;
+    same = λ x. has_filter (λ y. not (y == task)) x order ∙ ap (λ b. b && not (x == task)) (is.same x) ∙ sym (has_filter (λ y. not (y == task)) x waiting);
+  }
+
+  -- the rest of an order is an order of those that wait without its first
+  order_tail : (waiting rest : List ℕ) (task : ℕ) → IsOrderOf waiting (task ∷ rest) → IsOrderOf (without task waiting) rest
+  order_tail waiting rest task is = record { once = is.once.1; same = same_without task rest waiting is.once.0 is.same }
+
+  -- and the other way round
+  order_cons : (waiting rest : List ℕ) (task : ℕ) → has task waiting ≡ true → IsOrderOf (without task waiting) rest → IsOrderOf waiting (task ∷ rest)
+  order_cons waiting rest task there is = record {
+    once = (is.same task ∙ has_filter (λ y. not (y == task)) task waiting ∙ and_right (has task waiting) (not (task == task)) (not_from_true (task == task) (has_itself task)), is.once);
+    same = λ x. go x (task == x) refl;
+  }
+    where
+      go : (x : ℕ) (b : Bool) → (task == x) ≡ b → has x (task ∷ rest) ≡ has x waiting
+      go x true e = ap (λ b. b || has x rest) e ∙ sym (ap (λ n. has n waiting) (sym (eqb-true task x e)) ∙ there)
+      go x false e =
+          let other : (x == task) ≡ false = false_from_ne_true (x == task)
+          (λ t. true≢false (sym (has_itself task) ∙ ap (λ n. task == n) (sym (eqb-true x task t)) ∙ e)) in
+          ap (λ b. b || has x rest) e ∙ is.same x ∙ has_filter (λ y. not (y == task)) x waiting
+          ∙ ap (λ b. has x waiting && b) (not_from_false (x == task) other) ∙ pass (has x waiting)
+        where
+          pass : (b : Bool) → (b && true) ≡ b
+          pass true = refl
+          pass false = refl
+
+  -- the first of an order that fits is among those that fit below all others
+  first_fits : (block : ℕ) (waiting rest : List ℕ) (task : ℕ) → AreDistinct waiting → IsOrderOf waiting (task ∷ rest)
+      → fits_below system block rest task ≡ true → fits system block waiting task ≡ true
+  first_fits block waiting rest task once is fit =
+      let tail = order_tail waiting rest task is in
+      fits_same system block rest (without task waiting) task tail.once (distinct_filter (λ y. not (y == task)) waiting once) tail.same fit
+
+  -- ---- the order that is filled
+
+  -- what is answered for tasks that wait: the first order that fits, or that none does
+  pub record IsFirstFit (block : ℕ) (waiting order : List ℕ) : Type 0 where
+    pub is_order : IsOrderOf waiting order
+    pub fit : AllFit block order
+    pub first : (other : List ℕ) → IsOrderOf waiting other → AllFit block other → ComesNoLater order other
+
+  abbrev pub NoneFits : (block : ℕ) (waiting : List ℕ) → Type 0
+  NoneFits block waiting = (order : List ℕ) → IsOrderOf waiting order → AllFit block order → ⊥
+
+  abbrev pub IsAnswer : (block : ℕ) (waiting : List ℕ) → Option (List ℕ) → Type 0
+  IsAnswer block waiting None = NoneFits block waiting
+  IsAnswer block waiting (Some order) = IsFirstFit block waiting order
+
+  no_task : (waiting : List ℕ) → 0 ≡ length waiting → waiting ≡ []
+  no_task [] none = refl
+  no_task (x ∷ xs) none = absurd (omega (arith, none))
+
+  module _ (block : ℕ) (waiting : List ℕ) (up : AreAscending waiting) (well : (x : ℕ) → has x waiting ≡ true → IsPattern (timing_at system x).pattern) where
+    -- where none fits below all others, no order fits
+    nothing : (left : ℕ) → suc left ≡ length waiting → find (fits system block waiting) waiting ≡ None → NoneFits block waiting
+    nothing left some none [] is fit = absurd (omega (arith, some, lengths_agree [] waiting is.once (ascending_distinct waiting up) is.same))
+    nothing left some none (task ∷ rest) is fit =
+        let there : has task waiting ≡ true = sym (is.same task) ∙ has_head task rest in
+        let fails = all_at (λ x. fits system block waiting x ≡ false) waiting task (none_passes (fits system block waiting) waiting none) there in
+        true≢false (sym (first_fits block waiting rest task (ascending_distinct waiting up) is fit.0) ∙ fails)
+
+    module _ (task : ℕ) (found : find (fits system block waiting) waiting ≡ Some task) where
+      -- where no order of the rest fits above what is found, none fits
+      nothing_above : NoneFits (max block (hold task)) (without task waiting) → NoneFits block waiting
+      nothing_above none order is fit =
+          let there : has task order ≡ true = is.same task ∙ (found_passes (fits system block waiting) waiting task found).0 in
+          none (without task order) (order_without waiting order task is)
+          (moved_down block order task is.once there (well task (found_passes (fits system block waiting) waiting task found).0) fit)
+
+      -- what is found and the first order of the rest is the first order
+      first_above : (rest : List ℕ) → IsFirstFit (max block (hold task)) (without task waiting) rest → IsFirstFit block waiting (task ∷ rest)
+      first_above rest best =
+          let passes = found_passes (fits system block waiting) waiting task found in
+          record {
+            is_order = order_cons waiting rest task passes.0 best.is_order;
+            fit = (
+              fits_same system block (without task waiting) rest task (distinct_filter (λ y. not (y == task)) waiting (ascending_distinct waiting up)) best.is_order.once
+                  (λ x. sym (best.is_order.same x)) passes.1,
+              best.fit,
+            );
+            first = comes_first;
+          }
+        where
+          comes_first : (other : List ℕ) → IsOrderOf waiting other → AllFit block other → ComesNoLater (task ∷ rest) other
+          comes_first [] is fit = absurd (false≢true (is.same task ∙ (found_passes (fits system block waiting) waiting task found).0))
+          comes_first (x ∷ xs) is fit =
+              let there : has x waiting ≡ true = sym (is.same x) ∙ has_head x xs in
+              let least = found_least (fits system block waiting) waiting task x up found there (first_fits block waiting xs x (ascending_distinct waiting up) is fit.0) in
+              elim (cases_order task x) [
+                | inl same ↦ inr (
+                  same,
+                  best.first xs
+                      (subst (λ n. IsOrderOf (without n waiting) xs) (sym same) (order_tail waiting xs x is))
+                      (subst (λ n. AllFit (max block (hold n)) xs) (sym same) fit.1),
+                )
+                | inr (inl below) ↦ inl below
+                | inr (inr above) ↦ absurd (omega (arith, least, above))
+              ]
+
+  pub filled : (count block : ℕ) (waiting : List ℕ) → count ≡ length waiting → AreAscending waiting
+      → ((x : ℕ) → has x waiting ≡ true → IsPattern (timing_at system x).pattern) → IsAnswer block waiting (best_order system count block waiting)
+  filled zero block waiting none up well = subst (λ (list : List ℕ). IsFirstFit block list []) (sym (no_task waiting none)) (record {
+    is_order = record { once = tt; same = λ x. refl };
+    fit = tt;
+    first = λ other is fit. tt;
+  })
+  filled (suc count) block waiting some up well = go (find (fits system block waiting) waiting) refl
+      (λ task there. filled count (max block (hold task)) (without task waiting)
+      (omega (arith, some, length_without task waiting (ascending_distinct waiting up) there))
+      (ascending_filter (λ y. not (y == task)) waiting up)
+      (λ x is. well x (and_parts (has x waiting) (not (x == task)) (sym (has_filter (λ y. not (y == task)) x waiting) ∙ is)).0))
+    where
+      above : (task : ℕ) → find (fits system block waiting) waiting ≡ Some task → (rest : Option (List ℕ)) → IsAnswer (max block (hold task)) (without task waiting) rest
+          → IsAnswer block waiting (option_map (λ order. task ∷ order) rest)
+      above task found None none = nothing_above block waiting up well task found none
+      above task found (Some rest) best = first_above block waiting up well task found rest best
+
+      go : (first : Option ℕ) → find (fits system block waiting) waiting ≡ first
+          → ((task : ℕ) → has task waiting ≡ true → IsAnswer (max block (hold task)) (without task waiting) (best_order system count (max block (hold task)) (without task waiting)))
+          → IsAnswer block waiting (option_and_then (λ task. option_map (λ order. task ∷ order) (best_order system count (max block (hold task)) (without task waiting))) first)
+      go None found again = nothing block waiting up well count some found
+      go (Some task) found again = above task found (best_order system count (max block (hold task)) (without task waiting))
+          (again task (found_passes (fits system block waiting) waiting task found).0)

@@ -1,0 +1,14 @@
+pub mod Timings
+pub mod QuestionRanges
+pub mod FillingSteps
+pub mod Members
+pub mod FitsBelow
+pub mod FilledOrders
+pub mod Priorities
+pub mod UnderOrders
+pub mod CoreOrders
+pub mod ScaledValid
+pub mod ScaledAnswers
+pub mod ScaledBounds
+pub mod ScaledExact
+pub mod KeptBelow

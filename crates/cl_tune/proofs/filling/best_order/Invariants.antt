@@ -1,0 +1,21 @@
+use Rattle.std.proofs.Common.{◌≡◌, ℕ, ◌-◌, ◌<◌, ◌≤◌, length}
+use Rattle.std.specs.Prelude.{All}
+use Rattle.cl_model.specs.declared.limits.TheConstants.{MOST_TICKS, MOST_TASKS_OF_CORE}
+use Rattle.cl_model.specs.declared.model.SystemModel.{SystemModel}
+use Rattle.cl_model.specs.ByNumber.{tasks_of_core}
+use Rattle.cl_runs.specs.SystemOf.{system_of}
+use Rattle.cl_tune.specs.Inner.Filling.{best_order}
+use Rattle.cl_tune.proofs.FillingSteps.{behind}
+use Rattle.std.proofs.Common.{List}
+use Rattle.cl_tune.proofs.filling.best_order.Given as goal
+
+-- the order of the core is what is placed and then the order of those that wait
+pub record IsSoFar (model : SystemModel) (core : ℕ) (placed : List ℕ) (left block : ℕ) (waiting : List ℕ) : Type 0 where
+  pub so_far : best_order (system_of model) (length (tasks_of_core model core)) 0 (tasks_of_core model core)
+      ≡ behind placed (best_order (system_of model) left block waiting)
+  pub small : block ≤ MOST_TICKS
+  pub known : All (λ other. other < length model.tasks) waiting
+  pub few : length waiting ≤ MOST_TASKS_OF_CORE
+
+abbrev pub invariant-loop : goal.invariant-loop
+invariant-loop g l = IsSoFar l.model l.core l.order.items (l.end - l.counter) l.block l.waiting.items

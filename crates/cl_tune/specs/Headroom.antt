@@ -1,0 +1,38 @@
+-- The headroom of a model: how far its greatest execution times may be scaled. Source: this project's profile.
+use Rattle.std.specs.Prelude.{◌≡◌, ℕ, ◌<◌, ◌≤◌, Bool, true, false, All, Option, Some, None}
+use Rattle.cl_model.specs.declared.model.SystemModel.{SystemModel}
+use Rattle.cl_model.specs.Ranges.{IsInRange}
+use Rattle.cl_bound.specs.declared.answer.TaskAnswer.{TaskAnswer}
+use Rattle.cl_bound.specs.Answers.{is_late}
+use Rattle.cl_analyse.specs.declared.findings.Findings.{Findings}
+use Rattle.cl_analyse.specs.declared.findings.Verdict.{Verdict}
+use Rattle.cl_analyse.specs.declared.findings.Verdict.TheVariants.{Met, Broken, Unshown}
+use Rattle.cl_analyse.specs.Findings.{AreFindings}
+use Rattle.cl_tune.specs.declared.percent.TheConstants.{MOST_PERCENT}
+use Rattle.cl_tune.specs.Scaled.{scaled}
+
+-- whether a requirement is found met
+abbrev pub is_met : Verdict → Bool
+is_met (Met value) = true
+is_met (Broken value) = false
+is_met (Unshown value) = false
+
+-- a percentage keeps: the model that it scales is in range, none of its tasks is late, and each requirement is met
+pub record Keeps (model : SystemModel) (percent : ℕ) : Type 0 where
+  pub in_range : IsInRange (scaled model percent)
+  pub findings : Findings
+  pub found : AreFindings (scaled model percent) findings
+  pub in_time : All (λ (answer : TaskAnswer). is_late answer ≡ false) findings.tasks
+  pub met : All (λ (verdict : Verdict). is_met verdict ≡ true) findings.verdicts
+
+-- the greatest percentage that keeps, from 1 up to the most
+pub record IsGreatestKept (model : SystemModel) (percent : ℕ) : Type 0 where
+  pub some : 1 ≤ percent
+  pub few : percent ≤ MOST_PERCENT
+  pub kept : Keeps model percent
+  pub greatest : (other : ℕ) → percent < other → other ≤ MOST_PERCENT → Keeps model other → ⊥
+
+-- the headroom is the greatest percentage that keeps, and there is none exactly where 1 percent doesn't
+abbrev pub IsHeadroom : SystemModel → Option ℕ → Type 0
+IsHeadroom model None = Keeps model 1 → ⊥
+IsHeadroom model (Some percent) = IsGreatestKept model percent

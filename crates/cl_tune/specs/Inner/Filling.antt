@@ -1,0 +1,44 @@
+-- How an order is filled from the lowest priority upward: by the first task that fits below all others that wait.
+use Rattle.std.specs.Prelude.{ℕ, zero, suc, Bool, not, ◌&&◌, ◌==◌, max, List, [], ◌∷◌, map, filter, find, is_some, Option, Some}
+use Rattle.std.specs.List.{list_all}
+use Rattle.std.specs.Option.{option_map, option_and_then}
+use Rattle.cl_model.specs.Timing.{greatest_jitter}
+use Rattle.cl_model.specs.ValidTasks.{spans_too_many}
+use Rattle.cl_runs.specs.TaskTiming.{System, timing_at}
+use Rattle.cl_resp.specs.declared.question.Question.{Question}
+use Rattle.cl_resp.specs.Question.{greatest_execution, longest_hold, taken_by}
+use Rattle.cl_resp.specs.Response.{response_to}
+
+-- the tasks of a list but for one
+abbrev pub without : (task : ℕ) → List ℕ → List ℕ
+without task tasks = filter (λ other. not (other == task)) tasks
+
+-- the question of a task below others, where whole runnables of the tasks below it block it for so long
+abbrev pub question_below : System → (block : ℕ) (others : List ℕ) → (task : ℕ) → Question
+question_below system block others task = record {
+  time = greatest_execution (timing_at system task);
+  block = max block (longest_hold (timing_at system task));
+  jitter = greatest_jitter (timing_at system task).pattern;
+  deadline = (timing_at system task).deadline;
+  above = map (λ other. taken_by (timing_at system other)) others;
+}
+
+-- whether the deadline of a task spans few least distances of each of the others
+abbrev pub spans_few : System → (others : List ℕ) → (task : ℕ) → Bool
+spans_few system others task = list_all (λ other. not (spans_too_many (timing_at system task).deadline (timing_at system other).pattern)) others
+
+-- whether a task passes below the others that wait
+abbrev pub fits_below : System → (block : ℕ) (others : List ℕ) → (task : ℕ) → Bool
+fits_below system block others task = spans_few system others task && is_some (response_to (question_below system block others task))
+
+-- whether it does, where it waits itself
+abbrev pub fits : System → (block : ℕ) (waiting : List ℕ) → (task : ℕ) → Bool
+fits system block waiting task = fits_below system block (without task waiting) task
+
+-- the best order of so many tasks that wait: the first that fits comes first, and then those of the others
+abbrev pub best_order : System → (count : ℕ) → (block : ℕ) (waiting : List ℕ) → Option (List ℕ)
+best_order system zero block waiting = Some []
+best_order system (suc count) block waiting =
+    option_and_then (λ task. option_map (λ order. task ∷ order)
+    (best_order system count (max block (longest_hold (timing_at system task))) (without task waiting)))
+    (find (fits system block waiting) waiting)

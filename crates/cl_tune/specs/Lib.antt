@@ -1,0 +1,6 @@
+pub mod Dictionary
+pub mod Orders
+pub mod BestOrders
+pub mod Scaled
+pub mod Headroom
+pub mod Inner

@@ -1,0 +1,16 @@
+//! Better designs by search: the best order of the priorities on every core, and how far execution times may grow.
+#![tactic(auto)]
+
+mod answer;
+mod filling;
+mod fitting;
+pub mod laws;
+mod ordering;
+mod percent;
+mod room;
+mod scaling;
+
+pub use answer::OrderAnswer;
+pub use ordering::order;
+pub use percent::MOST_PERCENT;
+pub use room::headroom;

@@ -1,0 +1,72 @@
+//! The best order of the priorities on every core.
+ghost use Rattle.std.specs.Prelude.{◌≡◌, ℕ, ◌<◌, ◌==◌, length, slice_index, position, IfOk};
+ghost use Rattle.std.specs.List.{HoldsAt};
+ghost use Rattle.cl_model.specs.ByNumber.{core_of};
+ghost use Rattle.cl_tune.specs.Orders.{priority_in};
+ghost use Rattle.cl_tune.specs.BestOrders.{IsOrderAnswer};
+
+use crate::answer::OrderAnswer;
+use crate::filling::best_order;
+use cl_model::{List, ValidModel};
+use cl_time::{NoMemory, Steps};
+use std::alloc::Global;
+use std::sync::ledger::Ledger;
+
+/// The place of a task in an order, counted from 0. There is none exactly where it isn't in it.
+fn place_in(order: &[u32], task: u32) -> Option<usize>
+    ensures { result ≡ position (λ other. other == task) order.now }
+{
+    order.iter().position(|other| *other == task)
+}
+
+/// The priority that an order gives a task.
+fn priority_in(order: &[u32], task: u32) -> u64
+    ensures { result ≡ priority_in order.now task }
+{
+    place_in(order, task).unwrap_or(0) as u64 + 1
+}
+
+/// The priorities that the orders of the cores give the tasks, in file order.
+fn priorities_by(
+    alloc: Global,
+    model: &ValidModel,
+    orders: &[Vec<u32>],
+) -> Result<List<u64>, NoMemory>
+    requires { length orders.now ≡ length model.now.cores }
+    ensures one_a_task { IfOk result (λ priorities. length priorities ≡ length model.now.tasks) }
+    ensures each { IfOk result (λ priorities. (task : ℕ) → task < length model.now.tasks
+        → HoldsAt (λ order. slice_index priorities task ≡ priority_in order.items task) orders.now (core_of model.now task)) }
+{
+    let mut priorities = List::new(alloc);
+    for task in 0..model.tasks() {
+        let order = &orders[model.core_of(task) as usize];
+        priorities.push(priority_in(order.as_slice(), task))?;
+    }
+    Ok(priorities)
+}
+
+/// The best order of the priorities on every core: under it no task of the core is late and no deadline spans too many
+/// least distances of a task of higher priority, and of all such orders it is the first in dictionary order, as a list of
+/// tasks by their numbers from priority 1 upward. Whole runnables block as they do under the order that is tried.
+///
+/// Where no order of some core passes, the answer is the first such core. The only error is `NoMemory`, where memory ran
+/// out. It asks one question of each task that is tried at a place, and counts a step for each.
+pub fn order<L: Ledger>(
+    alloc: Global,
+    model: &ValidModel,
+    steps: &mut Steps<L>,
+) -> Result<OrderAnswer, NoMemory>
+    ensures { IfOk result (IsOrderAnswer model.now) }
+{
+    // read for what it says: the model is valid
+    let _plain = model.plain();
+    let mut orders = Vec::new(alloc);
+    for core in 0..model.cores() {
+        let Some(order) = best_order(alloc, model, core, steps)? else {
+            return Ok(OrderAnswer::NoOrder { core });
+        };
+        orders.push(order)?;
+    }
+    let priorities = priorities_by(alloc, model, orders.as_slice())?;
+    Ok(OrderAnswer::Order { priorities })
+}

@@ -1,0 +1,107 @@
+//! How far the greatest execution times of a model may be scaled.
+ghost use Rattle.std.specs.Prelude.{◌≡◌, ◌≤◌, ◌↔◌, true, false, IsTrue, IfOk, All, MatchBool};
+ghost use Rattle.cl_model.specs.Validity.{IsValid};
+ghost use Rattle.cl_bound.specs.Answers.{is_late};
+ghost use Rattle.cl_tune.specs.Headroom.{is_met, Keeps, IsHeadroom};
+
+use crate::percent::MOST_PERCENT;
+use crate::scaling::scaled;
+use cl_analyse::{Findings, Verdict, analyse};
+use cl_bound::TaskAnswer;
+use cl_model::{SystemModel, ValidModel};
+use cl_time::{NoMemory, Steps};
+use cl_valid::in_range;
+use std::alloc::Global;
+use std::sync::ledger::Ledger;
+
+/// Whether a requirement is found met.
+fn is_met(verdict: &Verdict) -> bool
+    ensures { result ≡ is_met verdict.now }
+{
+    matches!(verdict, Verdict::Met { .. })
+}
+
+/// Whether no task is late.
+fn are_in_time(answers: &[TaskAnswer]) -> bool
+    ensures { IsTrue result ↔ All (λ answer. is_late answer ≡ false) answers.now }
+{
+    answers.iter().all(|answer| !answer.is_late())
+}
+
+/// Whether each requirement is found met.
+fn are_met(verdicts: &[Verdict]) -> bool
+    ensures { IsTrue result ↔ All (λ verdict. is_met verdict ≡ true) verdicts.now }
+{
+    verdicts.iter().all(|verdict| is_met(verdict))
+}
+
+/// Whether no task is late and each requirement is met.
+fn is_kept(findings: &Findings) -> bool
+    ensures { IsTrue result ↔ ((All (λ answer. is_late answer ≡ false) findings.now.tasks)
+        × (All (λ verdict. is_met verdict ≡ true) findings.now.verdicts)) }
+{
+    are_in_time(findings.tasks.as_slice()) && are_met(findings.verdicts.as_slice())
+}
+
+/// The valid model that a plain one is.
+fn adopted(alloc: Global, model: SystemModel) -> Result<ValidModel, NoMemory>
+    requires { IsValid model }
+    ensures { IfOk result (λ valid. valid ≡ model) }
+{
+    match ValidModel::adopt(alloc, model) {
+        Ok(valid) => Ok(valid),
+        Err((_, no_memory)) => Err(no_memory),
+    }
+}
+
+/// Whether a percentage keeps: the model that it scales is in range, none of its tasks is late, and each requirement is
+/// met.
+fn keeps<L: Ledger>(
+    alloc: Global,
+    model: &ValidModel,
+    percent: u64,
+    steps: &mut Steps<L>,
+) -> Result<bool, NoMemory>
+    requires { percent ≤ MOST_PERCENT }
+    ensures { IfOk result (λ kept. MatchBool kept (Keeps model.now percent) (Keeps model.now percent → ⊥)) }
+{
+    let scaled = scaled(alloc, model.plain(), percent)?;
+    if !in_range(&scaled) {
+        return Ok(false);
+    }
+    let scaled = adopted(alloc, scaled)?;
+    let findings = analyse(alloc, &scaled, steps)?;
+    Ok(is_kept(&findings))
+}
+
+/// The headroom of a model: the greatest percentage from 1 to 1,000 by which all greatest execution times may be scaled,
+/// where each is rounded down but no less than the least time, so that the model stays in range, no task is late and each
+/// requirement is met. Each smaller percentage from 1 up keeps that too, and there is no headroom exactly where 1 percent
+/// doesn't keep it.
+///
+/// The only error is `NoMemory`, where memory ran out. It analyses ten copies of the model or so, and counts their steps.
+pub fn headroom<L: Ledger>(
+    alloc: Global,
+    model: &ValidModel,
+    steps: &mut Steps<L>,
+) -> Result<Option<u64>, NoMemory>
+    ensures { IfOk result (IsHeadroom model.now) }
+{
+    // read for what it says: the model is valid
+    let _plain = model.plain();
+    // what keeps is below, and what doesn't is from the end on
+    let mut kept = 0;
+    let mut end = MOST_PERCENT + 1;
+    while end - kept > 1 {
+        let middle = (kept + end) / 2;
+        if keeps(alloc, model, middle, steps)? {
+            kept = middle;
+        } else {
+            end = middle;
+        }
+    }
+    if kept == 0 {
+        return Ok(None);
+    }
+    Ok(Some(kept))
+}

@@ -1,0 +1,11 @@
+pub mod Found
+pub mod Passing
+pub mod ReadTables
+pub mod ReadBack
+pub mod Depth
+pub mod Inserted
+pub mod Texts
+pub mod NameTexts
+pub mod PlainData
+pub mod PlainModel
+pub mod SomeTexts

@@ -1,0 +1,26 @@
+-- Each model in range whose names are names has a text of version 2 that is read as it.
+use Rattle.std.proofs.Common.{◌≡◌, ℕ, false, List, Some, ◌∙◌}
+use Rattle.std.proofs.lemmas.Str.{IsUtf8-from_ascii}
+use Rattle.toml.proofs.ReadBack.{parse_document-printed}
+use Rattle.cl_model.specs.declared.model.SystemModel.{SystemModel}
+use Rattle.cl_model.specs.AreNamed.{AreNamed}
+use Rattle.cl_model.specs.Ranges.{IsInRange}
+use Rattle.cl_model.specs.Reading.{document_of}
+use Rattle.cl_write.specs.Texts.{IsTextOf}
+use Rattle.cl_write.specs.Writing.{document}
+use Rattle.cl_write.proofs.Depth.{document_is_shallow}
+use Rattle.cl_write.proofs.PlainData.{document_text, members_dates, members_sorted}
+use Rattle.cl_write.proofs.PlainModel.{document_is_plain}
+use Rattle.cl_write.proofs.ReadBack.{reads_as_model, reads_as_version}
+use Rattle.cl_write.proofs.Texts.{document_of-text}
+
+-- a text of the document is a text of the model
+pub text_of_document : (text : List ℕ) (model : SystemModel) → IsInRange model → AreNamed model → document_of text ≡ Some (document model) → IsTextOf model text
+text_of_document text model in_range named is = record { reads = reads_as_model text model in_range named is; version = reads_as_version text model is }
+
+pub some_text : (model : SystemModel) → IsInRange model → AreNamed model → (text : List ℕ) × IsTextOf model text
+some_text model in_range named =
+    let plain = document_is_plain model in_range named in
+    let printed = document_text (document model) plain in
+    let parsed = parse_document-printed false (document model) printed.text printed.is (document_is_shallow model) (members_dates (document model) plain) (members_sorted (document model) plain) in
+    (printed.text, text_of_document printed.text model in_range named (document_of-text printed.text (IsUtf8-from_ascii printed.text printed.ascii) ∙ parsed))

@@ -1,0 +1,10 @@
+-- A text of a model.
+-- Source: this project's profile.
+use Rattle.std.specs.Prelude.{◌≡◌, ℕ, List, Ok}
+use Rattle.cl_model.specs.declared.model.SystemModel.{SystemModel}
+use Rattle.cl_model.specs.Reading.{model_of, version_of}
+
+-- a text of version 2 that is read as the model
+pub record IsTextOf (model : SystemModel) (text : List ℕ) : Type 0 where
+  pub reads : model_of text ≡ Ok model
+  pub version : version_of text ≡ 2

@@ -1,0 +1,2 @@
+//! What holds of models and texts, whatever is written.
+pub mod texts;
