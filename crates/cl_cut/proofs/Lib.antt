@@ -15,3 +15,5 @@ pub mod ValueFacts
 pub mod PieceFacts
 pub mod ChainValues
 pub mod SomeCut
+pub mod OneCutAnswer
+pub mod AllPieces

@@ -107,6 +107,9 @@ module _ (model : SystemModel) (chain : ℕ) (is_chain : chain < length model.ch
       subst (NoneIsLate answers) (sym (of_between _ between))
       (All-part groups between.first between.next (λ (group : Group). is_late (answer_at answers group.task) ≡ false) not_late)
 
+  pub count_of_all : length (pieces_below chain starts count count) ≡ pieces_count (length groups) (length groups)
+  count_of_all = length-pieces_below chain starts count count ∙ ap (λ m. pieces_count m m) count_is
+
   -- ---- the values
 
   pub values_count : (values : List ℕ) → AreValuesOf model (pieces_below chain starts count count) values → (n : ℕ) → n ≡ length groups

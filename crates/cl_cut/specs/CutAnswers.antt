@@ -1,5 +1,5 @@
 -- What is answered of the cuts of a chain, and what it promises. Times are in ticks.
-use Rattle.std.specs.Prelude.{◌≡◌, ℕ, ◌≤◌, true, List, Option, Some, None}
+use Rattle.std.specs.Prelude.{◌≡◌, ℕ, ◌<◌, ◌≤◌, true, List, length, slice_index_or, Option, Some, None}
 use Rattle.cl_model.specs.declared.group.Group.{Group}
 use Rattle.cl_model.specs.declared.model.SystemModel.{SystemModel}
 use Rattle.cl_model.specs.ByNumber.{chain_at}
@@ -50,3 +50,24 @@ IsSafeAnswer model chain (Late task) = Unit {0}
 abbrev pub IsNoWorseAnswer : SystemModel → (chain : ℕ) → CutAnswer → Type 0
 IsNoWorseAnswer model chain (Cut bound pieces) = IsNoWorse (system_of model) (groups_at model chain) bound
 IsNoWorseAnswer model chain (Late task) = Unit {0}
+
+-- ---- all chains of a model
+
+-- the answer for the chain of a number
+abbrev pub cut_answer_at : List CutAnswer → (chain : ℕ) → CutAnswer
+cut_answer_at answers chain = slice_index_or answers chain (Late 0)
+
+-- the answers for all chains, in file order
+pub record AreCutAnswers (model : SystemModel) (answers : List CutAnswer) : Type 0 where
+  pub one_a_chain : length answers ≡ length model.chains
+  pub each : (chain : ℕ) → chain < length model.chains → IsCutAnswer model chain (cut_answer_at answers chain)
+
+-- the costs of the cuts are safe
+abbrev pub AreSafeAnswers : SystemModel → List CutAnswer → Type 0
+AreSafeAnswers model answers =
+    (chain : ℕ) → chain < length model.chains → IsSafeAnswer model chain (cut_answer_at answers chain)
+
+-- and no worse than what is found of the uncut chains
+abbrev pub AreNoWorseAnswers : SystemModel → List CutAnswer → Type 0
+AreNoWorseAnswers model answers =
+    (chain : ℕ) → chain < length model.chains → IsNoWorseAnswer model chain (cut_answer_at answers chain)

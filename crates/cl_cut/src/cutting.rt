@@ -1,16 +1,18 @@
 //! The best cut of a chain. Times are in ticks.
-ghost use Rattle.std.specs.Prelude.{◌≡◌, ◌<◌, length, IfOk};
-ghost use Rattle.cl_runs.specs.SystemOf.{system_of};
-ghost use Rattle.cl_bound.specs.Answers.{answers_of, NoneIsLate};
-ghost use Rattle.cl_analyse.specs.Findings.{AreFindings};
+ghost use Rattle.std.specs.Prelude.{◌≡◌, ◌<◌, None, length, IfOk};
+ghost use Rattle.cl_model.specs.declared.model.SystemModel.{SystemModel};
 ghost use Rattle.cl_model.specs.Groups.{groups_at};
+ghost use Rattle.cl_runs.specs.SystemOf.{system_of};
+ghost use Rattle.cl_bound.specs.Answers.{answers_of};
+ghost use Rattle.cl_analyse.specs.ChainAnswers.{chain_answers_of};
+ghost use Rattle.cl_analyse.specs.Findings.{AreFindings};
 ghost use Rattle.cl_cut.specs.Cuts.{IsBestCut};
-ghost use Rattle.cl_cut.specs.CutAnswers.{IsCutAnswer, IsSafeAnswer, IsNoWorseAnswer};
+ghost use Rattle.cl_cut.specs.CutAnswers.{late_task_of, IsCutAnswer, IsSafeAnswer, IsNoWorseAnswer};
+ghost use Rattle.cl_cut.specs.Inner.Pieces.{AreChainValues};
 
 use crate::answer::CutAnswer;
-use crate::piece::pieces_between;
+use crate::piece::push_pieces_of;
 use crate::rears::{Rear, best_of};
-use crate::starts::group_starts;
 use crate::values::values_of;
 use cl_analyse::{ChainAnswer, Findings};
 use cl_bound::TaskAnswer;
@@ -18,6 +20,35 @@ use cl_model::{List, ValidModel};
 use cl_time::{NoMemory, Steps};
 use std::alloc::Global;
 use std::sync::ledger::Ledger;
+
+/// The first late task along the steps of a chain, if there is one, from what is found of all chains.
+pub(crate) fn late_task(found: &[ChainAnswer], chain: u32) -> Option<u32>
+    requires { chain < length found.now }
+    ensures { (model : SystemModel) → found.now ≡ chain_answers_of model → result ≡ late_task_of model chain }
+{
+    match found[chain as usize] {
+        ChainAnswer::Late { task } => Some(task),
+        ChainAnswer::Bounds(_) => None,
+    }
+}
+
+/// The best cut of a chain none of whose tasks is late, from the values of all its pieces.
+pub(crate) fn best_by_values(
+    alloc: Global,
+    model: &ValidModel,
+    chain: u32,
+    values: &[u64],
+) -> Result<Rear, NoMemory>
+    requires is_chain { chain < length model.now.chains }
+    requires not_late { late_task_of model.now chain ≡ None }
+    requires values { AreChainValues model.now chain values.now }
+    ensures { IfOk result (λ best. IsBestCut (system_of model.now) (groups_at model.now chain) best.pieces best.cost) }
+{
+    // read for what it says: the model is valid
+    let _plain = model.plain();
+    let best = best_of(alloc, model.group_count(chain), values)?;
+    Ok(best)
+}
 
 /// The best cut of a chain none of whose tasks is late.
 fn best_cut_of<L: Ledger>(
@@ -29,15 +60,13 @@ fn best_cut_of<L: Ledger>(
 ) -> Result<Rear, NoMemory>
     requires is_chain { chain < length model.now.chains }
     requires answers { settled.now ≡ answers_of (system_of model.now) }
-    requires not_late { NoneIsLate settled.now (groups_at model.now chain) }
+    requires not_late { late_task_of model.now chain ≡ None }
     ensures { IfOk result (λ best. IsBestCut (system_of model.now) (groups_at model.now chain) best.pieces best.cost) }
 {
-    // read for what it says: the model is valid
-    let _plain = model.plain();
-    let starts = group_starts(alloc, model, chain)?;
-    let pieces = pieces_between(alloc, chain, starts.as_slice())?;
+    let mut pieces = Vec::new(alloc);
+    push_pieces_of(alloc, &mut pieces, model, chain)?;
     let values = values_of(alloc, model, settled, pieces.as_slice(), steps)?;
-    let best = best_of(alloc, model.group_count(chain), values.as_slice())?;
+    let best = best_by_values(alloc, model, chain, values.as_slice())?;
     Ok(best)
 }
 
@@ -67,9 +96,9 @@ pub fn best_cut<L: Ledger>(
 {
     // read for what it says: the model is valid
     let _plain = model.plain();
-    match findings.chains.as_slice()[chain as usize] {
-        ChainAnswer::Late { task } => Ok(CutAnswer::Late { task }),
-        ChainAnswer::Bounds(_) => {
+    match late_task(findings.chains.as_slice(), chain) {
+        Some(task) => Ok(CutAnswer::Late { task }),
+        None => {
             let best = best_cut_of(alloc, model, &findings.tasks, chain, steps)?;
             Ok(CutAnswer::Cut {
                 bound: best.cost,

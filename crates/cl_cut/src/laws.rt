@@ -8,7 +8,8 @@ ghost use Rattle.cl_runs.specs.SystemOf.{system_of};
 ghost use Rattle.cl_runs.specs.TaskTiming.{System, IsSound};
 ghost use Rattle.cl_bound.specs.SettledChains.{IsSettledChain};
 ghost use Rattle.cl_cut.specs.Cuts.{IsCut, IsCost, IsBestCut, HasBestCut};
-ghost use Rattle.cl_cut.specs.CutAnswers.{late_task_of, IsSafeReaction};
+ghost use Rattle.cl_cut.specs.declared.answer.CutAnswer.{CutAnswer};
+ghost use Rattle.cl_cut.specs.CutAnswers.{late_task_of, IsSafeReaction, AreCutAnswers};
 
 /// The cost of each cut of a settled chain is at least the reaction of each of its complete forward chains in each legal
 /// run, of any length: where a chain is split into a front and a rear part, the job before the first of the rear has read
@@ -31,4 +32,11 @@ pub fn one_best_cut()
         → IsBestCut system groups one cost → IsBestCut system groups other less → one ≡ other }
     ensures cost { (system : System) (groups : List Group) (one other : List ℕ) (cost less : ℕ)
         → IsBestCut system groups one cost → IsBestCut system groups other less → cost ≡ less }
+{}
+
+/// A valid model has answers for the cuts of all its chains, and but one list of them.
+pub fn cut_answers_are_unique()
+    ensures some { (model : SystemModel) → IsValid model → (answers : List CutAnswer) × AreCutAnswers model answers }
+    ensures one { (model : SystemModel) (one other : List CutAnswer) → AreCutAnswers model one
+        → AreCutAnswers model other → one ≡ other }
 {}

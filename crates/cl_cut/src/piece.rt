@@ -1,7 +1,9 @@
 //! Pieces of a chain, by their steps.
-ghost use Rattle.std.specs.Prelude.{◌≡◌, ◌-◌, ◌+◌, ◌<◌, ◌++◌, length, OnOk, IfOk};
-ghost use Rattle.cl_cut.specs.Inner.Pieces.{pieces_from, pieces_below};
+ghost use Rattle.std.specs.Prelude.{◌≡◌, ◌-◌, ◌+◌, ◌<◌, ◌++◌, length, OnOk};
+ghost use Rattle.cl_cut.specs.Inner.Pieces.{pieces_from, pieces_below, HasPiecesBehind};
 
+use crate::starts::group_starts;
+use cl_model::ValidModel;
 use cl_time::NoMemory;
 use std::alloc::Global;
 
@@ -33,18 +35,28 @@ fn push_pieces(
     Ok(())
 }
 
-/// All pieces of a chain, where these are the first steps of the groups: those that begin with the last group first.
-pub(crate) fn pieces_between(
-    alloc: Global,
-    chain: u32,
-    starts: &[usize],
-) -> Result<Vec<Piece>, NoMemory>
+/// Adds all pieces of a chain, where these are the first steps of the groups: those that begin with the last group first.
+fn push_all_pieces(pieces: &mut Vec<Piece>, chain: u32, starts: &[usize]) -> Result<(), NoMemory>
     requires { 0 < length starts.now }
-    ensures { IfOk result (λ pieces. pieces.items ≡ pieces_below chain starts.now (length starts.now - 1) (length starts.now - 1)) }
+    ensures { OnOk result (pieces.new.items
+        ≡ pieces.old.items ++ pieces_below chain starts.now (length starts.now - 1) (length starts.now - 1)) }
 {
-    let mut pieces = Vec::new(alloc);
     for first in (0..starts.len() - 1).rev() {
-        push_pieces(&mut pieces, chain, starts, first)?;
+        push_pieces(pieces, chain, starts, first)?;
     }
-    Ok(pieces)
+    Ok(())
+}
+
+/// Adds all pieces of a chain of a model: those that begin with its last group first.
+pub(crate) fn push_pieces_of(
+    alloc: Global,
+    pieces: &mut Vec<Piece>,
+    model: &ValidModel,
+    chain: u32,
+) -> Result<(), NoMemory>
+    requires { chain < length model.now.chains }
+    ensures { OnOk result (HasPiecesBehind model.now chain pieces.old.items pieces.new.items) }
+{
+    let starts = group_starts(alloc, model, chain)?;
+    push_all_pieces(pieces, chain, starts.as_slice())
 }

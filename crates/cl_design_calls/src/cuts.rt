@@ -2,8 +2,8 @@
 ghost use Rattle.std.specs.Prelude.{◌≡◌, ◌<◌};
 
 use cl_analyse::analyse;
-use cl_cut::{CutAnswer, best_cut};
-use cl_model::ValidModel;
+use cl_cut::{CutAnswer, best_cut, best_cuts};
+use cl_model::{List, ValidModel};
 use cl_read::read_model;
 use cl_time::Steps;
 use cl_valid::validate;
@@ -85,6 +85,24 @@ fn cut(alloc: Global, model: &ValidModel, chain: u32) -> Result<CutAnswer, Fail>
     counted::<Brand>(Blank::new(1), alloc, model, chain)
 }
 
+fn all_counted<L: Ledger>(
+    blank: Blank,
+    alloc: Global,
+    model: &ValidModel,
+) -> Result<List<CutAnswer>, Fail>
+    requires name { blank.name ≡ L.name }
+    requires parts { blank.parts ≡ L.parts }
+    requires a_part { 0 < blank.parts }
+{
+    let mut steps = Steps::<L>::open(blank);
+    let findings = analyse(alloc, model, &mut steps)?;
+    Ok(best_cuts(alloc, model, &findings, &mut steps)?)
+}
+
+fn all_cuts(alloc: Global, model: &ValidModel) -> Result<List<CutAnswer>, Fail> {
+    all_counted::<Brand>(Blank::new(1), alloc, model)
+}
+
 /// Whether the best cut has this cost and pieces that begin with these groups.
 fn is_cut(answer: &CutAnswer, cost: u64, firsts: &[u32]) -> bool {
     match answer {
@@ -99,5 +117,18 @@ fn a_cut_into_two_is_better_than_the_whole(rt: HostRuntime) -> Result<(), Fail> 
     let model = valid(alloc, THREE)?;
     assert!(rt; is_cut(&cut(alloc, &model, 0)?, 45, &[0]));
     assert!(rt; is_cut(&cut(alloc, &model, 1)?, 55, &[0, 2]));
+    Ok(())
+}
+
+#[test]
+fn all_chains_are_cut_at_once(rt: HostRuntime) -> Result<(), Fail> {
+    let alloc = rt.alloc();
+    let model = valid(alloc, THREE)?;
+    let answers = all_cuts(alloc, &model)?;
+    let [first, second] = answers.as_slice() else {
+        return Err(Fail::from("there is one answer a chain"));
+    };
+    assert!(rt; is_cut(first, 45, &[0]));
+    assert!(rt; is_cut(second, 55, &[0, 2]));
     Ok(())
 }

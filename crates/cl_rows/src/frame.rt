@@ -7,7 +7,20 @@ use std::test::Fail;
 #[test]
 fn words_that_are_no_command_are_refused(rt: HostRuntime) -> Result<(), Fail> {
     let alloc = rt.alloc();
-    for line in ["", "analyse", "analyse a b", "analyze a", "a analyse"] {
+    let lines = [
+        "",
+        "analyse",
+        "analyse a b",
+        "analyze a",
+        "a analyse",
+        "cut",
+        "cut a b",
+        "order",
+        "order a b",
+        "headroom",
+        "headroom a b",
+    ];
+    for line in lines {
         let mut shelf = shelf_of(alloc, "a", b"")?;
         let mut sink = roomy_sink(alloc)?;
         let status = run_here(alloc, &words_of(alloc, line)?, &mut shelf, &mut sink);

@@ -15,6 +15,7 @@ use whole::WHOLE_ROWS;
 
 mod bursts;
 mod changes;
+mod designs;
 mod edits;
 mod exact;
 mod migration;

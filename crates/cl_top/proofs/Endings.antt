@@ -3,19 +3,23 @@ use Rattle.std.proofs.Common.{◌≡◌, ◌≢◌, ◌⊎◌, ℕ, inl, inr, Li
 use Rattle.cl_io.specs.Counts.{Rose}
 use Rattle.cl_io.specs.Shelf.{Held}
 use Rattle.cl_top.specs.declared.command.Command.{Command}
-use Rattle.cl_top.specs.declared.command.Command.TheVariants.{Analyse, Migrate, Simulate, Replay, Edit, Generate, Survey}
+use Rattle.cl_top.specs.declared.command.Command.TheVariants.{Analyse, Migrate, Simulate, Replay, Edit, Cut, Order, Headroom, Generate, Survey}
 use Rattle.cl_top.specs.declared.outcome.Outcome.{Outcome}
 use Rattle.cl_top.specs.declared.status.TheConstants.{WORDS_REFUSED, READ_FAULT, LONG_FILE, WRITE_FAULT, NO_MEMORY, ARGUMENT_NOT_TEXT}
 use Rattle.cl_top.specs.Command.{command_of}
+use Rattle.cl_top.specs.Commands.Analyse.{IsAnalysed}
+use Rattle.cl_top.specs.Commands.Migrate.{IsMigrated}
+use Rattle.cl_top.specs.Commands.Simulate.{IsSimulated}
+use Rattle.cl_top.specs.Commands.Cut.{IsCutOutcome}
+use Rattle.cl_top.specs.Commands.Order.{IsOrderOutcome}
+use Rattle.cl_top.specs.Commands.Headroom.{IsHeadroomOutcome}
 use Rattle.cl_top.specs.Files.{FileRose, FileTooLong}
 use Rattle.cl_top.specs.Outcome.{words_refused, read_fault, long_file}
 use Rattle.cl_top.specs.Run.{ComesAs, ComesTo, IsWhole, IsCut, WritesOfFile}
 use Rattle.cl_top.proofs.Comings.{Cause, NoCommand, OfFault, OfLength, OfContent, IsOfContent, comes_as}
-use Rattle.cl_top.proofs.OfAnalyse.{analyse_cause}
 use Rattle.cl_top.proofs.OfEdit.{edit_cause}
-use Rattle.cl_top.proofs.OfMigrate.{migrate_cause}
 use Rattle.cl_top.proofs.OfReplay.{replay_cause}
-use Rattle.cl_top.proofs.OfSimulate.{simulate_cause}
+use Rattle.cl_top.proofs.OneFile.{model_cause, of_analyse, of_migrate, of_simulate, of_cut, of_order, of_headroom}
 
 -- how an outcome was carried out
 abbrev pub Carried : {K : Type 0} (written : K → Option (List ℕ)) (faults : K → ℕ) (before after : K) (found : Outcome) (status : ℕ) → Type 0
@@ -25,11 +29,14 @@ module _ (words : List (List ℕ)) (held : List ℕ → Held) (before after long
   -- why the outcome of each command is what it is
   cause : (command : Option Command) (found : Outcome) → ComesAs command words held before after longest found → Cause words held before after longest command found
   cause None found comes = NoCommand refl comes.follows
-  cause (Some Analyse) found comes = analyse_cause words held before after longest found comes
-  cause (Some Migrate) found comes = migrate_cause words held before after longest found comes
-  cause (Some (Simulate ticks seed)) found comes = simulate_cause words held before after longest ticks seed found comes
+  cause (Some Analyse) found comes = model_cause Analyse IsAnalysed of_analyse words held before after longest found comes
+  cause (Some Migrate) found comes = model_cause Migrate IsMigrated of_migrate words held before after longest found comes
+  cause (Some (Simulate ticks seed)) found comes = model_cause (Simulate ticks seed) (IsSimulated ticks seed) (of_simulate ticks seed) words held before after longest found comes
   cause (Some Replay) found comes = replay_cause words held before after longest found comes
   cause (Some Edit) found comes = edit_cause words held before after longest found comes
+  cause (Some Cut) found comes = model_cause Cut IsCutOutcome of_cut words held before after longest found comes
+  cause (Some Order) found comes = model_cause Order IsOrderOutcome of_order words held before after longest found comes
+  cause (Some Headroom) found comes = model_cause Headroom IsHeadroomOutcome of_headroom words held before after longest found comes
   cause (Some (Generate seed tasks)) found comes = OfContent (inl comes.follows.done)
   cause (Some (Survey seed tasks)) found comes = OfContent (inl comes.follows.done)
 

@@ -9,7 +9,7 @@ use Rattle.cl_io.specs.Shelf.{Held}
 use Rattle.cl_gen.specs.declared.limits.TheConstants.{MOST_RUN_TICKS}
 use Rattle.cl_text.specs.Decimal.{number_of}
 use Rattle.cl_top.specs.declared.command.Command.{Command}
-use Rattle.cl_top.specs.declared.command.Command.TheVariants.{Analyse, Migrate, Simulate, Replay, Edit, Generate, Survey}
+use Rattle.cl_top.specs.declared.command.Command.TheVariants.{Analyse, Migrate, Simulate, Replay, Edit, Cut, Order, Headroom, Generate, Survey}
 use Rattle.cl_gen.specs.Generated.{generated}
 use Rattle.cl_top.specs.declared.outcome.Outcome.{Outcome}
 use Rattle.cl_top.specs.Commands.Migrate.{IsMigrated}
@@ -17,7 +17,7 @@ use Rattle.cl_top.specs.Commands.Survey.{IsSurveyed}
 use Rattle.cl_top.specs.Files.{Unasked}
 use Rattle.cl_top.specs.Run.{ComesTo}
 use Rattle.cl_top.proofs.Comings.{comes_to}
-use Rattle.cl_top.specs.Command.{MOST_SEED, number_upto, analyse_of, migrate_of, simulation, simulate_of, replay_of, edit_of, generation, generation_of, command_of}
+use Rattle.cl_top.specs.Command.{MOST_SEED, number_upto, of_model, simulation, simulate_of, replay_of, edit_of, generation, generation_of, command_of}
 
 -- a command asks for as many tasks as a model may have
 abbrev pub HasFewTasks : Command → Type 0
@@ -26,6 +26,9 @@ HasFewTasks Migrate = Unit {0}
 HasFewTasks (Simulate ticks seed) = Unit {0}
 HasFewTasks Replay = Unit {0}
 HasFewTasks Edit = Unit {0}
+HasFewTasks Cut = Unit {0}
+HasFewTasks Order = Unit {0}
+HasFewTasks Headroom = Unit {0}
 HasFewTasks (Generate seed tasks) = (1 ≤ tasks) × (tasks ≤ MOST_TASKS)
 HasFewTasks (Survey seed tasks) = (1 ≤ tasks) × (tasks ≤ MOST_TASKS)
 
@@ -37,15 +40,10 @@ number_small : (most : ℕ) (word : List ℕ) → (P : Option ℕ → Type 0) �
 number_small most word P small none = cond_both (bytes_eq word (decimal (number_of word)) && leb (number_of word) most) (Some (number_of word)) None P
     (λ passes. small (number_of word) (leb-true _ _ (both_pass (bytes_eq word (decimal (number_of word))) (leb (number_of word) most) passes).1)) (λ fails. none)
 
-few_of_analyse : (words : List (List ℕ)) → FewTasksIf (analyse_of words)
-few_of_analyse [] = tt
-few_of_analyse (a ∷ []) = tt
-few_of_analyse (a ∷ b ∷ words) = tt
-
-few_of_migrate : (words : List (List ℕ)) → FewTasksIf (migrate_of words)
-few_of_migrate [] = tt
-few_of_migrate (a ∷ []) = tt
-few_of_migrate (a ∷ b ∷ words) = tt
+few_of_model : (command : Command) → HasFewTasks command → (words : List (List ℕ)) → FewTasksIf (of_model command words)
+few_of_model command few [] = tt
+few_of_model command few (a ∷ []) = few
+few_of_model command few (a ∷ b ∷ words) = tt
 
 few_of_simulation : (ticks seed : Option ℕ) → FewTasksIf (simulation ticks seed)
 few_of_simulation None seed = tt
@@ -91,13 +89,16 @@ module _ (command : (seed tasks : ℕ) → Command) (each : (seed tasks : ℕ) �
 few_of_words : (words : List (List ℕ)) → FewTasksIf (command_of words)
 few_of_words [] = tt
 few_of_words (verb ∷ words) =
-    cond_both (bytes_eq verb (codes "analyse")) (analyse_of words) _ FewTasksIf (λ _. few_of_analyse words) (λ _.
-    cond_both (bytes_eq verb (codes "migrate")) (migrate_of words) _ FewTasksIf (λ _. few_of_migrate words) (λ _.
+    cond_both (bytes_eq verb (codes "analyse")) (of_model Analyse words) _ FewTasksIf (λ _. few_of_model Analyse tt words) (λ _.
+    cond_both (bytes_eq verb (codes "migrate")) (of_model Migrate words) _ FewTasksIf (λ _. few_of_model Migrate tt words) (λ _.
     cond_both (bytes_eq verb (codes "simulate")) (simulate_of words) _ FewTasksIf (λ _. few_of_simulate words) (λ _.
     cond_both (bytes_eq verb (codes "replay")) (replay_of words) _ FewTasksIf (λ _. few_of_replay words) (λ _.
     cond_both (bytes_eq verb (codes "edit")) (edit_of words) _ FewTasksIf (λ _. few_of_edit words) (λ _.
+    cond_both (bytes_eq verb (codes "cut")) (of_model Cut words) _ FewTasksIf (λ _. few_of_model Cut tt words) (λ _.
+    cond_both (bytes_eq verb (codes "order")) (of_model Order words) _ FewTasksIf (λ _. few_of_model Order tt words) (λ _.
+    cond_both (bytes_eq verb (codes "headroom")) (of_model Headroom words) _ FewTasksIf (λ _. few_of_model Headroom tt words) (λ _.
     cond_both (bytes_eq verb (codes "generate")) (generation_of Generate words) _ FewTasksIf (λ _. few_of_generations Generate (λ seed tasks some few. (some, few)) words) (λ _.
-    cond_both (bytes_eq verb (codes "survey")) (generation_of Survey words) None FewTasksIf (λ _. few_of_generations Survey (λ seed tasks some few. (some, few)) words) (λ _. tt)))))))
+    cond_both (bytes_eq verb (codes "survey")) (generation_of Survey words) None FewTasksIf (λ _. few_of_generations Survey (λ seed tasks some few. (some, few)) words) (λ _. tt))))))))))
 
 pub has_few_tasks : (words : List (List ℕ)) (command : Command) → command_of words ≡ Some command → HasFewTasks command
 has_few_tasks words command is = subst FewTasksIf is (few_of_words words)

@@ -3,11 +3,9 @@ pub mod Comings
 pub mod Endings
 pub mod Tellings
 pub mod OneOutcome
-pub mod OfAnalyse
+pub mod OneFile
 pub mod SafeReport
-pub mod OfMigrate
 pub mod AnalysedAlike
-pub mod OfSimulate
 pub mod TwoFiles
 pub mod OfReplay
 pub mod OfEdit

@@ -15,6 +15,7 @@ use Rattle.cl_gen.specs.Words.{word_of}
 use Rattle.cl_gen.specs.Generated.{generated}
 use Rattle.cl_gen.proofs.GeneratedRanges.{are_named}
 use Rattle.cl_gen.proofs.ValidGenerated.{words_valid}
+use Rattle.cl_designs.proofs.OneText.{some_cut_text, some_order_text, some_headroom_text, one_cut_text, one_order_text, one_headroom_text}
 use Rattle.cl_runs.specs.Legal.{IsLegal}
 use Rattle.cl_runs.specs.Run.{Run}
 use Rattle.cl_runs.specs.SystemOf.{system_of}
@@ -25,7 +26,7 @@ use Rattle.cl_trace.proofs.OneReading.{bad_once}
 use Rattle.cl_trace.proofs.OneTrace.{one_run, no_bad_line}
 use Rattle.cl_trace.proofs.SomeAnswer.{HasAnswer, some_answer}
 use Rattle.cl_top.specs.declared.command.Command.{Command}
-use Rattle.cl_top.specs.declared.command.Command.TheVariants.{Analyse, Migrate, Simulate, Replay, Edit, Generate, Survey}
+use Rattle.cl_top.specs.declared.command.Command.TheVariants.{Analyse, Migrate, Simulate, Replay, Edit, Cut, Order, Headroom, Generate, Survey}
 use Rattle.cl_model.proofs.ReadModels.{read_in_range, read_named}
 use Rattle.cl_write.proofs.SomeTexts.{some_text}
 use Rattle.cl_top.specs.declared.outcome.Outcome.{Outcome}
@@ -36,6 +37,9 @@ use Rattle.cl_top.specs.Commands.Edit.{IsOfEdits}
 use Rattle.cl_top.specs.Commands.Migrate.{IsMigrated, MigratesTheSame}
 use Rattle.cl_top.specs.Commands.Replay.{trace_refused, trace_illegal, IsOfRun, IsOfTrace}
 use Rattle.cl_top.specs.Commands.Simulate.{IsSimulated}
+use Rattle.cl_top.specs.Commands.Cut.{IsCutOutcome}
+use Rattle.cl_top.specs.Commands.Order.{IsOrderOutcome}
+use Rattle.cl_top.specs.Commands.Headroom.{IsHeadroomOutcome}
 use Rattle.cl_top.specs.Commands.Survey.{IsSurveyed}
 use Rattle.cl_top.proofs.Generations.{has_few_tasks}
 use Rattle.cl_top.proofs.Simulations.{simulated_some, simulated_once}
@@ -71,6 +75,22 @@ some_analysis : (model : SystemModel) → IsValid model → SomeOutcome (IsAnaly
 some_analysis model valid =
     let (findings, found) = some_findings model valid in
     (record { status = DONE; text = report_text model findings }, record { done = refl; report = record { findings = findings; found = found; printed = refl } })
+
+-- and best cuts, best orders and headroom
+some_cuts : (model : SystemModel) → IsValid model → SomeOutcome (IsCutOutcome model)
+some_cuts model valid =
+    let text = some_cut_text model valid in
+    (record { status = DONE; text = text.0 }, record { done = refl; cuts = text.1 })
+
+some_orders : (model : SystemModel) → IsValid model → SomeOutcome (IsOrderOutcome model)
+some_orders model valid =
+    let text = some_order_text model valid in
+    (record { status = DONE; text = text.0 }, record { done = refl; orders = text.1 })
+
+some_headroom : (model : SystemModel) → IsValid model → SomeOutcome (IsHeadroomOutcome model)
+some_headroom model valid =
+    let text = some_headroom_text model valid in
+    (record { status = DONE; text = text.0 }, record { done = refl; headroom = text.1 })
 
 -- a model that is read has a text
 migrated_some : (bytes : List ℕ) (model : SystemModel) → model_of bytes ≡ Ok model → refusal_of model ≡ None → SomeOutcome (IsMigrated model)
@@ -134,6 +154,9 @@ has_outcome words (Some Replay) is gave fetched = opened_some (λ model. OpensFi
 has_outcome words (Some Edit) is gave fetched = opened_some (λ model. OpensFile (edits_file 2) gave (IsOfEdits model))
     (λ bytes model means none. text_some IsOfEdits some_edits model (valid_read bytes model means none) (read_named bytes model means) (gave (edits_file 2)) fetched.1.0)
     1 (gave (model_file 1)) fetched.0
+has_outcome words (Some Cut) is gave fetched = opened_some IsCutOutcome (λ bytes model means none. some_cuts model (valid_read bytes model means none)) 1 (gave (model_file 1)) fetched.0
+has_outcome words (Some Order) is gave fetched = opened_some IsOrderOutcome (λ bytes model means none. some_orders model (valid_read bytes model means none)) 1 (gave (model_file 1)) fetched.0
+has_outcome words (Some Headroom) is gave fetched = opened_some IsHeadroomOutcome (λ bytes model means none. some_headroom model (valid_read bytes model means none)) 1 (gave (model_file 1)) fetched.0
 has_outcome words (Some (Generate seed tasks)) is gave fetched = generated_some seed tasks (has_few_tasks words (Generate seed tasks) is).1
 has_outcome words (Some (Survey seed tasks)) is gave fetched = surveyed_some seed tasks (has_few_tasks words (Survey seed tasks) is).1
 
@@ -166,6 +189,19 @@ same_parts one other status text = λ i. record { status = status i; text = text
 one_analysis : (model : SystemModel) (one other : Outcome) → IsAnalysed model one → IsAnalysed model other → one ≡ other
 one_analysis model one other first second =
     same_parts one other (first.done ∙ sym second.done) (one_report model one.text other.text first.report second.report)
+
+-- and one text of its best cuts, of its best orders and of its headroom
+one_cuts : (model : SystemModel) → (one other : Outcome) → IsCutOutcome model one → IsCutOutcome model other → one ≡ other
+one_cuts model one other first second =
+    same_parts one other (first.done ∙ sym second.done) (one_cut_text model one.text other.text first.cuts second.cuts)
+
+one_orders : (model : SystemModel) → IsValid model → (one other : Outcome) → IsOrderOutcome model one → IsOrderOutcome model other → one ≡ other
+one_orders model valid one other first second =
+    same_parts one other (first.done ∙ sym second.done) (one_order_text model valid one.text other.text first.orders second.orders)
+
+one_headroom : (model : SystemModel) → IsValid model → (one other : Outcome) → IsHeadroomOutcome model one → IsHeadroomOutcome model other → one ≡ other
+one_headroom model valid one other first second =
+    same_parts one other (first.done ∙ sym second.done) (one_headroom_text model valid one.text other.text first.headroom second.headroom)
 
 -- a model has one survey
 one_surveyed : (model : SystemModel) (one other : Outcome) → IsSurveyed model one → IsSurveyed model other → one ≡ other
@@ -204,6 +240,12 @@ says_the_same (Some Replay) gave one other h k =
 says_the_same (Some Edit) gave one other h k =
     opened_same (λ model. OpensFile (edits_file 2) gave (IsOfEdits model)) (λ a b. a ≡ b) one other (λ is. is)
     (λ bytes model means none m n. same_text IsOfEdits one_edited model (valid_read bytes model means none) (read_named bytes model means) one other (gave (edits_file 2)) m n) 1 (gave (model_file 1)) h k
+says_the_same (Some Cut) gave one other h k =
+    opened_same IsCutOutcome (λ a b. a ≡ b) one other (λ is. is) (λ bytes model means none m n. one_cuts model one other m n) 1 (gave (model_file 1)) h k
+says_the_same (Some Order) gave one other h k =
+    opened_same IsOrderOutcome (λ a b. a ≡ b) one other (λ is. is) (λ bytes model means none m n. one_orders model (valid_read bytes model means none) one other m n) 1 (gave (model_file 1)) h k
+says_the_same (Some Headroom) gave one other h k =
+    opened_same IsHeadroomOutcome (λ a b. a ≡ b) one other (λ is. is) (λ bytes model means none m n. one_headroom model (valid_read bytes model means none) one other m n) 1 (gave (model_file 1)) h k
 says_the_same (Some (Generate seed tasks)) gave one other h k = inr (generated seed tasks, h, k)
 says_the_same (Some (Survey seed tasks)) gave one other h k = one_surveyed (generated seed tasks) one other h k
 

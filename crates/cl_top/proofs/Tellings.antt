@@ -11,7 +11,7 @@ use Rattle.cl_model.specs.declared.refusal.Refusal.{Refusal}
 use Rattle.cl_model.specs.Reading.{model_of}
 use Rattle.cl_model.specs.Validity.{refusal_of}
 use Rattle.cl_top.specs.declared.command.Command.{Command}
-use Rattle.cl_top.specs.declared.command.Command.TheVariants.{Analyse, Migrate, Simulate, Replay, Edit, Generate, Survey}
+use Rattle.cl_top.specs.declared.command.Command.TheVariants.{Analyse, Migrate, Simulate, Replay, Edit, Cut, Order, Headroom, Generate, Survey}
 use Rattle.cl_top.specs.declared.outcome.Outcome.{Outcome}
 use Rattle.cl_top.specs.Command.{File, model_file, trace_file, edits_file, command_of, files_of, word}
 use Rattle.cl_top.specs.Commands.Analyse.{IsAnalysed}
@@ -19,15 +19,16 @@ use Rattle.cl_top.specs.Commands.Edit.{IsOfEdits}
 use Rattle.cl_top.specs.Commands.Migrate.{IsMigrated}
 use Rattle.cl_top.specs.Commands.Replay.{IsOfTrace}
 use Rattle.cl_top.specs.Commands.Simulate.{IsSimulated}
+use Rattle.cl_top.specs.Commands.Cut.{IsCutOutcome}
+use Rattle.cl_top.specs.Commands.Order.{IsOrderOutcome}
+use Rattle.cl_top.specs.Commands.Headroom.{IsHeadroomOutcome}
 use Rattle.cl_top.specs.Files.{Fetched, Unasked, Bytes, Fault, TooLong, SomeFile, FileRose, FileGave, MayGive, TellsFiles, NoneRose, told_fetch}
 use Rattle.cl_top.specs.Outcome.{ValidatesTo, ReadsTo, OpensTo, OpensFile, HasOutcome}
 use Rattle.cl_top.specs.Run.{ComesAs, ComesTo, ComesToTold, IsFaultOf, IsWhole, IsCarriedOut}
 use Rattle.cl_top.proofs.Endings.{Carried}
-use Rattle.cl_top.proofs.OfAnalyse.{one_file}
 use Rattle.cl_top.proofs.OfEdit.{model_to_edit, edits_to_edit}
-use Rattle.cl_top.proofs.OfMigrate.{file_to_migrate}
 use Rattle.cl_top.proofs.OfReplay.{model_to_replay, trace_to_replay}
-use Rattle.cl_top.proofs.OfSimulate.{file_to_simulate}
+use Rattle.cl_top.proofs.OneFile.{IsOfModel, has_model, of_each, of_analyse, of_migrate, of_simulate, of_cut, of_order, of_headroom}
 
 pub told_bytes : (limit : ℕ) (content : List ℕ) → length content ≤ limit → (if nat_lt limit (length content) then TooLong else Bytes content) ≡ Bytes content
 told_bytes limit content within = grind (arith, nat_tests)
@@ -76,20 +77,26 @@ module _ (words : List (List ℕ)) (before after : List ℕ → ℕ) (contents :
   read_told (Err refusal) is = inl is
 
 module _ (words : List (List ℕ)) (held : List ℕ → Held) (before after longest : List ℕ → ℕ) (contents : ℕ → List ℕ) where
+  -- the outcome of a command of a model file alone
+  told_of_model : (command : Command) (next : SystemModel → Outcome → Type 0) → IsOfModel command next → (found : Outcome)
+      → TellsFiles (Some command) words held contents → ComesAs (Some command) words held before after longest found
+      → ComesToTold (Some command) words before after contents found
+  told_of_model command next of found tells comes =
+      let opens = opens_told words before after contents (Some command) held longest (model_file 1) (has_model command next of) found (λ bytes. ReadsTo (model_of bytes) next) (λ bytes. ReadsTo (model_of bytes) next) (λ bytes h. inl h)
+      comes.gave (of_each command next of _ comes.files) (of_each command next of _ tells) (of.opens comes.gave found comes.follows) in
+      elim opens [
+        | inl told ↦ inl (of.has (told_fetch contents) found told)
+        | inr faulted ↦ inr faulted
+      ]
+
   -- the outcome of each command, where its files are told
   told_comes : (command : Option Command) (found : Outcome) → TellsFiles command words held contents → ComesAs command words held before after longest found
       → ComesToTold command words before after contents found
   told_comes None found tells comes = inl comes.follows
-  told_comes (Some Analyse) found tells comes =
-      opens_told words before after contents (Some Analyse) held longest (model_file 1) one_file found (λ bytes. ReadsTo (model_of bytes) IsAnalysed) (λ bytes. ReadsTo (model_of bytes) IsAnalysed) (λ bytes h. inl h)
-      comes.gave comes.files.0 tells.0 comes.follows
-  told_comes (Some Migrate) found tells comes =
-      opens_told words before after contents (Some Migrate) held longest (model_file 1) file_to_migrate found (λ bytes. ReadsTo (model_of bytes) IsMigrated) (λ bytes. ReadsTo (model_of bytes) IsMigrated) (λ bytes h. inl h)
-      comes.gave comes.files.0 tells.0 comes.follows
+  told_comes (Some Analyse) found tells comes = told_of_model Analyse IsAnalysed of_analyse found tells comes
+  told_comes (Some Migrate) found tells comes = told_of_model Migrate IsMigrated of_migrate found tells comes
   told_comes (Some (Simulate ticks seed)) found tells comes =
-      opens_told words before after contents (Some (Simulate ticks seed)) held longest (model_file 1) (file_to_simulate ticks seed) found
-      (λ bytes. ReadsTo (model_of bytes) (IsSimulated ticks seed)) (λ bytes. ReadsTo (model_of bytes) (IsSimulated ticks seed)) (λ bytes h. inl h)
-      comes.gave comes.files.0 tells.0 comes.follows
+      told_of_model (Simulate ticks seed) (IsSimulated ticks seed) (of_simulate ticks seed) found tells comes
   told_comes (Some Replay) found tells comes =
       opens_told words before after contents (Some Replay) held longest (model_file 1) model_to_replay found
       (λ bytes. ReadsTo (model_of bytes) (λ model. OpensFile (trace_file 2) comes.gave (IsOfTrace model)))
@@ -106,6 +113,9 @@ module _ (words : List (List ℕ)) (held : List ℕ → Held) (before after long
       (λ model. opens_told words before after contents (Some Edit) held longest (edits_file 2) edits_to_edit found (IsOfEdits model) (IsOfEdits model) (λ text h. inl h) comes.gave comes.files.1.0 tells.1.0)
       (model_of bytes))
       comes.gave comes.files.0 tells.0 comes.follows
+  told_comes (Some Cut) found tells comes = told_of_model Cut IsCutOutcome of_cut found tells comes
+  told_comes (Some Order) found tells comes = told_of_model Order IsOrderOutcome of_order found tells comes
+  told_comes (Some Headroom) found tells comes = told_of_model Headroom IsHeadroomOutcome of_headroom found tells comes
   told_comes (Some (Generate seed tasks)) found tells comes = inl comes.follows
   told_comes (Some (Survey seed tasks)) found tells comes = inl comes.follows
 

@@ -5,18 +5,15 @@ use Rattle.cl_text.specs.Decimal.{number_of}
 use Rattle.cl_gen.specs.declared.limits.TheConstants.{MOST_RUN_TICKS}
 use Rattle.cl_model.specs.declared.limits.TheConstants.{MOST_TASKS}
 use Rattle.cl_top.specs.declared.command.Command.{Command}
-use Rattle.cl_top.specs.declared.command.Command.TheVariants.{Analyse, Migrate, Simulate, Replay, Edit, Generate, Survey}
+use Rattle.cl_top.specs.declared.command.Command.TheVariants.{Analyse, Migrate, Simulate, Replay, Edit, Cut, Order, Headroom, Generate, Survey}
 use Rattle.cl_top.specs.declared.opening.TheConstants.{FILE_LIMIT, TRACE_LIMIT}
 
--- what may follow each verb
+-- ---- what may follow each verb
 
-abbrev pub analyse_of : List (List ℕ) → Option Command
-analyse_of (model ∷ []) = Some Analyse
-analyse_of _ = None
-
-abbrev pub migrate_of : List (List ℕ) → Option Command
-migrate_of (model ∷ []) = Some Migrate
-migrate_of _ = None
+-- a model file alone
+abbrev pub of_model : Command → List (List ℕ) → Option Command
+of_model command (model ∷ []) = Some command
+of_model command _ = None
 
 -- the number of at most `most` that a word writes in decimal
 abbrev pub number_upto : (most : ℕ) → List ℕ → Option ℕ
@@ -55,11 +52,14 @@ generation_of command _ = None
 abbrev pub command_of : List (List ℕ) → Option Command
 command_of [] = None
 command_of (verb ∷ words) =
-    if bytes_eq verb (codes "analyse") then analyse_of words
-    else if bytes_eq verb (codes "migrate") then migrate_of words
+    if bytes_eq verb (codes "analyse") then of_model Analyse words
+    else if bytes_eq verb (codes "migrate") then of_model Migrate words
     else if bytes_eq verb (codes "simulate") then simulate_of words
     else if bytes_eq verb (codes "replay") then replay_of words
     else if bytes_eq verb (codes "edit") then edit_of words
+    else if bytes_eq verb (codes "cut") then of_model Cut words
+    else if bytes_eq verb (codes "order") then of_model Order words
+    else if bytes_eq verb (codes "headroom") then of_model Headroom words
     else if bytes_eq verb (codes "generate") then generation_of Generate words
     else if bytes_eq verb (codes "survey") then generation_of Survey words
     else None
@@ -87,6 +87,9 @@ files_of (Some Migrate) = model_file 1 ∷ []
 files_of (Some (Simulate ticks seed)) = model_file 1 ∷ []
 files_of (Some Replay) = model_file 1 ∷ trace_file 2 ∷ []
 files_of (Some Edit) = model_file 1 ∷ edits_file 2 ∷ []
+files_of (Some Cut) = model_file 1 ∷ []
+files_of (Some Order) = model_file 1 ∷ []
+files_of (Some Headroom) = model_file 1 ∷ []
 files_of (Some (Generate seed tasks)) = []
 files_of (Some (Survey seed tasks)) = []
 

@@ -4,4 +4,7 @@ pub mod Migrate
 pub mod Simulate
 pub mod Replay
 pub mod Edit
+pub mod Cut
+pub mod Order
+pub mod Headroom
 pub mod Survey

@@ -10,13 +10,16 @@ use Rattle.cl_gen.specs.Generated.{generated}
 use Rattle.cl_top.specs.declared.outcome.Outcome.{Outcome}
 use Rattle.cl_top.specs.declared.status.TheConstants.{WORDS_REFUSED, READ_FAULT, LONG_FILE, MODEL_REFUSED}
 use Rattle.cl_top.specs.declared.command.Command.{Command}
-use Rattle.cl_top.specs.declared.command.Command.TheVariants.{Analyse, Migrate, Simulate, Replay, Edit, Generate, Survey}
+use Rattle.cl_top.specs.declared.command.Command.TheVariants.{Analyse, Migrate, Simulate, Replay, Edit, Cut, Order, Headroom, Generate, Survey}
 use Rattle.cl_top.specs.Command.{File, model_file, trace_file, edits_file}
 use Rattle.cl_top.specs.Commands.Analyse.{IsAnalysed}
 use Rattle.cl_top.specs.Commands.Migrate.{IsMigrated, MigratesTheSame}
 use Rattle.cl_top.specs.Commands.Simulate.{IsSimulated}
 use Rattle.cl_top.specs.Commands.Replay.{IsOfTrace}
 use Rattle.cl_top.specs.Commands.Edit.{IsOfEdits}
+use Rattle.cl_top.specs.Commands.Cut.{IsCutOutcome}
+use Rattle.cl_top.specs.Commands.Order.{IsOrderOutcome}
+use Rattle.cl_top.specs.Commands.Headroom.{IsHeadroomOutcome}
 use Rattle.cl_top.specs.Commands.Survey.{IsSurveyed}
 use Rattle.cl_top.specs.Files.{Fetched, Unasked, Bytes, Fault, TooLong}
 
@@ -72,6 +75,9 @@ HasOutcome (Some Migrate) gave found = OpensModel (model_file 1) gave IsMigrated
 HasOutcome (Some (Simulate ticks seed)) gave found = OpensModel (model_file 1) gave (IsSimulated ticks seed) found
 HasOutcome (Some Replay) gave found = OpensModel (model_file 1) gave (λ model. OpensFile (trace_file 2) gave (IsOfTrace model)) found
 HasOutcome (Some Edit) gave found = OpensModel (model_file 1) gave (λ model. OpensFile (edits_file 2) gave (IsOfEdits model)) found
+HasOutcome (Some Cut) gave found = OpensModel (model_file 1) gave IsCutOutcome found
+HasOutcome (Some Order) gave found = OpensModel (model_file 1) gave IsOrderOutcome found
+HasOutcome (Some Headroom) gave found = OpensModel (model_file 1) gave IsHeadroomOutcome found
 HasOutcome (Some (Generate seed tasks)) gave found = IsMigrated (generated seed tasks) found
 HasOutcome (Some (Survey seed tasks)) gave found = IsSurveyed (generated seed tasks) found
 
@@ -83,5 +89,8 @@ SaysTheSame (Some Migrate) one other = MigratesTheSame one other
 SaysTheSame (Some (Simulate ticks seed)) one other = one ≡ other
 SaysTheSame (Some Replay) one other = one ≡ other
 SaysTheSame (Some Edit) one other = one ≡ other
+SaysTheSame (Some Cut) one other = one ≡ other
+SaysTheSame (Some Order) one other = one ≡ other
+SaysTheSame (Some Headroom) one other = one ≡ other
 SaysTheSame (Some (Generate seed tasks)) one other = MigratesTheSame one other
 SaysTheSame (Some (Survey seed tasks)) one other = one ≡ other

@@ -9,7 +9,7 @@ use Rattle.cl_edit.specs.Reading.{AreEditsOf}
 use Rattle.cl_gen.specs.Generated.{generated}
 use Rattle.cl_incr.specs.Changed.{AsksForChanges}
 use Rattle.cl_top.specs.declared.command.Command.{Command}
-use Rattle.cl_top.specs.declared.command.Command.TheVariants.{Analyse, Migrate, Simulate, Replay, Edit as EditFiles, Generate, Survey}
+use Rattle.cl_top.specs.declared.command.Command.TheVariants.{Analyse, Migrate, Simulate, Replay, Edit as EditFiles, Cut, Order, Headroom, Generate, Survey}
 
 -- one for each task and two for each chain of a model; none where a file is refused by the reading
 abbrev pub model_steps : Result SystemModel Refusal → ℕ
@@ -46,18 +46,17 @@ pub record AreFewOfEdits (read : Result SystemModel Refusal) (text : List ℕ) (
 
 -- ---- commands
 
--- the most steps of a command whose files have these bytes, without what edits ask for
-abbrev pub step_limit : Option Command → (contents : ℕ → List ℕ) → ℕ
-step_limit None contents = 0
-step_limit (Some Analyse) contents = model_steps (model_of (contents 1))
-step_limit (Some Migrate) contents = 0
-step_limit (Some (Simulate ticks seed)) contents = 0
-step_limit (Some Replay) contents = model_steps (model_of (contents 1))
-step_limit (Some EditFiles) contents = model_steps (model_of (contents 1))
-step_limit (Some (Generate seed tasks)) contents = 0
-step_limit (Some (Survey seed tasks)) contents = model_steps (Ok (generated seed tasks))
-
--- the steps before and after a command whose files have these bytes
+-- The steps before and after a command whose files have these bytes. No limit is promised for `cut`, `order` and
+-- `headroom`.
 abbrev pub AreFewSteps : Option Command → (contents : ℕ → List ℕ) → (before after : ℕ) → Type 0
+AreFewSteps None contents before after = after ≤ before
+AreFewSteps (Some Analyse) contents before after = after ≤ before + model_steps (model_of (contents 1))
+AreFewSteps (Some Migrate) contents before after = after ≤ before
+AreFewSteps (Some (Simulate ticks seed)) contents before after = after ≤ before
+AreFewSteps (Some Replay) contents before after = after ≤ before + model_steps (model_of (contents 1))
 AreFewSteps (Some EditFiles) contents before after = AreFewOfEdits (model_of (contents 1)) (contents 2) before after
-AreFewSteps command contents before after = after ≤ before + step_limit command contents
+AreFewSteps (Some Cut) contents before after = Unit {0}
+AreFewSteps (Some Order) contents before after = Unit {0}
+AreFewSteps (Some Headroom) contents before after = Unit {0}
+AreFewSteps (Some (Generate seed tasks)) contents before after = after ≤ before
+AreFewSteps (Some (Survey seed tasks)) contents before after = after ≤ before + model_steps (Ok (generated seed tasks))

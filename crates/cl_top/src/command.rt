@@ -1,5 +1,5 @@
 ghost use Rattle.std.specs.Prelude.{◌≡◌, ◌<◌, ◌≤◌, drop, length};
-ghost use Rattle.cl_top.specs.Command.{analyse_of, migrate_of, number_upto, simulate_of, replay_of, edit_of, generation_of, word, command_of, MOST_SEED};
+ghost use Rattle.cl_top.specs.Command.{of_model, number_upto, simulate_of, replay_of, edit_of, generation_of, word, command_of, MOST_SEED};
 
 use crate::opening::word_at;
 use cl_gen::MOST_RUN_TICKS;
@@ -20,6 +20,12 @@ pub enum Command {
     Replay,
     /// `edit MODEL EDITS`: report a model as it is edited.
     Edit,
+    /// `cut MODEL`: cut every chain of a model into pieces, so that its reaction is bounded best.
+    Cut,
+    /// `order MODEL`: find priorities with which no task of a model is late.
+    Order,
+    /// `headroom MODEL`: find how far the execution times of a model may grow.
+    Headroom,
     /// `generate SEED TASKS`: write a generated model.
     Generate { seed: u64, tasks: u64 },
     /// `survey SEED TASKS`: analyse a generated model and sum up what was found.
@@ -31,35 +37,28 @@ pub(crate) fn read_command(words: &Words) -> Option<Command>
     ensures { result ≡ command_of words.now }
 {
     match words.at(0)? {
-        "analyse" => read_analyse(words),
-        "migrate" => read_migrate(words),
+        "analyse" => read_of_model(words, Command::Analyse),
+        "migrate" => read_of_model(words, Command::Migrate),
         "simulate" => read_simulate(words),
         "replay" => read_replay(words),
         "edit" => read_edit(words),
+        "cut" => read_of_model(words, Command::Cut),
+        "order" => read_of_model(words, Command::Order),
+        "headroom" => read_of_model(words, Command::Headroom),
         "generate" => read_generate(words),
         "survey" => read_survey(words),
         _ => None,
     }
 }
 
-/// What the words after `analyse` make of it.
-fn read_analyse(words: &Words) -> Option<Command>
-    ensures { result ≡ analyse_of (drop 1 words.now) }
+/// What the words after the verb of a command on a model file alone make of it.
+fn read_of_model(words: &Words, command: Command) -> Option<Command>
+    ensures { result ≡ of_model command (drop 1 words.now) }
 {
     if words.len() == 2 {
-        Some(Command::Analyse)
+        Some(command)
     } else {
         None
-    }
-}
-
-/// What the words after `migrate` make of it.
-fn read_migrate(words: &Words) -> Option<Command>
-    ensures { result ≡ migrate_of (drop 1 words.now) }
-{
-    match words.len() {
-        2 => Some(Command::Migrate),
-        _ => None,
     }
 }
 

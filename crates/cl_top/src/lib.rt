@@ -4,6 +4,7 @@
 
 mod command;
 mod commands;
+mod designing;
 mod editing;
 mod file_shelf;
 pub mod laws;

@@ -19,6 +19,7 @@ use crate::commands::migrate::migrated;
 use crate::commands::replay::replayed;
 use crate::commands::simulate::simulated;
 use crate::commands::survey::surveyed;
+use crate::designing::{cut_file, headroom_file, order_file};
 use crate::editing::edit_files;
 use crate::opening::{FileFetch, Opened, TRACE_LIMIT, fetch_file, open_model};
 use crate::{Outcome, status};
@@ -54,7 +55,8 @@ pub fn run<S: Shelf, K: Sink, L: Ledger>(
     ensures unasked { command_of words.now ≡ None → shelf.new ≡ shelf.old }
     ensures unfailed { result ≢ WRITE_FAULT → K.faults sink.new ≡ K.faults sink.old }
 
-    // At most so many steps as the told files ask for, whatever is answered.
+    // At most so many steps as the told files ask for, whatever is answered; there is no limit for `cut`, `order` and
+    // `headroom`.
     ensures few_steps { (contents : ℕ → List ℕ) → TellsFiles (command_of words.now) words.now (S.held shelf.old) contents
         → AreFewSteps (command_of words.now) contents steps.old steps.new }
 
@@ -114,6 +116,9 @@ fn find_outcome<S: Shelf, L: Ledger>(
         }
         Some(Command::Replay) => replay_files(alloc, words, shelf, steps),
         Some(Command::Edit) => edit_files(alloc, words, shelf, steps),
+        Some(Command::Cut) => cut_file(alloc, words, shelf, steps),
+        Some(Command::Order) => order_file(alloc, words, shelf, steps),
+        Some(Command::Headroom) => headroom_file(alloc, words, shelf, steps),
         Some(Command::Generate { seed, tasks }) => generated(alloc, seed, tasks),
         Some(Command::Survey { seed, tasks }) => surveyed(alloc, seed, tasks, steps),
     }

@@ -12,3 +12,6 @@ pub mod ScaledAnswers
 pub mod ScaledBounds
 pub mod ScaledExact
 pub mod KeptBelow
+pub mod KeptFindings
+pub mod OneOrder
+pub mod OneHeadroom

@@ -94,3 +94,21 @@ pieces_from chain starts count first = map (piece_between chain starts first) (r
 abbrev pub pieces_below : (chain : ℕ) → (starts : List ℕ) → (count below : ℕ) → List Piece
 pieces_below chain starts count zero = []
 pieces_below chain starts count (suc below) = pieces_from chain starts count below ++ pieces_below chain starts count below
+
+-- all pieces of a chain of a model, those that begin with its last group first
+pub record AreAllPiecesOf (model : SystemModel) (chain : ℕ) (pieces : List Piece) : Type 0 where
+  pub starts : List ℕ
+  pub are : AreStarts (steps_of model (chain_at model chain)) (groups_at model chain) starts
+  pub is : pieces ≡ pieces_below chain starts (length starts - 1) (length starts - 1)
+
+-- all pieces of a chain were put behind others
+pub record HasPiecesBehind (model : SystemModel) (chain : ℕ) (old new : List Piece) : Type 0 where
+  pub pieces : List Piece
+  pub behind : new ≡ old ++ pieces
+  pub all : AreAllPiecesOf model chain pieces
+
+-- the values of all pieces of a chain
+pub record AreChainValues (model : SystemModel) (chain : ℕ) (values : List ℕ) : Type 0 where
+  pub pieces : List Piece
+  pub all : AreAllPiecesOf model chain pieces
+  pub are : AreValuesOf model pieces values

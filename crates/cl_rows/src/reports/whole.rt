@@ -24,7 +24,7 @@ const B_NOT_WHOLE: Change = (
     "least = 4\ngreatest = 5\nwhole = false\n",
 );
 
-const B_TAKES_6_WHOLE: Change = (
+pub(super) const B_TAKES_6_WHOLE: Change = (
     "least = 4\ngreatest = 5\n",
     "least = 6\ngreatest = 6\nwhole = true\n",
 );
@@ -44,7 +44,7 @@ const A_DEADLINE_7: Change = (
     "priority = 2\naccess = \"implicit\"\ndeadline = 7\n",
 );
 
-const VERSION_2: Change = ("version = 1\n", "version = 2\n");
+pub(super) const VERSION_2: Change = ("version = 1\n", "version = 2\n");
 
 pub(super) const WHOLE_ROWS: [ReportRow; 13] = [
     (

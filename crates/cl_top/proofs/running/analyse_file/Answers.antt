@@ -1,9 +1,12 @@
 use Rattle.std.proofs.lemmas.Result.{IfOk-weaker}
-use Rattle.cl_top.proofs.OfAnalyse.{analysis_comes, stop_comes}
+use Rattle.cl_top.specs.declared.command.Command.TheVariants.{Analyse}
+use Rattle.cl_top.specs.Commands.Analyse.{IsAnalysed}
+use Rattle.cl_top.proofs.OneFile.{model_comes, model_stops, of_analyse}
 use Rattle.cl_top.proofs.running.analyse_file.Goals as goal
 
 pub returns-in-Valid-clause-comes : goal.returns-in-Valid-clause-comes
-returns-in-Valid-clause-comes g c = IfOk-weaker c.analysed.result _ _ (λ found is. analysis_comes _ _ _ _ _ c.requires found c.in_ok-model.ensures.opened.0 c.in_ok-model.ensures.opened.1 c.in-Valid.model _ c.in_ok-model.ensures.opened.2 c.in-Valid.is is) c.analysed.ensures.outcome
+returns-in-Valid-clause-comes g c = IfOk-weaker c.analysed.result _ _ (λ found is.
+    model_comes Analyse IsAnalysed of_analyse _ _ _ _ _ c.requires found c.in_ok-model.ensures.opened.0 c.in_ok-model.ensures.opened.1 c.in-Valid.model _ c.in_ok-model.ensures.opened.2 c.in-Valid.is is) c.analysed.ensures.outcome
 
 pub returns-in-Stopped-clause-comes : goal.returns-in-Stopped-clause-comes
-returns-in-Stopped-clause-comes g c = stop_comes _ _ _ _ _ c.requires _ c.in_ok-model.ensures.opened.0 c.in_ok-model.ensures.opened.1 _ c.in_ok-model.ensures.opened.2 c.in-Stopped.is
+returns-in-Stopped-clause-comes g c = model_stops Analyse IsAnalysed of_analyse _ _ _ _ _ c.requires _ c.in_ok-model.ensures.opened.0 c.in_ok-model.ensures.opened.1 _ c.in_ok-model.ensures.opened.2 c.in-Stopped.is

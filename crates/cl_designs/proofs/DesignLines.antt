@@ -1,0 +1,52 @@
+-- The lines of a text: one more of them, and what each prints.
+use Rattle.std.proofs.Common.{◌≡◌, ℕ, zero, suc, ◌+◌, ◌<◌, Option, List, [], ◌∷◌, ◌++◌, length, get_or, sym, ap, ◌∙◌, subst, arith}
+use Rattle.std.specs.List.{flat_map, range_with_len}
+use Rattle.std.proofs.lemmas.List.{flat_map_more, get_or_default}
+use Rattle.cl_model.specs.declared.model.SystemModel.{SystemModel}
+use Rattle.cl_model.specs.ByNumber.{chain_at}
+use Rattle.cl_model.specs.Groups.{groups_of}
+use Rattle.cl_model.specs.Validity.{IsValid}
+use Rattle.cl_runs.specs.SystemOf.{system_of}
+use Rattle.cl_bound.specs.Bounds.{bounds_of}
+use Rattle.cl_analyse.specs.ChainAnswers.{chain_answer, chain_answer_of}
+use Rattle.cl_analyse.proofs.SafeFindings.{answer_of_chain, named_task_within}
+use Rattle.cl_cut.specs.declared.answer.CutAnswer.{CutAnswer}
+use Rattle.cl_cut.specs.declared.answer.CutAnswer.TheVariants.{Late}
+use Rattle.cl_cut.specs.CutAnswers.{cut_answer_at, IsCutAnswer, AreCutAnswers}
+
+-- one more number
+range_more : (a n : ℕ) → range_with_len a (suc n) ≡ range_with_len a n ++ (a + n) ∷ []
+range_more a zero = ap (λ m. m ∷ []) (omega arith)
+range_more a (suc n) =
+    let next : a + 1 + n ≡ a + suc n = omega arith in
+    ap (λ ms. a ∷ ms) (range_more (a + 1) n ∙ ap (λ m. range_with_len (a + 1) n ++ m ∷ []) next)
+
+-- the line of one more number stands behind those before it
+pub line_more : (line : ℕ → List ℕ) (text before after : List ℕ) (n : ℕ) → before ≡ text ++ flat_map line (range_with_len 0 n) → after ≡ before ++ line n
+    → after ≡ text ++ flat_map line (range_with_len 0 (n + 1))
+line_more line text before after n was is =
+    let last : n ≡ 0 + n = omega arith in
+    let next : suc n ≡ n + 1 = omega arith in
+    is ∙ ap (λ t. t ++ line n) was ∙ flat_map_more line text (range_with_len 0 n) n
+    ∙ ap (λ m. text ++ flat_map line (range_with_len 0 n ++ m ∷ [])) last
+    ∙ ap (λ ms. text ++ flat_map line ms) (sym (range_more 0 n))
+    ∙ ap (λ m. text ++ flat_map line (range_with_len 0 m)) next
+
+-- ---- cuts
+
+module _ (model : SystemModel) (answers : List CutAnswer) (are : AreCutAnswers model answers) (chain : ℕ) (is_chain : chain < length model.chains) where
+  pub answer_within : chain < length answers
+  answer_within = rw are.one_a_chain is_chain
+
+  -- an answer that was found in its list
+  pub answer_found : (answer : CutAnswer) → answer ≡ get_or answers chain answer → answer ≡ cut_answer_at answers chain
+  answer_found answer at = at ∙ get_or_default answers chain answer (Late 0) answer_within
+
+  -- a late task that is named is a task of the model
+  pub late_within : IsValid model → (late : ℕ) → cut_answer_at answers chain ≡ Late late → late < length model.tasks
+  unfolding chain_answer_of
+  late_within valid late named =
+      named_task_within model valid chain late is_chain
+      (answer_of_chain model chain is_chain
+      ∙ ap (λ (first : Option ℕ). chain_answer first (bounds_of (system_of model) (groups_of model (chain_at model chain))))
+      (subst (λ (answer : CutAnswer). IsCutAnswer model chain answer) named (are.each chain is_chain)))

@@ -1,0 +1,2 @@
+pub mod DesignLines
+pub mod OneText

@@ -1,0 +1,13 @@
+//! What is found of better designs, as text: the best cuts of the chains, the best orders of the priorities, and how far
+//! execution times may grow.
+#![tactic(auto)]
+
+mod cuts;
+mod headroom;
+pub mod laws;
+mod names;
+mod orders;
+
+pub use cuts::cut_text;
+pub use headroom::headroom_text;
+pub use orders::order_text;

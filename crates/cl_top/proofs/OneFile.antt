@@ -1,0 +1,89 @@
+-- A command of a model file alone.
+use Rattle.std.proofs.Common.{◌≡◌, ℕ, inl, inr, List, [], ◌∷◌, Some, refl, sym, ap, subst, arith}
+use Rattle.std.specs.Prelude.{Contains}
+use Rattle.std.specs.List.{AllByRecursion}
+use Rattle.std.proofs.lemmas.Bool.{cases_lt}
+use Rattle.cl_io.specs.Shelf.{Held}
+use Rattle.cl_gen.specs.declared.limits.TheConstants.{MOST_EXECUTIONS}
+use Rattle.cl_gen.specs.Count.{execution_count}
+use Rattle.cl_model.specs.declared.model.SystemModel.{SystemModel}
+use Rattle.cl_top.specs.declared.command.Command.{Command}
+use Rattle.cl_top.specs.declared.command.Command.TheVariants.{Analyse, Migrate, Simulate, Cut, Order, Headroom}
+use Rattle.cl_top.specs.declared.opening.Opened.{Opened}
+use Rattle.cl_top.specs.declared.opening.Opened.TheVariants as opened
+use Rattle.cl_top.specs.declared.opening.TheConstants.{FILE_LIMIT}
+use Rattle.cl_top.specs.declared.outcome.Outcome.{Outcome}
+use Rattle.cl_top.specs.Command.{File, model_file, command_of, files_of, word}
+use Rattle.cl_top.specs.Commands.Analyse.{IsAnalysed}
+use Rattle.cl_top.specs.Commands.Migrate.{IsMigrated}
+use Rattle.cl_top.specs.Commands.Simulate.{IsSimulated}
+use Rattle.cl_top.specs.Commands.Cut.{IsCutOutcome}
+use Rattle.cl_top.specs.Commands.Order.{IsOrderOutcome}
+use Rattle.cl_top.specs.Commands.Headroom.{IsHeadroomOutcome}
+use Rattle.cl_top.specs.Files.{Fetched, EachFile, MayGive, FileRose}
+use Rattle.cl_top.specs.Inner.Opened.{IsOpenedAs}
+use Rattle.cl_top.specs.Outcome.{OpensModel, HasOutcome}
+use Rattle.cl_top.specs.Run.{ComesAs, ComesTo}
+use Rattle.cl_top.proofs.Comings.{Cause, IsOfContent, opened_cause, comes_to}
+use Rattle.cl_top.proofs.Openings.{opened_valid, opened_stopped}
+
+-- its one file is a model, and its outcome is what comes next of a valid one, which is of content
+pub record IsOfModel (command : Command) (next : SystemModel → Outcome → Type 0) : Type 0 where
+  pub files : files_of (Some command) ≡ model_file 1 ∷ []
+  pub has : (gave : File → Fetched) (found : Outcome) → OpensModel (model_file 1) gave next found → HasOutcome (Some command) gave found
+  pub opens : (gave : File → Fetched) (found : Outcome) → HasOutcome (Some command) gave found → OpensModel (model_file 1) gave next found
+  pub content : (model : SystemModel) (found : Outcome) → next model found → IsOfContent found.status
+
+module _ (command : Command) (next : SystemModel → Outcome → Type 0) (of : IsOfModel command next) where
+  pub has_model : Contains (files_of (Some command)) (model_file 1)
+  has_model = subst (λ files. Contains files (model_file 1)) (sym of.files) (0, omega arith, refl)
+
+  -- what holds of each file holds of the model, and the other way round
+  pub of_each : (P : File → Type 0) → EachFile (Some command) P → P (model_file 1)
+  of_each P each = (subst (λ files. AllByRecursion P files) of.files each).0
+
+  pub each_of : (P : File → Type 0) → P (model_file 1) → EachFile (Some command) P
+  each_of P one = subst (λ files. AllByRecursion P files) (sym of.files) (one, tt)
+
+  module _ (words : List (List ℕ)) (held : List ℕ → Held) (before after longest : List ℕ → ℕ) where
+    -- its causes
+    pub model_cause : (found : Outcome) → ComesAs (Some command) words held before after longest found → Cause words held before after longest (Some command) found
+    model_cause found comes = opened_cause words held before after longest (Some command) found (model_file 1) has_model comes.gave next (λ model. of.content model found) (of_each _ comes.files) (of.opens comes.gave found comes.follows)
+
+    module _ (is_command : command_of words ≡ Some command) (found : Outcome) (fetch : Fetched) (may : MayGive (held (word words 1)) FILE_LIMIT (FileRose words before after (model_file 1)) (longest (word words 1)) fetch) where
+      comes_of : OpensModel (model_file 1) (λ _. fetch) next found → ComesTo words held before after longest found
+      comes_of opens = comes_to words held before after longest (Some command) found is_command
+          (record { gave = λ _. fetch; files = each_of _ may; follows = of.has (λ _. fetch) found opens })
+
+      -- the outcome of a valid model, and the one in its place
+      pub model_comes : (model : SystemModel) (gives : Opened) → IsOpenedAs 1 fetch gives → gives ≡ opened.Valid model → next model found → ComesTo words held before after longest found
+      model_comes model gives is valid follows = comes_of (opened_valid next found 1 fetch model (subst (IsOpenedAs 1 fetch) valid is) follows)
+
+      pub model_stops : (gives : Opened) → IsOpenedAs 1 fetch gives → gives ≡ opened.Stopped found → ComesTo words held before after longest found
+      model_stops gives is stopped = comes_of (opened_stopped next found 1 fetch (subst (IsOpenedAs 1 fetch) stopped is))
+
+-- ---- the commands
+
+pub of_analyse : IsOfModel Analyse IsAnalysed
+of_analyse = record { files = refl; has = λ gave found is. is; opens = λ gave found is. is; content = λ model found is. inl is.done }
+
+pub of_migrate : IsOfModel Migrate IsMigrated
+of_migrate = record { files = refl; has = λ gave found is. is; opens = λ gave found is. is; content = λ model found is. inl is.done }
+
+simulated_content : (ticks seed : ℕ) (model : SystemModel) (found : Outcome) → IsSimulated ticks seed model found → IsOfContent found.status
+simulated_content ticks seed model found is = elim (cases_lt MOST_EXECUTIONS (execution_count model ticks)) [
+  | inl many ↦ let eight : found.status ≡ 8 = ap (λ (o : Outcome). o.status) (is.refused many) in inr (omega arith, omega arith)
+  | inr few ↦ inl (ap (λ (o : Outcome). o.status) (is.simulated few).printed)
+]
+
+pub of_simulate : (ticks seed : ℕ) → IsOfModel (Simulate ticks seed) (IsSimulated ticks seed)
+of_simulate ticks seed = record { files = refl; has = λ gave found is. is; opens = λ gave found is. is; content = simulated_content ticks seed }
+
+pub of_cut : IsOfModel Cut IsCutOutcome
+of_cut = record { files = refl; has = λ gave found is. is; opens = λ gave found is. is; content = λ model found is. inl is.done }
+
+pub of_order : IsOfModel Order IsOrderOutcome
+of_order = record { files = refl; has = λ gave found is. is; opens = λ gave found is. is; content = λ model found is. inl is.done }
+
+pub of_headroom : IsOfModel Headroom IsHeadroomOutcome
+of_headroom = record { files = refl; has = λ gave found is. is; opens = λ gave found is. is; content = λ model found is. inl is.done }

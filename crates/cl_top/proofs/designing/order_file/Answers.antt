@@ -1,0 +1,12 @@
+use Rattle.std.proofs.lemmas.Result.{IfOk-weaker}
+use Rattle.cl_top.specs.declared.command.Command.TheVariants.{Order}
+use Rattle.cl_top.specs.Commands.Order.{IsOrderOutcome}
+use Rattle.cl_top.proofs.OneFile.{model_comes, model_stops, of_order}
+use Rattle.cl_top.proofs.designing.order_file.Goals as goal
+
+pub returns-in-Valid-clause-comes : goal.returns-in-Valid-clause-comes
+returns-in-Valid-clause-comes g c = IfOk-weaker c.ordered.result _ _ (λ found is.
+    model_comes Order IsOrderOutcome of_order _ _ _ _ _ c.requires found c.in_ok-model.ensures.opened.0 c.in_ok-model.ensures.opened.1 c.in-Valid.model _ c.in_ok-model.ensures.opened.2 c.in-Valid.is is) c.ordered.ensures
+
+pub returns-in-Stopped-clause-comes : goal.returns-in-Stopped-clause-comes
+returns-in-Stopped-clause-comes g c = model_stops Order IsOrderOutcome of_order _ _ _ _ _ c.requires _ c.in_ok-model.ensures.opened.0 c.in_ok-model.ensures.opened.1 _ c.in_ok-model.ensures.opened.2 c.in-Stopped.is
