@@ -1,5 +1,6 @@
 //! Valid models, which answer in constant time.
-ghost use Rattle.std.specs.Prelude.{◌≡◌, ◌<◌, length, slice_index_or, IfOk, IfErr, IfSome, All};
+ghost use Rattle.std.specs.Prelude.{◌≡◌, ◌<◌, ◌≤◌, length, slice_index_or, IfOk, IfErr, IfSome, All};
+ghost use Rattle.cl_model.specs.declared.limits.TheConstants.{MOST_STEPS};
 ghost use Rattle.cl_model.specs.Groups.{no_group, groups_at, IsGroupOf};
 ghost use Rattle.cl_model.specs.ByNumber.{core_of, stimulus_of, deadline_of, jitter_of, time_of, tasks_of_core, task_named, chain_named};
 ghost use Rattle.cl_model.specs.Validity.{IsValid};
@@ -142,6 +143,17 @@ impl ValidModel {
         ensures of_task { IsGroupOf self.now result }
     {
         self.look_ups.groups[chain as usize].as_slice()[place as usize]
+    }
+
+    /// The groups of a chain, in order.
+    pub fn groups(&self, chain: u32) -> &[Group]
+        requires { chain < length self.now.chains }
+        ensures groups { result.now ≡ groups_at self.now chain }
+        ensures some { 0 < length result.now }
+        ensures few { length result.now ≤ MOST_STEPS }
+        ensures of_tasks { All (IsGroupOf self.now) result.now }
+    {
+        self.look_ups.groups[chain as usize].as_slice()
     }
 
     /// The number of the task of that name. There is none exactly where no task has it.
