@@ -1,6 +1,6 @@
--- The beats of the groups of a chain of a model.
-use Rattle.std.proofs.Common.{◌≡◌, ℕ, ◌+◌, ◌<◌, Bool, true, false, List, [], ◌∷◌, ◌++◌, length, get_or, take, refl, sym, ap, subst, ◌∙◌, arith, inl, inr}
-use Rattle.std.specs.Prelude.{◌&&◌}
+-- The beats of groups of a model, those of a chain or of a part of one.
+use Rattle.std.proofs.Common.{◌≡◌, ℕ, ◌+◌, ◌<◌, ◌≤◌, Bool, true, false, List, [], ◌∷◌, ◌++◌, length, get_or, take, refl, sym, ap, subst, ◌∙◌, arith, inl, inr}
+use Rattle.std.specs.Prelude.{◌&&◌, All}
 use Rattle.std.specs.List.{list_all}
 use Rattle.std.proofs.lemmas.Bool.{cases_lt, and_parts}
 use Rattle.std.proofs.Math.ListN.{get_or-append}
@@ -9,23 +9,41 @@ use Rattle.std.proofs.Common.{length-append}
 use Rattle.std.proofs.lemmas.List.Folds.{list_all_at, list_all_more}
 use Rattle.cl_model.specs.declared.model.SystemModel.{SystemModel}
 use Rattle.cl_model.specs.declared.group.Group.{Group}
+use Rattle.cl_model.specs.declared.limits.TheConstants.{MOST_STEPS}
 use Rattle.cl_model.specs.declared.stimulus.StimulusKind.{StimulusKind}
 use Rattle.cl_model.specs.declared.stimulus.StimulusKind.TheVariants.{Periodic, Sporadic, Burst}
 use Rattle.cl_model.specs.declared.task.TaskDef.{TaskDef}
 use Rattle.cl_model.specs.ByNumber.{task_at, stimulus_of, deadline_of}
-use Rattle.cl_model.specs.Groups.{no_group, group_at, groups_at}
+use Rattle.cl_model.specs.Groups.{no_group, group_at, groups_at, IsGroupOf}
 use Rattle.cl_model.specs.Ranges.{IsKindInRange}
 use Rattle.cl_model.specs.Timing.{least_distance}
 use Rattle.cl_model.specs.Validity.{IsValid}
 use Rattle.cl_model.proofs.ValidTasks.{kind_in_range, early_enough, released_before}
-use Rattle.cl_model.proofs.GroupFacts.{groups_at_some, groups_at_few}
+use Rattle.cl_model.proofs.GroupFacts.{groups_at_are, groups_at_some, groups_at_few}
 use Rattle.cl_runs.specs.TaskTiming.{Timing, System, timing_at}
 use Rattle.cl_runs.specs.SystemOf.{system_of}
 use Rattle.cl_runs.proofs.ModelSystem.{timing_is}
 use Rattle.cl_comm.specs.AccessMoments.{is_timed}
 use Rattle.cl_exact.specs.declared.beat.Beat.{Beat}
-use Rattle.cl_exact.specs.TimedPeriodic.{is_periodic, is_timed_periodic_task, are_timed_periodic}
+use Rattle.cl_exact.specs.TimedPeriodic.{is_periodic, is_timed_periodic_task, are_timed_periodic, is_timed_periodic_chain}
 use Rattle.cl_exact.specs.Inner.Beats.{no_beat, beat_in, IsBeat, IsBeatOf, AreBeatsOf}
+
+-- groups of a model whose tasks are all timed and periodic: at least one, and no more than a chain may have
+pub record AreTimedGroups (model : SystemModel) (groups : List Group) : Type 0 where
+  pub some : 0 < length groups
+  pub few : length groups ≤ MOST_STEPS
+  pub of_tasks : All (IsGroupOf model) groups
+  pub timed_periodic : are_timed_periodic (system_of model) groups ≡ true
+
+-- those of a timed periodic chain are such
+pub timed_chain : (model : SystemModel) → IsValid model → (chain : ℕ) → chain < length model.chains → is_timed_periodic_chain model chain ≡ true
+    → AreTimedGroups model (groups_at model chain)
+timed_chain model valid chain within timed = record {
+  some = groups_at_some model valid chain within;
+  few = groups_at_few model valid chain within;
+  of_tasks = groups_at_are model valid chain;
+  timed_periodic = timed;
+}
 
 -- whether a task is timed and periodic, by what the model says of it
 pub task_tested : (model : SystemModel) (i : ℕ) → i < length model.tasks → (task : TaskDef) → task ≡ task_at model i → (timed periodic : Bool)
@@ -44,14 +62,14 @@ passes_at p xs i d within all =
       | false ↦ λ fails. sym (list_all_at p xs i d within fails) ∙ all
     ] refl
 
--- each task of a timed periodic chain is one
+-- each task of timed periodic groups is one
 pub task_passes : (system : System) (groups : List Group) (place : ℕ) → are_timed_periodic system groups ≡ true → place < length groups
     → is_timed_periodic_task (timing_at system (group_at groups place).task) ≡ true
 unfolding are_timed_periodic
 task_passes system groups place all within =
     passes_at (λ (group : Group). is_timed_periodic_task (timing_at system group.task)) groups place no_group within all
 
--- the test of a chain, group after group
+-- the test of groups, one after the other
 pub passes_more : (system : System) (groups : List Group) (place : ℕ) → place < length groups
     → are_timed_periodic system (take place groups) ≡ true → is_timed_periodic_task (timing_at system (group_at groups place).task) ≡ true
     → are_timed_periodic system (take (place + 1) groups) ≡ true
@@ -102,7 +120,7 @@ beat_in_range model valid i period offset jitter deadline within is deadline_is 
       deadline = omega (arith, early, deadline_is, ap least_distance is, range.0.1);
     }
 
--- the beats of the first groups of a chain
+-- the beats of the first of some groups
 pub record AreFirstBeats (system : System) (groups : List Group) (count : ℕ) (beats : List Beat) : Type 0 where
   pub as_many : length beats ≡ count
   pub of : (place : ℕ) → place < count → IsBeatOf (timing_at system (group_at groups place).task) (beat_in beats place)
@@ -136,13 +154,13 @@ beats_more system groups count beats beat so_far of is = record {
     new place here =
         ap (beat_in (beats ++ beat ∷ [])) (sym (so_far.as_many ∙ here)) ∙ get_or-append_seam beats beat [] no_beat
 
-pub all_beats : (model : SystemModel) → IsValid model → (chain : ℕ) → chain < length model.chains → (beats : List Beat)
-    → AreFirstBeats (system_of model) (groups_at model chain) (length (groups_at model chain)) beats
-    → AreBeatsOf (system_of model) (groups_at model chain) beats
-all_beats model valid chain within beats all = record {
+-- those of all of them
+pub all_beats : (system : System) (groups : List Group) → 0 < length groups → length groups ≤ MOST_STEPS → (beats : List Beat)
+    → AreFirstBeats system groups (length groups) beats → AreBeatsOf system groups beats
+all_beats system groups some few beats all = record {
   are_beats = record {
-    some = omega (arith, all.as_many, groups_at_some model valid chain within);
-    few = omega (arith, all.as_many, groups_at_few model valid chain within);
+    some = omega (arith, all.as_many, some);
+    few = omega (arith, all.as_many, few);
     each = λ place below. all.are place (omega (arith, below, all.as_many));
   };
   as_many = all.as_many;

@@ -1,4 +1,4 @@
--- The exact lengths of a chain of a valid model whose tasks are all timed and periodic: there are some, and they are tied.
+-- The exact lengths of groups of a valid model whose tasks are all timed and periodic: there are some, and they are tied.
 use Rattle.std.proofs.Common.{◌≡◌, ℕ, zero, suc, ◌+◌, ◌-◌, ◌<◌, ◌≤◌, true, List, [], ◌∷◌, ◌++◌, length, refl, subst, arith, inl, inr}
 use Rattle.std.specs.Prelude.{slice_index}
 use Rattle.cl_model.specs.declared.model.SystemModel.{SystemModel}
@@ -8,7 +8,6 @@ use Rattle.cl_model.specs.declared.stimulus.StimulusKind.TheVariants.{Periodic, 
 use Rattle.cl_model.specs.ByNumber.{stimulus_of, deadline_of}
 use Rattle.cl_model.specs.Groups.{no_group, group_at, groups_at}
 use Rattle.cl_model.specs.Validity.{IsValid}
-use Rattle.cl_model.proofs.GroupFacts.{groups_at_are}
 use Rattle.cl_runs.specs.TaskTiming.{System}
 use Rattle.cl_runs.specs.SystemOf.{system_of}
 use Rattle.cl_exact.specs.declared.beat.Beat.{Beat}
@@ -22,7 +21,7 @@ use Rattle.cl_exact.specs.Inner.Scans.{IsGreatestOf}
 use Rattle.cl_exact.specs.Inner.Walks.{start_up_of, IsLatestSecond}
 use Rattle.cl_exact.specs.Inner.Found.{last_beat, IsGreatestReaction, age_of, IsOldest, IsForwardWitness, IsAgeWitness, IsSameUpTo}
 use Rattle.cl_exact.proofs.ExactOnce.{exact_unique}
-use Rattle.cl_exact.proofs.ModelBeats.{task_passes, is_of_period, beat_is_of, beat_in_range, AreFirstBeats, no_beats, beats_more, all_beats}
+use Rattle.cl_exact.proofs.ModelBeats.{AreTimedGroups, timed_chain, task_passes, is_of_period, beat_is_of, beat_in_range, AreFirstBeats, no_beats, beats_more, all_beats}
 use Rattle.cl_exact.proofs.PeriodFacts.{least_of_none, has_least, last_period}
 use Rattle.cl_exact.proofs.ReactionAge.{complete_after}
 use Rattle.cl_exact.proofs.Shifts.{turns_of, some_turns, greatest_over_all}
@@ -32,19 +31,16 @@ use Rattle.cl_exact.proofs.FoundExact.{reaction_exact, age_exact, reduced_exact}
 use Rattle.cl_exact.proofs.WholeScan.{period_in_age, same_lengths}
 use Rattle.cl_exact.proofs.Existence.{has_forward, has_backward, has_greatest, has_first, has_latest}
 
--- ---- the beats of a chain
+-- ---- the beats of groups
 
 kind_numbers : (kind : StimulusKind) → is_periodic kind ≡ true → (period offset jitter : ℕ) × (kind ≡ Periodic period offset jitter)
 kind_numbers (Periodic period offset jitter) passes = (period, offset, jitter, refl)
 kind_numbers (Sporadic least greatest) passes = cc
 kind_numbers (Burst period offset count distance) passes = cc
 
-module _ (model : SystemModel) (valid : IsValid model) (chain : ℕ) (timed : is_timed_periodic_chain model chain ≡ true) where
+module _ (model : SystemModel) (valid : IsValid model) (groups : List Group) (are : AreTimedGroups model groups) where
   abbrev system : System
   system = system_of model
-
-  abbrev groups : List Group
-  groups = groups_at model chain
 
   first_beats : (count : ℕ) → count ≤ length groups → (beats : List Beat) × AreFirstBeats system groups count beats
   first_beats zero within = ([], no_beats system groups)
@@ -52,8 +48,8 @@ module _ (model : SystemModel) (valid : IsValid model) (chain : ℕ) (timed : is
       let rest = first_beats count (omega (arith, within)) in
       let here : count < length groups = omega (arith, within) in
       let i : ℕ = (group_at groups count).task in
-      let known = (groups_at_are model valid chain count no_group here).known in
-      let kind = kind_numbers (stimulus_of model i) (is_of_period model i known (task_passes system groups count timed here)) in
+      let known = (are.of_tasks count no_group here).known in
+      let kind = kind_numbers (stimulus_of model i) (is_of_period model i known (task_passes system groups count are.timed_periodic here)) in
       let beat : Beat = record { offset = kind.1; period = kind.0; deadline = deadline_of model i } in
       let one : count + 1 ≡ suc count = omega arith in (
         rest.0 ++ beat ∷ [],
@@ -63,14 +59,14 @@ module _ (model : SystemModel) (valid : IsValid model) (chain : ℕ) (timed : is
             (beat_in_range model valid i kind.0 kind.1 kind.2 (deadline_of model i) known kind.3 refl)),
       )
 
-  pub has_beats : chain < length model.chains → (beats : List Beat) × AreBeatsOf system groups beats
-  has_beats within =
+  pub has_beats : (beats : List Beat) × AreBeatsOf system groups beats
+  has_beats =
       let found = first_beats (length groups) (omega arith) in
-      (found.0, all_beats model valid chain within found.0 found.1)
+      (found.0, all_beats system groups are.some are.few found.0 found.1)
 
--- ---- its exact lengths
+-- ---- their exact lengths
 
--- what is had of a chain of these beats, with how it is tied
+-- what is had of groups of these beats, with how it is tied
 record HasTiedLengths (system : System) (groups : List Group) : Type 0 where
   exact : Witnesses
   are : AreExactLengths system groups exact
@@ -141,20 +137,27 @@ module _ (system : System) (groups : List Group) (beats : List Beat) (of : AreBe
             (oldest_is beats are count greatest.0.reaction all start walk.0 refl walk.1 first_with.0 first_with.1)
       ]
 
--- a chain of a valid model whose tasks are all timed and periodic has exact lengths
+module _ (model : SystemModel) (valid : IsValid model) (groups : List Group) (are : AreTimedGroups model groups) where
+  had : HasTiedLengths (system_of model) groups
+  had =
+      let beats = has_beats model valid groups are in
+      lengths_of_beats (system_of model) groups beats.0 beats.1
+
+  -- groups of a valid model whose tasks are all timed and periodic have exact lengths
+  pub groups_have_lengths : HasExactLengths (system_of model) groups
+  groups_have_lengths = record { exact = had.exact; are = had.are }
+
+  -- and whatever they are, they are tied
+  pub groups_are_tied : (exact : Witnesses) → AreExactLengths (system_of model) groups exact → AreTied (system_of model) groups exact
+  groups_are_tied exact are_exact =
+      subst (AreTied (system_of model) groups) (exact_unique (system_of model) groups had.exact exact had.are are_exact) had.tied
+
+-- so has a chain
 pub lengths_exist : (model : SystemModel) → IsValid model → (chain : ℕ) → chain < length model.chains
     → is_timed_periodic_chain model chain ≡ true → HasExactLengths (system_of model) (groups_at model chain)
-lengths_exist model valid chain within timed =
-    let beats = has_beats model valid chain timed within in
-    let had = lengths_of_beats (system_of model) (groups_at model chain) beats.0 beats.1 in
-    record { exact = had.exact; are = had.are }
+lengths_exist model valid chain within timed = groups_have_lengths model valid (groups_at model chain) (timed_chain model valid chain within timed)
 
--- and whatever they are, they are tied
 pub lengths_tied : (model : SystemModel) → IsValid model → (chain : ℕ) → chain < length model.chains
     → is_timed_periodic_chain model chain ≡ true → (exact : Witnesses) → AreExactLengths (system_of model) (groups_at model chain) exact
     → AreTied (system_of model) (groups_at model chain) exact
-lengths_tied model valid chain within timed exact are_exact =
-    let beats = has_beats model valid chain timed within in
-    let had = lengths_of_beats (system_of model) (groups_at model chain) beats.0 beats.1 in
-    subst (AreTied (system_of model) (groups_at model chain))
-    (exact_unique (system_of model) (groups_at model chain) had.exact exact had.are are_exact) had.tied
+lengths_tied model valid chain within timed = groups_are_tied model valid (groups_at model chain) (timed_chain model valid chain within timed)

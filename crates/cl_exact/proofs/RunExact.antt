@@ -5,8 +5,9 @@ use Rattle.std.specs.Prelude.{All}
 use Rattle.std.proofs.lemmas.List.Sums.{get_or-le-sum_by}
 use Rattle.cl_model.specs.declared.group.Group.{Group}
 use Rattle.cl_model.specs.declared.model.SystemModel.{SystemModel}
-use Rattle.cl_model.specs.Groups.{no_group, group_at, groups_at}
+use Rattle.cl_model.specs.Groups.{no_group, group_at, groups_at, IsGroupOf}
 use Rattle.cl_model.specs.Validity.{IsValid}
+use Rattle.cl_model.proofs.GroupFacts.{groups_at_are}
 use Rattle.cl_runs.specs.TaskTiming.{System, timing_at, IsSound}
 use Rattle.cl_runs.specs.Pattern.{IsPattern}
 use Rattle.cl_runs.specs.SystemOf.{system_of}
@@ -18,12 +19,12 @@ use Rattle.cl_runs.specs.RunChains.{run_moments, ideal_moments}
 use Rattle.cl_runs.proofs.Extension.{some_legal}
 use Rattle.cl_runs.proofs.ModelSystem.{system_sound}
 use Rattle.cl_runs.proofs.OrderedMoments.{ideal_in_order, ideal_has_read}
-use Rattle.cl_exact.specs.TimedPeriodic.{is_timed_periodic_chain}
+use Rattle.cl_exact.specs.TimedPeriodic.{are_timed_periodic, is_timed_periodic_chain}
 use Rattle.cl_exact.specs.Hyperperiod.{period_of}
 use Rattle.cl_exact.specs.ExactLengths.{second_arrival, HaveAllBegun, start_up, IsSteadyForward, IsSteadyAge, IsSteadyReduced, chain_of, Witnesses, AreExactLengths}
-use Rattle.cl_exact.specs.RunPromises.{HaveResponses, IsSettledTimedChain, IsIdealUntilTheEnd, AreIdealUntilTheEnd, AreGreatestIn, AreAttainedIn, AreExactInRuns, HasWitnessRun}
+use Rattle.cl_exact.specs.RunPromises.{HaveResponses, IsSettledTimedChain, IsIdealUntilTheEnd, AreIdealUntilTheEnd, AlwaysIdealUntilTheEnd, AreGreatestIn, AreAttainedIn, AreExactInRuns, HasWitnessRun}
 use Rattle.cl_exact.proofs.RunMoments.{task_period, ideal_until_the_end}
-use Rattle.cl_exact.proofs.RunTasks.{ideal_groups, groups_of_system, settled_timed_chain}
+use Rattle.cl_exact.proofs.RunTasks.{ideal_groups, groups_of_system, settled_timed_groups}
 use Rattle.cl_exact.proofs.RunChains.{ideal_forward, ideal_age, ideal_reduced}
 use Rattle.cl_exact.proofs.RunWitnesses.{forward_in_run, age_in_run, reduced_in_run}
 use Rattle.cl_exact.proofs.RunMultiples.{IsCommonMultiple, common_multiple}
@@ -207,9 +208,25 @@ module _ (system : System) (sound : IsSound system) (groups : List Group) (chain
         reduced = attained.reduced (omega (arith, ticks));
       }
 
--- so are those of a chain of a valid model
+-- ---- groups of a model
+
+module _ (model : SystemModel) (valid : IsValid model) (groups : List Group) (of_tasks : All (IsGroupOf model) groups)
+    (timed : are_timed_periodic (system_of model) groups ≡ true) (settled : HaveResponses (system_of model) groups) where
+  -- groups of a valid model whose tasks are all timed and periodic, and none of them late, are ideal until the end
+  pub groups_always_ideal : AlwaysIdealUntilTheEnd (system_of model) groups
+  groups_always_ideal =
+      let chain = settled_timed_groups model groups of_tasks timed settled in
+      record {
+        moments = until_the_end (system_of model) (system_sound model valid) groups chain;
+        chains = chains_until_the_end (system_of model) (system_sound model valid) groups chain;
+      }
+
+  -- and their exact lengths are exact
+  pub groups_exact_in_runs : (exact : Witnesses) → AreExactLengths (system_of model) groups exact → AreExactInRuns (system_of model) groups exact
+  groups_exact_in_runs = exact_in_runs (system_of model) (system_sound model valid) groups (settled_timed_groups model groups of_tasks timed settled)
+
+-- so are those of a chain
 pub model_exact_in_runs : (model : SystemModel) → IsValid model → (chain : ℕ) → is_timed_periodic_chain model chain ≡ true
     → HaveResponses (system_of model) (groups_at model chain) → (exact : Witnesses) → AreExactLengths (system_of model) (groups_at model chain) exact
     → AreExactInRuns (system_of model) (groups_at model chain) exact
-model_exact_in_runs model valid chain timed settled =
-    exact_in_runs (system_of model) (system_sound model valid) (groups_at model chain) (settled_timed_chain model valid chain timed settled)
+model_exact_in_runs model valid chain = groups_exact_in_runs model valid (groups_at model chain) (groups_at_are model valid chain)

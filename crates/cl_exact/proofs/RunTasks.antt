@@ -1,4 +1,4 @@
--- The groups of a settled timed chain, and the chains of a valid model that are such.
+-- The groups of a settled timed chain, and the groups of a valid model that are such.
 use Rattle.std.proofs.Common.{◌≡◌, ℕ, ◌<◌, true, List, length, refl, sym, ap, ◌∙◌, arith}
 use Rattle.std.specs.Prelude.{slice_index_or, All}
 use Rattle.std.specs.List.{AllPass}
@@ -63,7 +63,7 @@ module _ (system : System) (groups : List Group) (chain : IsSettledTimedChain sy
   pub groups_of_system : AreGroupsOf system groups
   groups_of_system i d h = (chain.settled i d h).settled.is_task
 
--- ---- chains of a model
+-- ---- groups of a model
 
 ranges_are : (model : SystemModel) (i : ℕ) → i < length model.tasks → length (timing_at (system_of model) i).ranges ≡ length (task_at model i).runnables
 ranges_are model i h = ap (λ (timing : Timing). length timing.ranges) (timing_is model i h) ∙ length-map (task_at model i).runnables range_of
@@ -73,11 +73,16 @@ has_its_runnables model group is =
     let same = ranges_are model group.task is.known in
     record { first = omega (arith, same, is.ordered, is.within); last = omega (arith, same, is.within) }
 
--- a chain of a valid model whose tasks are all timed and periodic, and none of them late, is a settled timed chain
-pub settled_timed_chain : (model : SystemModel) → IsValid model → (chain : ℕ) → is_timed_periodic_chain model chain ≡ true
-    → HaveResponses (system_of model) (groups_at model chain) → IsSettledTimedChain (system_of model) (groups_at model chain)
-settled_timed_chain model valid chain timed settled = record {
-  runnables = All-weaker (IsGroupOf model) (HasItsRunnables (system_of model)) (has_its_runnables model) (groups_at model chain) (groups_at_are model valid chain);
+-- groups of a model whose tasks are all timed and periodic, and none of them late, are a settled timed chain
+pub settled_timed_groups : (model : SystemModel) (groups : List Group) → All (IsGroupOf model) groups → are_timed_periodic (system_of model) groups ≡ true
+    → HaveResponses (system_of model) groups → IsSettledTimedChain (system_of model) groups
+settled_timed_groups model groups of_tasks timed settled = record {
+  runnables = All-weaker (IsGroupOf model) (HasItsRunnables (system_of model)) (has_its_runnables model) groups of_tasks;
   timed = timed;
   settled = settled;
 }
+
+-- so are those of a chain of a valid model
+pub settled_timed_chain : (model : SystemModel) → IsValid model → (chain : ℕ) → is_timed_periodic_chain model chain ≡ true
+    → HaveResponses (system_of model) (groups_at model chain) → IsSettledTimedChain (system_of model) (groups_at model chain)
+settled_timed_chain model valid chain = settled_timed_groups model (groups_at model chain) (groups_at_are model valid chain)

@@ -1,4 +1,4 @@
--- A chain whose tasks are all timed and periodic is within the limit, with exact lengths, or past it.
+-- Groups whose tasks are all timed and periodic are within the limit, with exact lengths, or past it.
 use Rattle.std.proofs.Common.{◌≡◌, ◌⊎◌, ℕ, ◌<◌, true, List, length, inl, inr, arith}
 use Rattle.std.proofs.lemmas.Bool.{cases_lt}
 use Rattle.cl_model.specs.declared.group.Group.{Group}
@@ -13,9 +13,10 @@ use Rattle.cl_exact.specs.Hyperperiod.{hyper_limit, IsWithinLimit, IsPastLimit}
 use Rattle.cl_exact.specs.ExactLengths.{Witnesses, AreExactLengths}
 use Rattle.cl_exact.specs.Inner.Beats.{AreBeatsOf}
 use Rattle.cl_exact.proofs.PeriodFacts.{least_of_none, has_least, is_hyperperiod}
-use Rattle.cl_exact.proofs.ModelExact.{has_beats, lengths_exist}
+use Rattle.cl_exact.proofs.ModelBeats.{AreTimedGroups, timed_chain}
+use Rattle.cl_exact.proofs.ModelExact.{has_beats, groups_have_lengths}
 
--- a chain of these beats is within the limit or past it
+-- groups of these beats are within the limit or past it
 limit_of_beats : (system : System) (groups : List Group) (beats : List Beat) → AreBeatsOf system groups beats
     → IsWithinLimit system groups ⊎ IsPastLimit system groups
 limit_of_beats system groups beats of =
@@ -26,21 +27,30 @@ limit_of_beats system groups beats of =
       | inr within ↦ inl (record { hyperperiod = least.0; is_hyperperiod = is; within = within })
     ]
 
--- so is each of a valid model
+module _ (model : SystemModel) (valid : IsValid model) (groups : List Group) (are : AreTimedGroups model groups) where
+  -- so are those of a valid model
+  pub groups_within_or_past : IsWithinLimit (system_of model) groups ⊎ IsPastLimit (system_of model) groups
+  groups_within_or_past =
+      let beats = has_beats model valid groups are in
+      limit_of_beats (system_of model) groups beats.0 beats.1
+
+  -- and within the limit they have exact lengths, as they have past it
+  pub exact_of_groups_exist : ((exact : Witnesses) × AreExactLengths (system_of model) groups exact × IsWithinLimit (system_of model) groups)
+      ⊎ IsPastLimit (system_of model) groups
+  exact_of_groups_exist =
+      let had = groups_have_lengths model valid groups are in
+      elim groups_within_or_past [
+        | inl within_limit ↦ inl (had.exact, had.are, within_limit)
+        | inr past ↦ inr past
+      ]
+
+-- so is each chain of a valid model
 pub within_or_past_limit : (model : SystemModel) → IsValid model → (chain : ℕ) → chain < length model.chains
     → is_timed_periodic_chain model chain ≡ true
     → IsWithinLimit (system_of model) (groups_at model chain) ⊎ IsPastLimit (system_of model) (groups_at model chain)
-within_or_past_limit model valid chain within timed =
-    let beats = has_beats model valid chain timed within in
-    limit_of_beats (system_of model) (groups_at model chain) beats.0 beats.1
+within_or_past_limit model valid chain within timed = groups_within_or_past model valid (groups_at model chain) (timed_chain model valid chain within timed)
 
--- and within the limit it has exact lengths, as it has past it
 pub exact_lengths_exist : (model : SystemModel) → IsValid model → (chain : ℕ) → chain < length model.chains → is_timed_periodic_chain model chain ≡ true
     → ((exact : Witnesses) × AreExactLengths (system_of model) (groups_at model chain) exact × IsWithinLimit (system_of model) (groups_at model chain))
     ⊎ IsPastLimit (system_of model) (groups_at model chain)
-exact_lengths_exist model valid chain within timed =
-    let had = lengths_exist model valid chain within timed in
-    elim (within_or_past_limit model valid chain within timed) [
-      | inl within_limit ↦ inl (had.exact, had.are, within_limit)
-      | inr past ↦ inr past
-    ]
+exact_lengths_exist model valid chain within timed = exact_of_groups_exist model valid (groups_at model chain) (timed_chain model valid chain within timed)

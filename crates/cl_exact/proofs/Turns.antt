@@ -22,6 +22,7 @@ use Rattle.cl_exact.proofs.StartUps.{steady_late, begun_complete}
 use Rattle.cl_exact.proofs.FixedMoments.{reads_at, reads_is, forward_length, forward_made}
 use Rattle.cl_exact.proofs.FoundExact.{begun, steady_first}
 use Rattle.cl_exact.proofs.Existence.{has_forward, has_latest}
+use Rattle.cl_exact.proofs.ModelBeats.{timed_chain}
 use Rattle.cl_exact.proofs.ModelExact.{has_beats}
 
 -- a common multiple of the periods of the groups is one of those of the beats
@@ -91,5 +92,5 @@ pub forward_twins : (model : SystemModel) → IsValid model → (chain : ℕ) �
     → IsMultipleOfPeriods (system_of model) (groups_at model chain) ticks → (jobs : JobChain) → IsSteadyForward (system_of model) (groups_at model chain) jobs
     → HasEarlyTwin (IsSteadyForward (system_of model) (groups_at model chain)) ticks jobs
 forward_twins model valid chain within timed ticks some multiple =
-    let beats = has_beats model valid chain timed within in
+    let beats = has_beats model valid (groups_at model chain) (timed_chain model valid chain within timed) in
     twin_of (system_of model) (groups_at model chain) beats.0 beats.1 ticks some multiple

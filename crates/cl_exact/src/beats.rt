@@ -1,16 +1,17 @@
-//! The beats of the groups of a chain of a model. Times are in ticks.
-ghost use Rattle.std.specs.Prelude.{◌≡◌, true, ◌<◌, length};
-ghost use Rattle.cl_model.specs.Groups.{groups_at};
+//! The beats of groups of a model. Times are in ticks.
+ghost use Rattle.std.specs.Prelude.{◌≡◌, true, ◌<◌, ◌≤◌, length, All};
+ghost use Rattle.cl_model.specs.declared.limits.TheConstants.{MOST_STEPS};
+ghost use Rattle.cl_model.specs.Groups.{IsGroupOf};
 ghost use Rattle.cl_model.specs.Validity.{IsValid};
 ghost use Rattle.cl_runs.specs.TaskTiming.{timing_at};
 ghost use Rattle.cl_runs.specs.SystemOf.{system_of};
 ghost use Rattle.cl_comm.specs.AccessMoments.{is_timed};
-ghost use Rattle.cl_exact.specs.TimedPeriodic.{is_periodic, is_timed_periodic_task, is_timed_periodic_chain};
+ghost use Rattle.cl_exact.specs.TimedPeriodic.{is_periodic, is_timed_periodic_task, are_timed_periodic, is_timed_periodic_chain};
 ghost use Rattle.cl_exact.specs.Inner.Beats.{IsBeat, IsBeatOf, AreBeatsOf};
 
 use crate::beat::Beat;
 use arrayvec::ArrayVec;
-use cl_model::{AccessKind, MOST_STEPS, StimulusKind, ValidModel};
+use cl_model::{AccessKind, Group, MOST_STEPS, StimulusKind, ValidModel};
 
 /// Whether tasks of that kind of access are timed.
 fn is_timed(access: AccessKind) -> bool
@@ -37,6 +38,21 @@ fn is_timed_periodic_task(model: &ValidModel, task: u32) -> bool
     timed && periodic
 }
 
+/// Whether the tasks of these groups are all timed and periodic.
+///
+/// It looks at each group at most once, and takes no memory.
+pub fn are_timed_periodic(model: &ValidModel, groups: &[Group]) -> bool
+    requires { All (IsGroupOf model.now) groups.now }
+    ensures { result ≡ are_timed_periodic (system_of model.now) groups.now }
+{
+    for group in groups {
+        if !is_timed_periodic_task(model, group.task) {
+            return false;
+        }
+    }
+    true
+}
+
 /// Whether the tasks of a chain are all timed and periodic.
 ///
 /// It looks at each group of the chain at most once, and takes no memory.
@@ -44,12 +60,7 @@ pub fn is_timed_periodic(model: &ValidModel, chain: u32) -> bool
     requires { chain < length model.now.chains }
     ensures { result ≡ is_timed_periodic_chain model.now chain }
 {
-    for place in 0..model.group_count(chain) {
-        if !is_timed_periodic_task(model, model.group(chain, place).task) {
-            return false;
-        }
-    }
-    true
+    are_timed_periodic(model, model.groups(chain))
 }
 
 /// The beat of a task that is timed and periodic.
@@ -71,17 +82,19 @@ fn beat_of(model: &ValidModel, task: u32) -> Beat
     }
 }
 
-/// The beats of the groups of a chain whose tasks are all timed and periodic.
-pub(crate) fn beats_of(model: &ValidModel, chain: u32) -> ArrayVec<Beat, MOST_STEPS>
-    requires is_chain { chain < length model.now.chains }
-    requires timed_periodic { is_timed_periodic_chain model.now chain ≡ true }
-    ensures of { AreBeatsOf (system_of model.now) (groups_at model.now chain) result.items }
+/// The beats of groups whose tasks are all timed and periodic.
+pub(crate) fn beats_of(model: &ValidModel, groups: &[Group]) -> ArrayVec<Beat, MOST_STEPS>
+    requires some { 0 < length groups.now }
+    requires few { length groups.now ≤ MOST_STEPS }
+    requires of_tasks { All (IsGroupOf model.now) groups.now }
+    requires timed_periodic { are_timed_periodic (system_of model.now) groups.now ≡ true }
+    ensures of { AreBeatsOf (system_of model.now) groups.now result.items }
     ensures valid { IsValid model.now }
 {
     let mut beats = ArrayVec::new();
     let _ = model.plain();
-    for place in 0..model.group_count(chain) {
-        beats.push(beat_of(model, model.group(chain, place).task));
+    for group in groups {
+        beats.push(beat_of(model, group.task));
     }
     beats
 }

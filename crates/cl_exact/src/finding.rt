@@ -1,10 +1,11 @@
 //! Exact lengths. Times are in ticks.
-ghost use Rattle.std.specs.Prelude.{◌≡◌, ℕ, ◌+◌, ◌-◌, ◌*◌, ◌<◌, ◌≤◌, true, List, length, IfOk, IfErr, OnOk, OnErr};
+ghost use Rattle.std.specs.Prelude.{◌≡◌, ℕ, ◌+◌, ◌-◌, ◌*◌, ◌<◌, ◌≤◌, true, List, length, All, IfOk, IfErr, OnOk, OnErr};
 ghost use Rattle.cl_model.specs.declared.group.Group.{Group};
-ghost use Rattle.cl_model.specs.Groups.{groups_at};
+ghost use Rattle.cl_model.specs.declared.limits.TheConstants.{MOST_STEPS};
+ghost use Rattle.cl_model.specs.Groups.{groups_at, IsGroupOf};
 ghost use Rattle.cl_runs.specs.TaskTiming.{System};
 ghost use Rattle.cl_runs.specs.SystemOf.{system_of};
-ghost use Rattle.cl_exact.specs.TimedPeriodic.{is_timed_periodic_chain};
+ghost use Rattle.cl_exact.specs.TimedPeriodic.{are_timed_periodic, is_timed_periodic_chain};
 ghost use Rattle.cl_exact.specs.Hyperperiod.{hyper_limit, IsWithinLimit, IsPastLimit};
 ghost use Rattle.cl_exact.specs.ExactLengths.{AreExactLengths};
 ghost use Rattle.cl_exact.specs.Ties.{AreTied};
@@ -24,7 +25,7 @@ use crate::scan::{first_with, greatest_reaction};
 use crate::start_up::{first_steady_job, last_steady_job};
 use crate::walk::{backward_jobs, forward_jobs};
 use crate::witness::Witness;
-use cl_model::ValidModel;
+use cl_model::{Group, ValidModel};
 use cl_time::Steps;
 use std::sync::ledger::Ledger;
 
@@ -96,7 +97,7 @@ fn oldest(beats: &[Beat], count: u64, age: u64) -> u64
     forward_jobs(beats, next).as_slice()[beats.len() - 1] - 1
 }
 
-/// The exact lengths of a chain with this hyperperiod.
+/// The exact lengths of groups with this hyperperiod.
 fn exact_lengths(beats: &[Beat], hyperperiod: u64) -> ExactLengths
     requires beats { AreBeats beats.now }
     requires hyperperiod { IsLeastMultiple beats.now hyperperiod }
@@ -111,6 +112,47 @@ fn exact_lengths(beats: &[Beat], hyperperiod: u64) -> ExactLengths
         reaction: forward_witness(beats, greatest.job),
         reduced: reduced_witness(&age, beats[beats.len() - 1].period),
         age,
+    }
+}
+
+/// The exact reaction, age and reduced age of groups of a valid model that follow each other, a chain of it or a part of
+/// one, whose tasks are all timed and periodic, each with a witness: the longest of all their job chains over the ideal
+/// moments, once all their tasks have begun, and among equals the one of the least first job, or last job for an age.
+///
+/// The reaction equals the age, and the reduced age is the age less the last period, with the same jobs. Where none of the
+/// tasks is late, each legal run reads and writes at the ideal moments until its end, no complete chain of it is longer,
+/// and each witness is a complete chain of each run that lasts to its end.
+///
+/// `HyperLimit` comes exactly where the hyperperiod of the groups exceeds the limit, which it carries. It counts one step
+/// and takes no memory. Its time grows with the number of first jobs in the hyperperiod, at most a million, times the number
+/// of groups.
+pub fn exact_of_groups<L: Ledger>(
+    model: &ValidModel,
+    groups: &[Group],
+    steps: &mut Steps<L>,
+) -> Result<ExactLengths, HyperLimit>
+    requires some { 0 < length groups.now }
+    requires few { length groups.now ≤ MOST_STEPS }
+    requires of_tasks { All (IsGroupOf model.now) groups.now }
+    requires timed_periodic { are_timed_periodic (system_of model.now) groups.now ≡ true }
+    ensures exact { IfOk result (AreExactLengths (system_of model.now) groups.now) }
+    ensures tied { IfOk result (AreTied (system_of model.now) groups.now) }
+    ensures in_runs { IfOk result (λ exact. HaveResponses (system_of model.now) groups.now
+        → AreExactInRuns (system_of model.now) groups.now exact) }
+    ensures ideal { HaveResponses (system_of model.now) groups.now
+        → AlwaysIdealUntilTheEnd (system_of model.now) groups.now }
+    ensures within { OnOk result (IsWithinLimit (system_of model.now) groups.now) }
+    ensures past { OnErr result (IsPastLimit (system_of model.now) groups.now) }
+    ensures limit { IfErr result (λ past. past.limit ≡ hyper_limit (system_of model.now) groups.now) }
+    ensures steps { steps.new ≡ steps.old + 1 }
+{
+    steps.tick();
+    let numbers = beats_of(model, groups);
+    let beats = numbers.as_slice();
+    let limit = hyper_limit(beats);
+    match hyperperiod(beats, limit) {
+        Some(hyperperiod) => Ok(exact_lengths(beats, hyperperiod)),
+        None => Err(HyperLimit { limit }),
     }
 }
 
@@ -143,12 +185,5 @@ pub fn exact<L: Ledger>(
     ensures limit { IfErr result (λ past. past.limit ≡ hyper_limit (system_of model.now) (groups_at model.now chain)) }
     ensures steps { steps.new ≡ steps.old + 1 }
 {
-    steps.tick();
-    let numbers = beats_of(model, chain);
-    let beats = numbers.as_slice();
-    let limit = hyper_limit(beats);
-    match hyperperiod(beats, limit) {
-        Some(hyperperiod) => Ok(exact_lengths(beats, hyperperiod)),
-        None => Err(HyperLimit { limit }),
-    }
+    exact_of_groups(model, model.groups(chain), steps)
 }

@@ -1,4 +1,4 @@
-//! The exact lengths of chains whose tasks are all timed and periodic, with a witness of each.
+//! The exact lengths of chains whose tasks are all timed and periodic, and of parts of such chains, with a witness of each.
 //!
 //! No call takes memory. Times are in ticks.
 #![tactic(auto)]
@@ -18,9 +18,9 @@ mod start_up;
 mod walk;
 mod witness;
 
-pub use beats::is_timed_periodic;
+pub use beats::{are_timed_periodic, is_timed_periodic};
 pub use exact_lengths::ExactLengths;
-pub use finding::exact;
+pub use finding::{exact, exact_of_groups};
 pub use job_numbers::JobNumbers;
 pub use limit::{HyperLimit, MOST_FIRST_JOBS};
 pub use witness::Witness;

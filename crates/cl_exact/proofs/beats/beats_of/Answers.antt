@@ -1,43 +1,34 @@
-use Rattle.std.proofs.Common.{◌≡◌, ◌+◌, ◌<◌, ap, sym, subst, ◌∙◌, length, arith}
-use Rattle.cl_model.specs.declared.group.Group.{Group}
-use Rattle.cl_model.specs.Groups.{groups_at}
-use Rattle.cl_model.proofs.GroupFacts.{groups_at_few}
-use Rattle.cl_runs.specs.TaskTiming.{timing_at}
+use Rattle.std.proofs.Common.{◌≡◌, ◌+◌, ◌<◌, sym, subst, length, arith}
+use Rattle.cl_model.specs.Groups.{no_group}
 use Rattle.cl_runs.specs.SystemOf.{system_of}
-use Rattle.cl_exact.specs.TimedPeriodic.{is_timed_periodic_task}
-use Rattle.cl_exact.specs.Inner.Beats.{IsBeatOf}
 use Rattle.cl_exact.proofs.ModelBeats.{AreFirstBeats, task_passes, beats_more, all_beats}
 use Rattle.cl_exact.proofs.beats.beats_of.Goals as goal
 
+pub beat_of-requires-clause-is_task : goal.beat_of-requires-clause-is_task
+beat_of-requires-clause-is_task c = (c.requires.of_tasks c.loop-group.group-index _ c.loop-group-test.true).known
+
 pub beat_of-requires-clause-periodic : goal.beat_of-requires-clause-periodic
+unfolding no_group
 beat_of-requires-clause-periodic c =
-    let system = system_of c.args.model.now in
-    ap (λ (group : Group). is_timed_periodic_task (timing_at system group.task)) c.group.ensures.group
-    ∙ task_passes system (groups_at c.args.model.now c.args.chain) c.loop-place.place c.requires.timed_periodic
-    (omega (arith, c.loop-place-test.true, c.group_count-place-end.ensures.count))
+    task_passes (system_of c.args.model.now) c.args.groups.now c.loop-group.group-index c.requires.timed_periodic c.loop-group-test.true
 
 pub push-requires : goal.push-requires
 push-requires c =
-    let few : length c.loop-place.beats.items < 64 = omega (
-      arith,
-      c.loop-place.invariant.as_many,
-      c.loop-place-test.true,
-      c.group_count-place-end.ensures.count,
-      groups_at_few c.args.model.now c.plain.ensures.valid c.args.chain c.requires.is_chain,
-    ) in
+    let few : length c.loop-group.beats.items < 64 = omega (arith, c.loop-group.invariant.as_many, c.loop-group-test.true, c.requires.few) in
     (omega arith, few)
 
-pub loop-place-preserved : goal.loop-place-preserved
-loop-place-preserved c =
+pub loop-group-preserved : goal.loop-group-preserved
+unfolding no_group
+loop-group-preserved c =
     let system = system_of c.args.model.now in
-    let groups = groups_at c.args.model.now c.args.chain in
-    subst (AreFirstBeats system groups (c.loop-place.place + 1)) (sym c.push.ensures.items)
-    (beats_more system groups c.loop-place.place c.loop-place.beats.items c.beat_of.result c.loop-place.invariant
-    (subst (λ (group : Group). IsBeatOf (timing_at system group.task) c.beat_of.result) c.group.ensures.group c.beat_of.ensures.of) c.beat_of.ensures.beat)
+    subst (AreFirstBeats system c.args.groups.now (c.loop-group.group-index + 1)) (sym c.push.ensures.items)
+    (beats_more system c.args.groups.now c.loop-group.group-index c.loop-group.beats.items c.beat_of.result c.loop-group.invariant
+    c.beat_of.ensures.of c.beat_of.ensures.beat)
 
 pub returns-clause-of : goal.returns-clause-of
 returns-clause-of c =
-    let groups = groups_at c.args.model.now c.args.chain in
-    let all : c.loop-place.place ≡ length groups = omega (arith, c.loop-place-test.false, c.loop-place.auto.place-end, c.group_count-place-end.ensures.count) in
-    all_beats c.args.model.now c.plain.ensures.valid c.args.chain c.requires.is_chain c.loop-place.beats.items
-    (subst (λ count. AreFirstBeats (system_of c.args.model.now) groups count c.loop-place.beats.items) all c.loop-place.invariant)
+    let system = system_of c.args.model.now in
+    let groups = c.args.groups.now in
+    let all : c.loop-group.group-index ≡ length groups = omega (arith, c.loop-group-test.false, c.loop-group.auto.group-index-end) in
+    all_beats system groups c.requires.some c.requires.few c.loop-group.beats.items
+    (subst (λ count. AreFirstBeats system groups count c.loop-group.beats.items) all c.loop-group.invariant)
