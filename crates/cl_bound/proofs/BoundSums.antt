@@ -1,15 +1,15 @@
--- The sums over all groups of a chain of a valid model are its bounds.
-use Rattle.std.proofs.Common.{◌≡◌, ℕ, ℤ, pos, suc, ◌-◌, ◌*◌, ◌<◌, ◌≤◌, List, [], ◌∷◌, length, get_or, take, drop, map, refl, sym, ap, ◌∙◌, arith}
+-- The sums over all of some groups of a valid model are their bounds.
+use Rattle.std.proofs.Common.{◌≡◌, ℕ, ℤ, pos, ◌*◌, ◌<◌, ◌≤◌, List, [], ◌∷◌, length, get_or, take, drop, map, refl, sym, ap, ◌∙◌, arith}
+use Rattle.std.specs.Prelude.{All}
 use Rattle.std.proofs.lemmas.Int.{ints}
-use Rattle.std.proofs.lemmas.List.{get_or-map, length-drop, take_all}
+use Rattle.std.proofs.lemmas.List.{take_all}
 use Rattle.std.proofs.Math.ListN.{length-map}
 use Rattle.cl_model.specs.declared.limits.TheConstants.{MOST_TICKS, MOST_STEPS}
 use Rattle.cl_model.specs.declared.model.SystemModel.{SystemModel}
 use Rattle.cl_model.specs.declared.group.Group.{Group}
-use Rattle.cl_model.specs.Groups.{no_group, groups_at}
+use Rattle.cl_model.specs.Groups.{IsGroupOf, no_group}
 use Rattle.cl_model.specs.Timing.{greatest_distance}
 use Rattle.cl_model.specs.Validity.{IsValid}
-use Rattle.cl_model.proofs.GroupFacts.{groups_at_are, groups_at_some, groups_at_few}
 use Rattle.cl_runs.specs.TaskTiming.{Timing}
 use Rattle.cl_runs.specs.SystemOf.{system_of}
 use Rattle.cl_runs.proofs.ModelSystem.{timing_is, system_sound}
@@ -30,22 +30,11 @@ first_and_rest : (groups : List Group) → 0 < length groups → groups ≡ get_
 first_and_rest [] some = absurd (omega (arith, some))
 first_and_rest (group ∷ groups) some = refl
 
--- the timing of the group at a place, among those after the first
-pub later_timing : (timing : Group → GroupTiming) (groups : List Group) (place : ℕ) (d : GroupTiming) → 1 ≤ place → place < length groups
-    → get_or (map timing (drop 1 groups)) (place - 1) d ≡ timing (get_or groups place no_group)
-later_timing timing [] place d some within = absurd (omega (arith, within))
-later_timing timing (group ∷ groups) place d some within =
-    let at : suc (place - 1) ≡ place = omega (arith, some) in
-    get_or-map timing groups (place - 1) no_group d (omega (arith, some, within)) ∙ ap (λ i. timing (get_or (group ∷ groups) i no_group)) at
-
-pub later_count : (timing : Group → GroupTiming) (groups : List Group) → length (map timing (drop 1 groups)) ≡ length groups - 1
-later_count timing groups = length-map (drop 1 groups) timing ∙ length-drop 1 groups
-
 -- the sums up to the last group are those of all
-pub all_sums : (timing : Group → GroupTiming) (groups : List Group) (first : GroupTiming) (place : ℕ) (sums : Sums)
-    → sums ≡ sums_of first (take (place - 1) (map timing (drop 1 groups))) → length groups ≤ place → sums ≡ sums_of first (map timing (drop 1 groups))
-all_sums timing groups first place sums is whole =
-    is ∙ ap (sums_of first) (take_all (place - 1) (map timing (drop 1 groups)) (omega (arith, whole, later_count timing groups)))
+pub all_sums : (timing : Group → GroupTiming) (first : GroupTiming) (groups rest : List Group) (count : ℕ) (sums : Sums) → rest ≡ groups
+    → sums ≡ sums_of first (take count (map timing rest)) → length rest ≤ count → sums ≡ sums_of first (map timing groups)
+all_sums timing first groups rest count sums is are whole =
+    are ∙ ap (sums_of first) (take_all count (map timing rest) (omega (arith, whole, length-map rest timing)) ∙ ap (map timing) is)
 
 -- a bound that is positive and small enough
 bounded : (n count : ℕ) (z : ℤ) → pos n ≡ z → 1 ≤ n → n ≤ 2 * count * MOST_TICKS → count ≤ MOST_STEPS → IsBound z
@@ -53,60 +42,54 @@ bounded n count z is some small few =
     let top : n ≤ 2 * MOST_STEPS * MOST_TICKS = omega (arith, small, few) in
     (omega (arith, ints, is, some), omega (arith, ints, is, top))
 
-module _ (model : SystemModel) (valid : IsValid model) (chain : ℕ) (is_chain : chain < length model.chains)
-    (timely : NoneIsLate (answers_of (system_of model)) (groups_at model chain)) where
-  -- it is a settled chain of some groups, and its groups are near
-  pub is_settled : IsSettledChain (system_of model) (groups_at model chain)
-  is_settled = settled_chain model (groups_at model chain) (groups_at_are model valid chain) timely
+module _ (model : SystemModel) (valid : IsValid model) (groups : List Group) (some : 0 < length groups) (few : length groups ≤ MOST_STEPS)
+    (of_tasks : All (IsGroupOf model) groups) (timely : NoneIsLate (answers_of (system_of model)) groups) where
+  -- they are a settled chain, and near
+  pub is_settled : IsSettledChain (system_of model) groups
+  is_settled = settled_chain model groups of_tasks timely
 
-  some : 0 < length (groups_at model chain)
-  some = groups_at_some model valid chain is_chain
-
-  are_near : AreWithin (system_of model) MOST_TICKS (groups_at model chain)
+  are_near : AreWithin (system_of model) MOST_TICKS groups
   unfolding group_timing
   are_near i d h =
-      let known = (groups_at_are model valid chain i d h).known in
-      rw (ap (λ (t : Timing). greatest_distance t.pattern) (timing_is model (get_or (groups_at model chain) i d).task known))
-      (greatest_few _ (has_stimulus model valid (get_or (groups_at model chain) i d).task known).0)
+      let known = (of_tasks i d h).known in
+      rw (ap (λ (t : Timing). greatest_distance t.pattern) (timing_is model (get_or groups i d).task known))
+      (greatest_few _ (has_stimulus model valid (get_or groups i d).task known).0)
 
-  most : AreLimited (system_of model) (groups_at model chain) MOST_TICKS
-  most = limited (system_of model) (system_sound model valid) (groups_at model chain) is_settled MOST_TICKS are_near
-
-  few : length (groups_at model chain) ≤ MOST_STEPS
-  few = groups_at_few model valid chain is_chain
+  most : AreLimited (system_of model) groups MOST_TICKS
+  most = limited (system_of model) (system_sound model valid) groups is_settled MOST_TICKS are_near
 
   abbrev pub first : GroupTiming
-  first = settled_timing (system_of model) (get_or (groups_at model chain) 0 no_group)
+  first = settled_timing (system_of model) (get_or groups 0 no_group)
 
   abbrev pub sums : Sums
-  sums = sums_of first (map (settled_timing (system_of model)) (drop 1 (groups_at model chain)))
+  sums = sums_of first (settled_timings (system_of model) (drop 1 groups))
 
   -- the sums of the first group and the rest are those of all
-  split : settled_timings (system_of model) (groups_at model chain) ≡ first ∷ map (settled_timing (system_of model)) (drop 1 (groups_at model chain))
-  split = ap (settled_timings (system_of model)) (first_and_rest (groups_at model chain) some)
+  split : settled_timings (system_of model) groups ≡ first ∷ settled_timings (system_of model) (drop 1 groups)
+  split = ap (settled_timings (system_of model)) (first_and_rest groups some)
 
   abbrev bounds : Lengths
-  bounds = bounds_of (system_of model) (groups_at model chain)
+  bounds = bounds_of (system_of model) groups
 
-  are_sums : AreBoundsOf (settled_timings (system_of model) (groups_at model chain)) bounds
-  are_sums = settled_sums (system_of model) (system_sound model valid) (groups_at model chain) is_settled
+  are_sums : AreBoundsOf (settled_timings (system_of model) groups) bounds
+  are_sums = settled_sums (system_of model) (system_sound model valid) groups is_settled
 
   -- each is a bound
   pub reaction_bound : IsBound (reaction_in first sums)
   reaction_bound = bounded bounds.reaction _ _ (are_sums.reaction ∙ ap greatest_reaction split)
-      (reaction_positive (system_of model) (system_sound model valid) (groups_at model chain) is_settled some) most.reaction few
+      (reaction_positive (system_of model) (system_sound model valid) groups is_settled some) most.reaction few
 
   pub age_bound : IsBound (age_in first sums)
   age_bound = bounded bounds.age _ _ (are_sums.age ∙ ap greatest_age split)
-      (age_positive (system_of model) (system_sound model valid) (groups_at model chain) is_settled some) most.age few
+      (age_positive (system_of model) (system_sound model valid) groups is_settled some) most.age few
 
   pub reduced_bound : IsBound (reduced_in first sums)
   reduced_bound = bounded bounds.reduced _ _ (are_sums.reduced ∙ ap greatest_reduced split)
-      (reduced_positive (system_of model) (system_sound model valid) (groups_at model chain) is_settled some) most.reduced few
+      (reduced_positive (system_of model) (system_sound model valid) groups is_settled some) most.reduced few
 
-  -- bounds that are these sums are those of the chain
+  -- bounds that are these sums are those of the groups
   pub bounds_are : (found : Lengths) → pos found.reaction ≡ reaction_in first sums → pos found.age ≡ age_in first sums → pos found.reduced ≡ reduced_in first sums
-      → AreBoundsOf (settled_timings (system_of model) (groups_at model chain)) found
+      → AreBoundsOf (settled_timings (system_of model) groups) found
   bounds_are found reaction age reduced = record {
     reaction = reaction ∙ sym (ap greatest_reaction split);
     age = age ∙ sym (ap greatest_age split);

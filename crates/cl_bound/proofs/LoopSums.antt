@@ -39,6 +39,3 @@ more_sums first groups count old new next was within is added =
 -- a sum stays as near as its hops let it
 pub nearer : (place : ℕ) (sum hop : ℤ) → IsWithin (place * 2 ^ 65) sum → IsWithin (2 ^ 65) hop → IsWithin ((place + 1) * 2 ^ 65) (sum +ℤ hop)
 nearer place sum hop near next = (omega (arith, ints, near.0, next.0), omega (arith, ints, near.1, next.1))
-
-pub near_enough : (place : ℕ) (sum : ℤ) → place < 2 ^ 32 → IsWithin (place * 2 ^ 65) sum → IsWithin (2 ^ 100) sum
-near_enough place sum few near = (omega (arith, ints, few, near.0), omega (arith, ints, few, near.1))

@@ -1,23 +1,55 @@
-//! The bounds of a chain. Times are in ticks.
-ghost use Rattle.std.specs.Prelude.{◌≡◌, ◌+◌, ◌<◌, length, slice_index_or};
-ghost use Rattle.cl_model.specs.Groups.{groups_at, no_group};
-ghost use Rattle.cl_model.specs.Validity.{IsValid};
+//! The bounds of a chain, and of a part of one. Times are in ticks.
+ghost use Rattle.std.specs.Prelude.{◌≡◌, ◌+◌, ◌<◌, ◌≤◌, length, All};
+ghost use Rattle.cl_model.specs.declared.limits.TheConstants.{MOST_STEPS};
+ghost use Rattle.cl_model.specs.Groups.{groups_at, IsGroupOf};
 ghost use Rattle.cl_runs.specs.SystemOf.{system_of};
 ghost use Rattle.cl_bound.specs.Answers.{answers_of, NoneIsLate};
-ghost use Rattle.cl_bound.specs.Bounds.{AreBoundsOf, settled_timing, settled_timings, bounds_of};
+ghost use Rattle.cl_bound.specs.Bounds.{AreBoundsOf, settled_timings, bounds_of};
 ghost use Rattle.cl_bound.specs.Promises.{AreSafe};
 
 use crate::answer::TaskAnswer;
 use crate::bounds::Bounds;
 use crate::group_timing::GroupTiming;
 use crate::sums::Sums;
-use cl_model::{List, ValidModel};
+use cl_model::{Group, List, ValidModel};
 use cl_time::Steps;
 use std::sync::ledger::Ledger;
 
+/// The bounds of groups of a valid model that follow each other, a chain of it or a part of one, from the answer for
+/// each of its tasks, where none of the groups' tasks is late. They are the sums over signed numbers that define them,
+/// and at least the reaction, the age and the reduced age of each complete chain of these groups in each legal run, of
+/// any length.
+///
+/// It counts one step, takes no memory, and is total. It looks at each group once.
+pub fn bound_of_groups<L: Ledger>(
+    model: &ValidModel,
+    groups: &[Group],
+    settled: &List<TaskAnswer>,
+    steps: &mut Steps<L>,
+) -> Bounds
+    requires some { 0 < length groups.now }
+    requires few { length groups.now ≤ MOST_STEPS }
+    requires of_tasks { All (IsGroupOf model.now) groups.now }
+    requires answers { settled.now ≡ answers_of (system_of model.now) }
+    requires not_late { NoneIsLate settled.now groups.now }
+    ensures sums { AreBoundsOf (settled_timings (system_of model.now) groups.now) result }
+    ensures bounds { result ≡ bounds_of (system_of model.now) groups.now }
+    ensures safe { AreSafe (system_of model.now) groups.now result }
+    ensures steps { steps.new ≡ steps.old + 1 }
+{
+    steps.tick();
+    let first = GroupTiming::of(model, settled, groups[0]);
+    let mut sums = Sums::new(first);
+    for group in &groups[1..] {
+        let next = GroupTiming::of(model, settled, *group);
+        sums = sums.with(next);
+    }
+    sums.bounds(&first)
+}
+
 /// The bounds of a chain of a valid model, from the answer for each of its tasks, where none of the chain's tasks is
-/// late. They are the sums over signed numbers that define them, and at least the reaction, the age and the reduced age of each complete chain in each legal run, of any
-/// length.
+/// late. They are the sums over signed numbers that define them, and at least the reaction, the age and the reduced age
+/// of each complete chain in each legal run, of any length.
 ///
 /// It counts one step, takes no memory, and is total. It looks at each group of the chain once.
 pub fn bound<L: Ledger>(
@@ -34,25 +66,5 @@ pub fn bound<L: Ledger>(
     ensures safe { AreSafe (system_of model.now) (groups_at model.now chain) result }
     ensures steps { steps.new ≡ steps.old + 1 }
 {
-    steps.tick();
-    let count = model.group_count(chain);
-    let first = timing_of(model, chain, settled, 0);
-    let mut sums = Sums::new(first);
-    for place in 1..count {
-        let next = timing_of(model, chain, settled, place);
-        sums = sums.with(next);
-    }
-    sums.bounds(&first)
-}
-
-/// What the bounds know of a group of a chain.
-fn timing_of(model: &ValidModel, chain: u32, settled: &List<TaskAnswer>, place: u32) -> GroupTiming
-    requires is_chain { chain < length model.now.chains }
-    requires answers { settled.now ≡ answers_of (system_of model.now) }
-    requires not_late { NoneIsLate settled.now (groups_at model.now chain) }
-    requires is_group { place < length (groups_at model.now chain) }
-    ensures timing { result ≡ settled_timing (system_of model.now) (slice_index_or (groups_at model.now chain) place no_group) }
-    ensures valid { IsValid model.now }
-{
-    GroupTiming::of(model, settled, model.group(chain, place))
+    bound_of_groups(model, model.groups(chain), settled, steps)
 }

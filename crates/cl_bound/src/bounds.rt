@@ -4,7 +4,8 @@ ghost use Rattle.cl_bound.specs.Inner.Sums.{IsBound};
 
 use std::marker::Model;
 
-/// The greatest lengths that complete job chains of a chain can have. Only `bound` makes one.
+/// The greatest lengths that complete job chains of a chain, or of a part of one, can have. Only `bound` and
+/// `bound_of_groups` make one.
 #[derive(Clone, Copy, Debug, PartialEq, Eq)]
 pub struct Bounds {
     reaction: u64,

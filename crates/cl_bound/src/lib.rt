@@ -9,5 +9,5 @@ pub mod laws;
 mod sums;
 
 pub use answer::TaskAnswer;
-pub use bounding::bound;
+pub use bounding::{bound, bound_of_groups};
 pub use bounds::Bounds;
