@@ -1,5 +1,6 @@
 -- Values of settled chains: they are positive, a whole chain has one, and it is at most the bound on the reaction.
-use Rattle.std.proofs.Common.{◌≡◌, ℕ, ◌<◌, ◌≤◌, Bool, true, false, inl, inr, Option, Some, None, List, [], ◌∷◌, length, get_or, refl, sym, ap, ◌∙◌, subst, arith}
+use Rattle.std.proofs.Common.{◌≡◌, ℕ, ◌+◌, ◌<◌, ◌≤◌, Bool, true, false, inl, inr, Option, Some, None, List, [], ◌∷◌, length, get_or, refl, sym, ap, ◌∙◌, subst, arith}
+use Rattle.std.specs.Prelude.{slice_index}
 use Rattle.std.proofs.lemmas.Bool.{false≢true}
 use Rattle.std.proofs.lemmas.List.{get_or_default, length-map}
 use Rattle.cl_model.specs.declared.group.Group.{Group}
@@ -7,15 +8,14 @@ use Rattle.cl_model.specs.declared.model.SystemModel.{SystemModel}
 use Rattle.cl_model.specs.ByNumber.{chain_at}
 use Rattle.cl_model.specs.Groups.{groups_at}
 use Rattle.cl_model.specs.Validity.{IsValid}
-use Rattle.cl_model.proofs.GroupFacts.{groups_at_are, groups_at_some}
+use Rattle.cl_model.proofs.GroupFacts.{groups_at_are, groups_at_few, groups_at_some}
 use Rattle.cl_runs.specs.TaskTiming.{System, IsSound}
 use Rattle.cl_runs.specs.SystemOf.{system_of}
 use Rattle.cl_runs.specs.MomentOrder.{AreGroupsOf}
 use Rattle.cl_runs.proofs.ChainsOfRuns.{ideal_forward_ordered}
 use Rattle.cl_runs.proofs.Extension.{some_legal}
 use Rattle.cl_runs.proofs.ModelSystem.{system_sound}
-use Rattle.cl_bound.specs.declared.answer.TaskAnswer.{TaskAnswer}
-use Rattle.cl_bound.specs.Answers.{answers_of, NoneIsLate}
+use Rattle.cl_bound.specs.Answers.{answers_of}
 use Rattle.cl_bound.specs.Bounds.{Lengths, bounds_of}
 use Rattle.cl_bound.specs.SettledChains.{IsSettledChain}
 use Rattle.cl_bound.proofs.ModelGroups.{settled_chain}
@@ -32,7 +32,7 @@ use Rattle.cl_analyse.proofs.SafeFindings.{answer_of_chain, chain_settled}
 use Rattle.cl_cut.specs.Values.{part, IsValue}
 use Rattle.cl_cut.specs.Cuts.{IsBestCut}
 use Rattle.cl_cut.specs.CutAnswers.{late_task_of, IsSafeReaction, IsNoWorse}
-use Rattle.cl_cut.specs.Inner.Rears.{ArePositive}
+use Rattle.cl_cut.specs.Inner.Rears.{AreSettledGroups, AreValuesFrom, ArePositive, AreSome}
 use Rattle.cl_cut.proofs.Parts.{length-part, part_rest}
 use Rattle.cl_cut.proofs.SafeCuts.{settled_part, settled_timed, cut_safe}
 use Rattle.cl_cut.proofs.CutCosts.{cut_alone, cost_alone}
@@ -134,13 +134,16 @@ module _ (model : SystemModel) (valid : IsValid model) (chain : ℕ) (is_chain :
           uncut exact.reaction.length (inl (record { timed = timed; within = within; exact = exact; are_exact = are; value_is = refl }));
     }
 
--- the pieces of a chain none of whose tasks is late are worth something
-pub model_positive : (model : SystemModel) → IsValid model → (chain : ℕ) (answers : List TaskAnswer) → answers ≡ answers_of (system_of model)
-    → NoneIsLate answers (groups_at model chain) → ArePositive (system_of model) (groups_at model chain)
-model_positive model valid chain answers are not_late =
-    positive (system_of model) (system_sound model valid) (groups_at model chain)
-    (settled_chain model (groups_at model chain) (groups_at_are model valid chain)
-    (subst (λ (list : List TaskAnswer). NoneIsLate list (groups_at model chain)) are not_late))
+-- the pieces of groups that can be cut are worth something
+pub groups_positive : (model : SystemModel) → IsValid model → (groups : List Group) → AreSettledGroups model groups → ArePositive (system_of model) groups
+groups_positive model valid groups are =
+    positive (system_of model) (system_sound model valid) groups (settled_chain model groups are.of_tasks are.not_late)
+
+-- and so are the values of those that begin with one group
+pub values_some : (system : System) (groups : List Group) → ArePositive system groups → (first : ℕ) (values : List ℕ)
+    → AreValuesFrom system groups first values → AreSome values
+values_some system groups all_positive first values are k lt =
+    all_positive first (first + 1 + k) (slice_index values k) (omega arith) (omega (arith, lt, are.one_a_piece)) (are.each k lt)
 
 -- what is found of the chain of a number, as the code reads it
 pub answer_read : (model : SystemModel) (i : ℕ) (slice chains : List ChainAnswer) (d answer : ChainAnswer) → slice ≡ chains → chains ≡ chain_answers_of model
@@ -149,8 +152,11 @@ answer_read model i slice chains d answer same are within is =
     let place : i < length (chain_answers_of model) = omega (arith, within, length-map model.chains (chain_answer_of model)) in
     get_or_default (chain_answers_of model) i (Late 0) d place ∙ sym (ap (λ (list : List ChainAnswer). get_or list i d) (same ∙ are)) ∙ is
 
-pub found_not_late : (model : SystemModel) (chain : ℕ) (answers : List TaskAnswer) → answers ≡ answers_of (system_of model) → late_task_of model chain ≡ None
-    → NoneIsLate answers (groups_at model chain)
-found_not_late model chain answers are none =
-    subst (λ (list : List TaskAnswer). NoneIsLate list (groups_at model chain)) (sym are)
-    (settled_groups (answers_of (system_of model)) model (chain_at model chain) none)
+-- the groups of a chain of which no task is late can be cut
+pub chain_can_be_cut : (model : SystemModel) → IsValid model → (chain : ℕ) → chain < length model.chains → late_task_of model chain ≡ None
+    → AreSettledGroups model (groups_at model chain)
+chain_can_be_cut model valid chain is_chain none = record {
+  few = groups_at_few model valid chain is_chain;
+  of_tasks = groups_at_are model valid chain;
+  not_late = settled_groups (answers_of (system_of model)) model (chain_at model chain) none;
+}

@@ -5,15 +5,7 @@ pub mod Dictionary
 pub mod CutCosts
 pub mod BestCuts
 pub mod RearFacts
-pub mod StepPieces
-pub mod StartFacts
-pub mod PieceLists
-pub mod ValidCopies
-pub mod CopiedModels
-pub mod CopyFacts
 pub mod ValueFacts
-pub mod PieceFacts
 pub mod ChainValues
 pub mod SomeCut
 pub mod OneCutAnswer
-pub mod AllPieces

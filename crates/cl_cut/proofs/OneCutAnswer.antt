@@ -8,7 +8,7 @@ use Rattle.cl_model.specs.Validity.{IsValid}
 use Rattle.cl_runs.specs.SystemOf.{system_of}
 use Rattle.cl_cut.specs.declared.answer.CutAnswer.{CutAnswer}
 use Rattle.cl_cut.specs.declared.answer.CutAnswer.TheVariants.{Cut, Late}
-use Rattle.cl_cut.specs.CutAnswers.{late_task_of, IsCutAnswer, IsSafeAnswer, IsNoWorseAnswer, cut_answer_at, AreCutAnswers}
+use Rattle.cl_cut.specs.CutAnswers.{late_task_of, IsCutAnswer, IsSafeAnswer, IsNoWorseAnswer, cut_answer_at, AreCutAnswers, AreSafeAnswers, AreNoWorseAnswers}
 use Rattle.cl_cut.proofs.BestCuts.{one_best, one_cost}
 use Rattle.cl_cut.proofs.ChainValues.{best_safe, best_no_worse}
 use Rattle.cl_cut.proofs.SomeCut.{best_exists}
@@ -117,3 +117,12 @@ one_answers model one other first second =
     ext_get_or (Late 0) one other (first.one_a_chain ∙ sym second.one_a_chain)
     (λ chain within. let is_chain : chain < length model.chains = omega (arith, within, first.one_a_chain) in
     one_answer model chain (cut_answer_at one chain) (cut_answer_at other chain) (first.each chain is_chain) (second.each chain is_chain))
+
+-- ---- what they promise
+
+module _ (model : SystemModel) (valid : IsValid model) (answers : List CutAnswer) (are : AreCutAnswers model answers) where
+  pub all_safe : AreSafeAnswers model answers
+  all_safe chain is_chain = answer_safe model chain valid is_chain (cut_answer_at answers chain) (are.each chain is_chain)
+
+  pub all_no_worse : AreNoWorseAnswers model answers
+  all_no_worse chain is_chain = answer_no_worse model chain valid is_chain (cut_answer_at answers chain) (are.each chain is_chain)

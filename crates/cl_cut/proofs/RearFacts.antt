@@ -1,15 +1,15 @@
 -- The loops over rear parts: what is best so far is best among the cuts that were looked at.
-use Rattle.std.proofs.Common.{◌≡◌, ℕ, suc, ◌+◌, ◌-◌, ◌^◌, ◌<◌, ◌≤◌, min, cond, inl, inr, List, [], ◌∷◌, ◌++◌, length, take, drop, sym, ap, ◌∙◌, subst, arith}
+use Rattle.std.proofs.Common.{◌≡◌, ℕ, ◌+◌, ◌-◌, ◌^◌, ◌<◌, ◌≤◌, min, cond, inl, inr, List, [], ◌∷◌, ◌++◌, length, sym, ap, ◌∙◌, subst, arith}
 use Rattle.std.specs.Prelude.{slice_index, slice_index_or}
 use Rattle.std.proofs.lemmas.Bool.{cases_lt, lt-ltb, le-ltb}
-use Rattle.std.proofs.lemmas.List.{length-drop, get_or-drop, get_or_append_left, length_push, get_or_push, get_or_default}
+use Rattle.std.proofs.lemmas.List.{get_or_append_left, length_push, get_or_push, get_or_default}
 use Rattle.cl_model.specs.declared.group.Group.{Group}
 use Rattle.cl_runs.specs.TaskTiming.{System}
 use Rattle.cl_cut.specs.Values.{part, IsValue}
 use Rattle.cl_cut.specs.Cuts.{IsBestCutFrom, IsBestCut}
 use Rattle.cl_cut.specs.declared.rears.Front.{Front}
 use Rattle.cl_cut.specs.declared.rears.Rear.{Rear}
-use Rattle.cl_cut.specs.Inner.Rears.{no_rear, rear_at, AreRears, AreValuesFrom, AreRowsBelow, ArePositive, AreSome, CostSome, pieces_behind, pieces_count}
+use Rattle.cl_cut.specs.Inner.Rears.{no_rear, rear_at, AreRears, AreValuesFrom, ArePositive, CostSome, pieces_behind}
 use Rattle.cl_cut.proofs.BestCuts.{IsBestBelow, best_alone, best_there, best_before, best_at_end}
 
 -- the best of the first pieces that were looked at, from the whole rear part on
@@ -118,83 +118,51 @@ module _ (rears : List Rear) (values : List ℕ) (as_many : length values ≡ le
 
 -- ---- all rear parts
 
--- what the loop keeps over the rear parts: the best cuts of those that were looked at, and the values of the pieces of the
--- others
-pub record AreRearsSoFar (values : List ℕ) (count : ℕ) (rears : List Rear) (left : List ℕ) (below : ℕ) : Type 0 where
-  pub as_many : length rears + below ≡ count
-  pub costs : CostSome rears
-  pub left_count : length left ≡ pieces_count count below
-  pub left_some : AreSome left
-  pub best : (system : System) (groups : List Group) → count ≡ length groups → ArePositive system groups → AreRowsBelow system groups count values
-      → AreRears system groups rears × AreRowsBelow system groups below left
-
-module _ (values : List ℕ) (count : ℕ) (rears : List Rear) (left : List ℕ) (below : ℕ) (kept : AreRearsSoFar values count rears left (suc below))
-    (row rest : List ℕ) (front : row ≡ take (count - below) left) (back : rest ≡ drop (count - below) left) (rear : Rear) (some : 1 ≤ rear.cost)
-    (best : (system : System) (groups : List Group) → ArePositive system groups → AreValuesFrom system groups below row → AreRears system groups rears
-    → IsBestCutFrom system groups below rear.pieces rear.cost) where
-  more_costs : CostSome (rears ++ rear ∷ [])
-  more_costs k lt = elim (cases_lt k (length rears)) [
-    | inl before ↦ subst (λ (r : Rear). 1 ≤ r.cost) (sym (get_or_append_left rears (rear ∷ []) no_rear k before)) (kept.costs k before)
+-- the best cuts of the last rear parts with one more
+module _ (system : System) (groups : List Group) (rears : List Rear) (rear : Rear) (fewer : length rears < length groups) where
+  more_costs : CostSome rears → 1 ≤ rear.cost → CostSome (rears ++ rear ∷ [])
+  more_costs costs some k lt = elim (cases_lt k (length rears)) [
+    | inl before ↦ subst (λ (r : Rear). 1 ≤ r.cost) (sym (get_or_append_left rears (rear ∷ []) no_rear k before)) (costs k before)
     | inr not ↦
         let last : length rears ≡ k = omega (arith, not, lt, length_push rears rear) in
         subst (λ (r : Rear). 1 ≤ r.cost) (sym (get_or_push rears rear no_rear k last)) some
   ]
 
-  rest_some : AreSome rest
-  rest_some k lt =
-      let within : count - below + k < length left = omega (arith, ap length back, lt, length-drop (count - below) left) in
-      subst (λ (list : List ℕ). 1 ≤ slice_index list k) (sym back)
-      (subst (λ n. 1 ≤ n) (sym (get_or-drop (count - below) left k 0)) (kept.left_some (count - below + k) within))
+  pub pushed_costs : (pushed : List Rear) → pushed ≡ rears ++ rear ∷ [] → CostSome rears → 1 ≤ rear.cost → CostSome pushed
+  pushed_costs pushed is costs some = subst CostSome (sym is) (more_costs costs some)
 
-  module _ (system : System) (groups : List Group) (is : count ≡ length groups) (positive : ArePositive system groups)
-      (rows : AreRowsBelow system groups count values) where
-    abbrev Known : ℕ → Rear → Type 0
-    Known first r = IsBestCutFrom system groups first r.pieces r.cost
+  abbrev IsBest : ℕ → Rear → Type 0
+  IsBest first r = IsBestCutFrom system groups first r.pieces r.cost
 
-    this_best : Known below rear
-    this_best =
-        let (known, these) = kept.best system groups is positive rows in
-        let same : row ≡ take (length groups - below) left = front ∙ ap (λ n. take (n - below) left) is in
-        best system groups positive (subst (AreValuesFrom system groups below) (sym same) these.0) known
+  -- as the code reads the list
+  pub best_by_slice : (slice : List Rear) → slice ≡ rears → IsBest (length groups - 1 - length slice) rear → IsBest (length groups - 1 - length rears) rear
+  best_by_slice slice is = subst (λ (list : List Rear). IsBest (length groups - 1 - length list) rear) is
 
-    more_rears : AreRears system groups (rears ++ rear ∷ [])
-    more_rears = record { few = omega (arith, length_push rears rear, kept.as_many, is); each = each }
-      where
-        each : (first : ℕ) → first < length groups → length groups ≤ first + length (rears ++ rear ∷ []) → Known first (rear_at (rears ++ rear ∷ []) (length groups) first)
-        each first lt within = elim (cases_lt below first) [
-          | inl after ↦
-              let before : length groups - 1 - first < length rears = omega (arith, kept.as_many, is, after, lt) in
-              subst (Known first) (sym (get_or_append_left rears (rear ∷ []) no_rear (length groups - 1 - first) before))
-              ((kept.best system groups is positive rows).0.each first lt (omega (arith, kept.as_many, is, after)))
-          | inr not ↦
-              let same : below ≡ first = omega (arith, not, within, length_push rears rear, kept.as_many, is) in
-              let last : length rears ≡ length groups - 1 - first = omega (arith, same, kept.as_many, is) in
-              subst (Known first) (sym (get_or_push rears rear no_rear (length groups - 1 - first) last)) (subst (λ n. Known n rear) same this_best)
-        ]
+  more_rears : AreRears system groups rears → IsBest (length groups - 1 - length rears) rear → AreRears system groups (rears ++ rear ∷ [])
+  more_rears known best = record { few = omega (arith, length_push rears rear, fewer); each = each }
+    where
+      each : (first : ℕ) → first < length groups → length groups ≤ first + length (rears ++ rear ∷ []) → IsBest first (rear_at (rears ++ rear ∷ []) (length groups) first)
+      each first lt within = elim (cases_lt (length groups - 1 - length rears) first) [
+        | inl after ↦
+            let before : length groups - 1 - first < length rears = omega (arith, fewer, after, lt) in
+            subst (IsBest first) (sym (get_or_append_left rears (rear ∷ []) no_rear (length groups - 1 - first) before))
+            (known.each first lt (omega (arith, fewer, after)))
+        | inr not ↦
+            let same : length groups - 1 - length rears ≡ first = omega (arith, not, within, length_push rears rear, fewer) in
+            let last : length rears ≡ length groups - 1 - first = omega (arith, same, fewer) in
+            subst (IsBest first) (sym (get_or_push rears rear no_rear (length groups - 1 - first) last)) (subst (λ n. IsBest n rear) same best)
+      ]
 
-    rest_rows : AreRowsBelow system groups below rest
-    rest_rows =
-        let same : rest ≡ drop (length groups - below) left = back ∙ ap (λ n. drop (n - below) left) is in
-        subst (AreRowsBelow system groups below) (sym same) (kept.best system groups is positive rows).1.1
+  pub pushed_rears : (pushed : List Rear) → pushed ≡ rears ++ rear ∷ [] → AreRears system groups rears
+      → IsBest (length groups - 1 - length rears) rear → AreRears system groups pushed
+  pushed_rears pushed is known best = subst (AreRears system groups) (sym is) (more_rears known best)
 
-  pub rears_more : AreRearsSoFar values count (rears ++ rear ∷ []) rest below
-  rears_more = record {
-    as_many = omega (arith, length_push rears rear, kept.as_many);
-    costs = more_costs;
-    left_count = omega (arith, ap length back, length-drop (count - below) left, kept.left_count);
-    left_some = rest_some;
-    best = λ system groups is positive rows. (more_rears system groups is positive rows, rest_rows system groups is positive rows);
-  }
-
--- at the end the last that was found is the best cut of the whole chain
-pub all_rears : (values : List ℕ) (count : ℕ) (rears : List Rear) (left : List ℕ) (below : ℕ) → AreRearsSoFar values count rears left below → below ≡ 0
-    → 0 < count → (rear : Rear) → rear ≡ slice_index_or rears (length rears - 1) rear
-    → (system : System) (groups : List Group) → count ≡ length groups → ArePositive system groups → AreRowsBelow system groups count values
-    → IsBestCut system groups rear.pieces rear.cost
-all_rears values count rears left below kept none some rear at system groups is positive rows =
-    let within : length rears - 1 < length rears = omega (arith, kept.as_many, none, some) in
-    let place : length groups - 1 - 0 ≡ length rears - 1 = omega (arith, kept.as_many, none, is) in
+-- the last that was found is the best cut of the whole chain
+pub all_rears : (system : System) (groups : List Group) (rears : List Rear) → AreRears system groups rears → length groups ≤ length rears
+    → 0 < length groups → (rear : Rear) → rear ≡ slice_index_or rears (length rears - 1) rear → IsBestCut system groups rear.pieces rear.cost
+all_rears system groups rears known all some rear at =
+    let within : length rears - 1 < length rears = omega (arith, all, some) in
+    let place : length groups - 1 - 0 ≡ length rears - 1 = omega (arith, known.few, all) in
     let found : rear_at rears (length groups) 0 ≡ rear
     = ap (λ n. slice_index_or rears n no_rear) place ∙ get_or_default rears (length rears - 1) no_rear rear within ∙ sym at in
-    subst (λ (r : Rear). IsBestCut system groups r.pieces r.cost) found
-    ((kept.best system groups is positive rows).0.each 0 (omega (arith, some, is)) (omega (arith, kept.as_many, none, is)))
+    subst (λ (r : Rear). IsBestCut system groups r.pieces r.cost) found (known.each 0 some (omega (arith, all)))

@@ -1,33 +1,27 @@
 -- Each chain of a valid model that isn't late has a best cut.
 use Rattle.std.proofs.Common.{◌≡◌, ℕ, zero, suc, ◌+◌, ◌-◌, ◌<◌, ◌≤◌, Bool, true, false, inl, inr, None, List, [], ◌∷◌, length, refl, sym, ◌∙◌, subst, arith}
 use Rattle.std.proofs.lemmas.Bool.{cases_lt, false≢true}
-use Rattle.std.proofs.lemmas.List.{length-map}
+use Rattle.std.specs.Prelude.{All}
+use Rattle.cl_model.specs.declared.limits.TheConstants.{MOST_STEPS}
 use Rattle.cl_model.specs.declared.group.Group.{Group}
 use Rattle.cl_model.specs.declared.model.SystemModel.{SystemModel}
-use Rattle.cl_model.specs.ByNumber.{chain_at}
-use Rattle.cl_model.specs.Groups.{step_named, groups_at}
+use Rattle.cl_model.specs.Groups.{groups_at, IsGroupOf}
 use Rattle.cl_model.specs.Validity.{IsValid}
-use Rattle.cl_model.proofs.GroupFacts.{groups_at_some}
+use Rattle.cl_model.proofs.GroupFacts.{groups_at_are, groups_at_few, groups_at_some}
 use Rattle.cl_runs.specs.TaskTiming.{System}
 use Rattle.cl_runs.specs.SystemOf.{system_of}
 use Rattle.cl_runs.proofs.ModelSystem.{system_sound}
 use Rattle.cl_bound.specs.Bounds.{bounds_of}
-use Rattle.cl_exact.specs.TimedPeriodic.{is_timed_periodic_chain}
-use Rattle.cl_exact.proofs.SomeExact.{exact_lengths_exist}
+use Rattle.cl_exact.specs.TimedPeriodic.{are_timed_periodic}
+use Rattle.cl_exact.proofs.SomeExact.{exact_of_groups_exist}
 use Rattle.cl_analyse.proofs.SafeFindings.{chain_settled}
-use Rattle.cl_cut.specs.declared.piece.Piece.{Piece}
 use Rattle.cl_cut.specs.Values.{part, IsValue}
 use Rattle.cl_cut.specs.Cuts.{IsBestCutFrom, HasBestCut}
 use Rattle.cl_cut.specs.CutAnswers.{late_task_of}
-use Rattle.cl_cut.specs.Inner.Copies.{with_pieces}
-use Rattle.cl_cut.specs.Inner.Pieces.{groups_of_piece, IsPieceOf, ArePiecesOf}
 use Rattle.cl_cut.specs.Inner.Rears.{ArePositive}
 use Rattle.cl_cut.proofs.BestCuts.{IsBestBelow, best_alone, best_there, best_before, best_at_end}
 use Rattle.cl_cut.proofs.ChainValues.{positive}
-use Rattle.cl_cut.proofs.CopyFacts.{same_system, chains_count, groups_of_copy}
-use Rattle.cl_cut.proofs.StartFacts.{steps_at, runs_at}
-use Rattle.cl_cut.proofs.StepPieces.{offset, starts_rise, starts_within, groups_between}
-use Rattle.cl_cut.proofs.ValidCopies.{copy_valid}
+use Rattle.cl_cut.proofs.Parts.{length-part, All-part}
 use Rattle.cl_cut.proofs.ValueFacts.{past_value}
 
 -- groups have a value
@@ -106,59 +100,36 @@ module _ (system : System) (groups : List Group) (all_positive : ArePositive sys
 
 -- ---- the values of pieces
 
-some_value : (model : SystemModel) → IsValid model → (chain : ℕ) → chain < length model.chains → HasValue (system_of model) (groups_at model chain)
-some_value model valid chain is_chain = by_kind (is_timed_periodic_chain model chain) refl
-  where
-    by_kind : (timed : Bool) → is_timed_periodic_chain model chain ≡ timed → HasValue (system_of model) (groups_at model chain)
-    by_kind false is = record {
-      value = (bounds_of (system_of model) (groups_at model chain)).reaction;
-      is_value = inr (record { not_exact = λ timed within. absurd (false≢true (sym is ∙ timed)); value_is = refl });
-    }
-    by_kind true is = elim (exact_lengths_exist model valid chain is_chain is) [
-      | inl (exact, are, within) ↦ record {
-        value = exact.reaction.length;
-        is_value = inl (record { timed = is; within = within; exact = exact; are_exact = are; value_is = refl });
+module _ (model : SystemModel) (valid : IsValid model) (groups : List Group) (of_tasks : All (IsGroupOf model) groups) (some : 0 < length groups)
+    (few : length groups ≤ MOST_STEPS) where
+  some_value : HasValue (system_of model) groups
+  some_value = by_kind (are_timed_periodic (system_of model) groups) refl
+    where
+      by_kind : (timed : Bool) → are_timed_periodic (system_of model) groups ≡ timed → HasValue (system_of model) groups
+      by_kind false is = record {
+        value = (bounds_of (system_of model) groups).reaction;
+        is_value = inr (record { not_exact = λ timed within. absurd (false≢true (sym is ∙ timed)); value_is = refl });
       }
-      | inr past ↦ record {
-        value = (bounds_of (system_of model) (groups_at model chain)).reaction;
-        is_value = past_value (system_of model) (groups_at model chain) (bounds_of (system_of model) (groups_at model chain)).reaction past refl;
-      }
-    ]
+      by_kind true is = elim (exact_of_groups_exist model valid groups (record { some = some; few = few; of_tasks = of_tasks; timed_periodic = is })) [
+        | inl (exact, are, within) ↦ record {
+          value = exact.reaction.length;
+          is_value = inl (record { timed = is; within = within; exact = exact; are_exact = are; value_is = refl });
+        }
+        | inr past ↦ record {
+          value = (bounds_of (system_of model) groups).reaction;
+          is_value = past_value (system_of model) groups (bounds_of (system_of model) groups).reaction past refl;
+        }
+      ]
 
 module _ (model : SystemModel) (valid : IsValid model) (chain : ℕ) (is_chain : chain < length model.chains) where
   abbrev groups : List Group
   groups = groups_at model chain
 
-  module _ (first next : ℕ) (up : first < next) (within : next ≤ length groups) where
-    piece : Piece
-    piece = record { chain = chain; from = offset (runs_at model chain).pieces first; to = offset (runs_at model chain).pieces next }
-
-    piece_groups : groups_of_piece model piece ≡ part groups first next
-    unfolding groups_of_piece piece
-    piece_groups = groups_between (steps_at model chain) groups (runs_at model chain) first next up within
-
-    is_piece : IsPieceOf model piece
-    unfolding piece
-    is_piece = record {
-      is_chain = is_chain;
-      some = starts_rise (steps_at model chain) groups (runs_at model chain) first next up within;
-      within = omega (arith, starts_within (steps_at model chain) groups (runs_at model chain) next, length-map (chain_at model chain).runnables (step_named model));
-    }
-
-    are_pieces : ArePiecesOf model (piece ∷ [])
-    are_pieces zero lt = is_piece
-    are_pieces (suc k) lt = absurd (omega (arith, lt))
-
-    piece_value : HasValue (system_of model) (part groups first next)
-    piece_value =
-        let copy = with_pieces model (piece ∷ []) in
-        let found = some_value copy (copy_valid model valid (piece ∷ []) (omega arith) are_pieces) 0 (omega (arith, chains_count model (piece ∷ []))) in
-        let same : groups_at copy 0 ≡ part groups first next = groups_of_copy model (piece ∷ []) 0 (omega arith) ∙ piece_groups in
-        record {
-          value = found.value;
-          is_value = subst (λ (system : System). IsValue system (part groups first next) found.value) (same_system model (piece ∷ []))
-              (subst (λ (own : List Group). IsValue (system_of copy) own found.value) same found.is_value);
-        }
+  piece_value : (first next : ℕ) → first < next → next ≤ length groups → HasValue (system_of model) (part groups first next)
+  piece_value first next up within =
+      let count = length-part groups first next within in
+      some_value model valid (part groups first next) (All-part groups first next (IsGroupOf model) (groups_at_are model valid chain))
+      (omega (arith, count, up)) (omega (arith, count, within, groups_at_few model valid chain is_chain))
 
   pub best_exists : late_task_of model chain ≡ None → HasBestCut (system_of model) groups
   best_exists none =

@@ -1,22 +1,20 @@
-//! The best cut of a chain. Times are in ticks.
-ghost use Rattle.std.specs.Prelude.{◌≡◌, ◌<◌, None, length, IfOk};
+//! The best cuts of chains. Times are in ticks.
+ghost use Rattle.std.specs.Prelude.{◌≡◌, ◌-◌, ◌<◌, ◌≤◌, length, IfOk};
 ghost use Rattle.cl_model.specs.declared.model.SystemModel.{SystemModel};
-ghost use Rattle.cl_model.specs.Groups.{groups_at};
 ghost use Rattle.cl_runs.specs.SystemOf.{system_of};
 ghost use Rattle.cl_bound.specs.Answers.{answers_of};
 ghost use Rattle.cl_analyse.specs.ChainAnswers.{chain_answers_of};
 ghost use Rattle.cl_analyse.specs.Findings.{AreFindings};
-ghost use Rattle.cl_cut.specs.Cuts.{IsBestCut};
-ghost use Rattle.cl_cut.specs.CutAnswers.{late_task_of, IsCutAnswer, IsSafeAnswer, IsNoWorseAnswer};
-ghost use Rattle.cl_cut.specs.Inner.Pieces.{AreChainValues};
+ghost use Rattle.cl_cut.specs.Cuts.{IsBestCut, IsBestCutFrom};
+ghost use Rattle.cl_cut.specs.CutAnswers.{late_task_of, IsCutAnswer, IsSafeAnswer, IsNoWorseAnswer, AreCutAnswers, AreSafeAnswers, AreNoWorseAnswers};
+ghost use Rattle.cl_cut.specs.Inner.Rears.{AreSettledGroups, AreRears, CostSome};
 
 use crate::answer::CutAnswer;
-use crate::piece::push_pieces_of;
-use crate::rears::{Rear, best_of};
-use crate::values::values_of;
+use crate::rears::{Rear, best_from};
+use crate::values::values_from;
 use cl_analyse::{ChainAnswer, Findings};
 use cl_bound::TaskAnswer;
-use cl_model::{List, ValidModel};
+use cl_model::{Group, List, ValidModel};
 use cl_time::{NoMemory, Steps};
 use std::alloc::Global;
 use std::sync::ledger::Ledger;
@@ -32,41 +30,52 @@ pub(crate) fn late_task(found: &[ChainAnswer], chain: u32) -> Option<u32>
     }
 }
 
-/// The best cut of a chain none of whose tasks is late, from the values of all its pieces.
-pub(crate) fn best_by_values(
+/// The best cut of the rear part from a group on, where those of the rear parts behind it are known.
+fn rear_from<L: Ledger>(
     alloc: Global,
     model: &ValidModel,
-    chain: u32,
-    values: &[u64],
+    groups: &[Group],
+    rears: &[Rear],
+    settled: &List<TaskAnswer>,
+    steps: &mut Steps<L>,
 ) -> Result<Rear, NoMemory>
-    requires is_chain { chain < length model.now.chains }
-    requires not_late { late_task_of model.now chain ≡ None }
-    requires values { AreChainValues model.now chain values.now }
-    ensures { IfOk result (λ best. IsBestCut (system_of model.now) (groups_at model.now chain) best.pieces best.cost) }
+    requires groups { AreSettledGroups model.now groups.now }
+    requires fewer { length rears.now < length groups.now }
+    requires costs { CostSome rears.now }
+    requires rears { AreRears (system_of model.now) groups.now rears.now }
+    requires answers { settled.now ≡ answers_of (system_of model.now) }
+    ensures some { IfOk result (λ rear. 1 ≤ rear.cost) }
+    ensures best { IfOk result (λ rear.
+        IsBestCutFrom (system_of model.now) groups.now (length groups.now - 1 - length rears.now) rear.pieces rear.cost) }
 {
     // read for what it says: the model is valid
     let _plain = model.plain();
-    let best = best_of(alloc, model.group_count(chain), values)?;
-    Ok(best)
+    let first = groups.len() - 1 - rears.len();
+    let values = values_from(alloc, model, groups, first, settled, steps)?;
+    best_from(alloc, first as u32, values.as_slice(), rears)
 }
 
-/// The best cut of a chain none of whose tasks is late.
-fn best_cut_of<L: Ledger>(
+/// The best cut of the groups of a chain, found from its last group to its first.
+fn best_of<L: Ledger>(
     alloc: Global,
     model: &ValidModel,
+    groups: &[Group],
     settled: &List<TaskAnswer>,
-    chain: u32,
     steps: &mut Steps<L>,
 ) -> Result<Rear, NoMemory>
-    requires is_chain { chain < length model.now.chains }
+    requires some { 0 < length groups.now }
+    requires groups { AreSettledGroups model.now groups.now }
     requires answers { settled.now ≡ answers_of (system_of model.now) }
-    requires not_late { late_task_of model.now chain ≡ None }
-    ensures { IfOk result (λ best. IsBestCut (system_of model.now) (groups_at model.now chain) best.pieces best.cost) }
+    ensures { IfOk result (λ best. IsBestCut (system_of model.now) groups.now best.pieces best.cost) }
 {
-    let mut pieces = Vec::new(alloc);
-    push_pieces_of(alloc, &mut pieces, model, chain)?;
-    let values = values_of(alloc, model, settled, pieces.as_slice(), steps)?;
-    let best = best_by_values(alloc, model, chain, values.as_slice())?;
+    let mut rears = Vec::new(alloc);
+    while rears.len() < groups.len() {
+        let rear = rear_from(alloc, model, groups, rears.as_slice(), settled, steps)?;
+        rears.push(rear)?;
+    }
+    let Some(best) = rears.pop() else {
+        unreachable!();
+    };
     Ok(best)
 }
 
@@ -79,8 +88,8 @@ fn best_cut_of<L: Ledger>(
 /// bound on the reaction of the chain, and at most its exact reaction where it has one.
 ///
 /// `Late` comes exactly where a task of the chain is late, and names the first such task along its steps. `NoMemory` comes
-/// where there is no memory for the pieces or for a copy of the model; it leaves nothing. It looks at each pair of a first
-/// and a last group once, in one copy of the model for each 1,024 pieces.
+/// where there is no memory for the values of the pieces or for the answer; it leaves nothing. It looks at each pair of a
+/// first and a last group once, and copies nothing of the model.
 pub fn best_cut<L: Ledger>(
     alloc: Global,
     model: &ValidModel,
@@ -99,11 +108,36 @@ pub fn best_cut<L: Ledger>(
     match late_task(findings.chains.as_slice(), chain) {
         Some(task) => Ok(CutAnswer::Late { task }),
         None => {
-            let best = best_cut_of(alloc, model, &findings.tasks, chain, steps)?;
+            let groups = model.groups(chain);
+            let best = best_of(alloc, model, groups, &findings.tasks, steps)?;
             Ok(CutAnswer::Cut {
                 bound: best.cost,
                 pieces: best.pieces,
             })
         }
     }
+}
+
+/// The best cuts of all chains of a valid model, in file order, from what is found of the model: each is what `best_cut`
+/// answers for that chain, with all that it promises.
+///
+/// `NoMemory` comes where there is no memory for the values of the pieces of a chain or for the answers; it leaves nothing.
+pub fn best_cuts<L: Ledger>(
+    alloc: Global,
+    model: &ValidModel,
+    findings: &Findings,
+    steps: &mut Steps<L>,
+) -> Result<List<CutAnswer>, NoMemory>
+    requires findings { AreFindings model.now findings.now }
+    ensures cuts { IfOk result (AreCutAnswers model.now) }
+    ensures safe { IfOk result (AreSafeAnswers model.now) }
+    ensures no_worse { IfOk result (AreNoWorseAnswers model.now) }
+{
+    // read for what it says: the model is valid
+    let _plain = model.plain();
+    let mut answers = List::new(alloc);
+    for chain in 0..model.chains() {
+        answers.push(best_cut(alloc, model, findings, chain, steps)?)?;
+    }
+    Ok(answers)
 }

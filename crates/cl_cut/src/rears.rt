@@ -2,8 +2,8 @@
 ghost use Rattle.std.specs.Prelude.{◌≡◌, ℕ, ◌+◌, ◌<◌, ◌≤◌, ◌∷◌, List, length, IfOk};
 ghost use Rattle.cl_model.specs.declared.group.Group.{Group};
 ghost use Rattle.cl_runs.specs.TaskTiming.{System};
-ghost use Rattle.cl_cut.specs.Cuts.{IsBestCut, IsBestCutFrom};
-ghost use Rattle.cl_cut.specs.Inner.Rears.{AreRears, AreValuesFrom, AreRowsBelow, ArePositive, AreSome, CostSome, pieces_behind, pieces_count};
+ghost use Rattle.cl_cut.specs.Cuts.{IsBestCutFrom};
+ghost use Rattle.cl_cut.specs.Inner.Rears.{AreRears, AreValuesFrom, ArePositive, AreSome, CostSome, pieces_behind};
 
 use cl_model::List;
 use cl_time::NoMemory;
@@ -82,8 +82,14 @@ fn pieces_behind(
     }
 }
 
-/// The best cut of the rear part from a group on.
-fn best_from(alloc: Global, first: u32, values: &[u64], rears: &[Rear]) -> Result<Rear, NoMemory>
+/// The best cut of the rear part from a group on, from the values of the pieces that begin with it and the best cuts of
+/// the rear parts behind it, the last of them first.
+pub(crate) fn best_from(
+    alloc: Global,
+    first: u32,
+    values: &[u64],
+    rears: &[Rear],
+) -> Result<Rear, NoMemory>
     requires as_many { length values.now ≡ length rears.now + 1 }
     requires values { AreSome values.now }
     requires costs { CostSome rears.now }
@@ -97,26 +103,4 @@ fn best_from(alloc: Global, first: u32, values: &[u64], rears: &[Rear]) -> Resul
         cost: front.cost,
         pieces: pieces_behind(alloc, first, rears, front.size)?,
     })
-}
-
-/// The best cut of a chain, from the values of all its pieces: those of the pieces that begin with its last group first.
-pub(crate) fn best_of(alloc: Global, count: u32, values: &[u64]) -> Result<Rear, NoMemory>
-    requires some_group { 0 < count }
-    requires as_many { length values.now ≡ pieces_count count count }
-    requires values { AreSome values.now }
-    ensures { IfOk result (λ best. (system : System) (groups : List Group) → count ≡ length groups
-        → ArePositive system groups → AreRowsBelow system groups count values.now
-        → IsBestCut system groups best.pieces best.cost) }
-{
-    let mut rears = Vec::new(alloc);
-    let mut left = values;
-    for first in (0..count).rev() {
-        let (row, rest) = left.split_at((count - first) as usize);
-        rears.push(best_from(alloc, first, row, rears.as_slice())?)?;
-        left = rest;
-    }
-    let Some(best) = rears.pop() else {
-        unreachable!();
-    };
-    Ok(best)
 }

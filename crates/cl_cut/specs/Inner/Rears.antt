@@ -1,10 +1,21 @@
 -- The best cuts of the rear parts of a chain, from one group to the end each. Times are in ticks.
-use Rattle.std.specs.Prelude.{◌≡◌, ℕ, zero, suc, ◌+◌, ◌-◌, ◌<◌, ◌≤◌, nat_lt, if◌then◌else◌, List, [], ◌∷◌, length, slice_index, slice_index_or, take, drop}
+use Rattle.std.specs.Prelude.{◌≡◌, ℕ, ◌+◌, ◌-◌, ◌<◌, ◌≤◌, nat_lt, if◌then◌else◌, All, List, [], ◌∷◌, length, slice_index, slice_index_or}
+use Rattle.cl_model.specs.declared.limits.TheConstants.{MOST_STEPS}
 use Rattle.cl_model.specs.declared.group.Group.{Group}
+use Rattle.cl_model.specs.declared.model.SystemModel.{SystemModel}
+use Rattle.cl_model.specs.Groups.{IsGroupOf}
 use Rattle.cl_runs.specs.TaskTiming.{System}
+use Rattle.cl_runs.specs.SystemOf.{system_of}
+use Rattle.cl_bound.specs.Answers.{answers_of, NoneIsLate}
 use Rattle.cl_cut.specs.declared.rears.Rear.{Rear}
 use Rattle.cl_cut.specs.Values.{part, IsValue}
 use Rattle.cl_cut.specs.Cuts.{IsBestCutFrom}
+
+-- groups of a model that can be cut: no more than a chain has, of its tasks, and none of these late
+pub record AreSettledGroups (model : SystemModel) (groups : List Group) : Type 0 where
+  pub few : length groups ≤ MOST_STEPS
+  pub of_tasks : All (IsGroupOf model) groups
+  pub not_late : NoneIsLate (answers_of (system_of model)) groups
 
 -- stands for a rear part that isn't known yet
 unfoldable pub no_rear : Rear
@@ -24,18 +35,6 @@ pub record AreRears (system : System) (groups : List Group) (rears : List Rear) 
 pub record AreValuesFrom (system : System) (groups : List Group) (first : ℕ) (values : List ℕ) : Type 0 where
   pub one_a_piece : first + length values ≡ length groups
   pub each : (k : ℕ) → k < length values → IsValue system (part groups first (first + 1 + k)) (slice_index values k)
-
--- how many pieces begin with one of the first so many groups of a chain of `count`
-abbrev pub pieces_count : (count below : ℕ) → ℕ
-pieces_count count zero = 0
-pieces_count count (suc below) = (count - below) + pieces_count count below
-
--- the values of these pieces, those of the pieces that begin with the last of these groups first
-abbrev pub AreRowsBelow : System → List Group → (below : ℕ) → (values : List ℕ) → Type 0
-AreRowsBelow system groups zero values = Unit {0}
-AreRowsBelow system groups (suc below) values =
-    AreValuesFrom system groups below (take (length groups - below) values)
-    × AreRowsBelow system groups below (drop (length groups - below) values)
 
 -- the value of each piece is 1 tick or more
 abbrev pub ArePositive : System → List Group → Type 0
