@@ -5,10 +5,10 @@ ghost use Rattle.cl_cut.specs.declared.answer.CutAnswer.TheVariants.{Late};
 ghost use Rattle.cl_cut.specs.CutAnswers.{AreCutAnswers};
 ghost use Rattle.cl_designs.specs.Cuts.{piece_words, pieces_words, bound_words, cut_words, cut_line, cut_text, IsCutTextOf};
 
-use crate::names::{put_chain_name, put_task_name};
 use cl_analyse::analyse;
 use cl_cut::{CutAnswer, best_cuts};
 use cl_model::ValidModel;
+use cl_report::{put_chain_name, put_task_name};
 use cl_text::Text;
 use cl_time::{NoMemory, Steps};
 use std::alloc::Global;

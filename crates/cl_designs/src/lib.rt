@@ -5,7 +5,6 @@
 mod cuts;
 mod headroom;
 pub mod laws;
-mod names;
 mod orders;
 
 pub use cuts::cut_text;

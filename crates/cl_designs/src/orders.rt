@@ -2,10 +2,10 @@
 ghost use Rattle.std.specs.Prelude.{◌≡◌, ◌<◌, ◌++◌, length, OnOk, IfOk};
 ghost use Rattle.cl_tune.specs.declared.answer.OrderAnswer.TheVariants.{Order};
 ghost use Rattle.cl_tune.specs.BestOrders.{IsOrderAnswer};
-ghost use Rattle.cl_designs.specs.Orders.{priority_line, none_line, order_lines, order_text, IsOrderTextOf};
+ghost use Rattle.cl_designs.specs.Orders.{priority_line, core_name, none_line, order_lines, order_text, IsOrderTextOf};
 
-use crate::names::{put_core_name, put_task_name};
 use cl_model::ValidModel;
+use cl_report::{put_name, put_task_name};
 use cl_text::Text;
 use cl_time::{NoMemory, Steps};
 use cl_tune::{OrderAnswer, order};
@@ -78,6 +78,14 @@ fn put_priority(
     text.put(b" ")?;
     text.put_number(priorities[task as usize])?;
     text.put(b"\n")
+}
+
+/// Puts the name of a core.
+fn put_core_name(text: &mut Text, model: &ValidModel, core: u32) -> Result<(), NoMemory>
+    requires { core < length model.now.cores }
+    ensures { OnOk result (text.new ≡ text.old ++ core_name model.now core) }
+{
+    put_name(text, &model.plain().cores.as_slice()[core as usize].name)
 }
 
 /// Puts the line of a core that no order passes on.

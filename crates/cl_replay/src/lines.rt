@@ -7,10 +7,11 @@ ghost use Rattle.cl_chain.specs.JobChains.{chain_of, option_of, measured_of};
 ghost use Rattle.cl_replay.specs.Margins.{HasMargin, LongestHasMargin, ChainHasMargins, HaveMargins};
 ghost use Rattle.cl_replay.specs.Replay.{bound_words, margin_words, longest_words, found_words, kind_line, lines_of, chain_lines};
 
-use crate::pieces::{count_of_kind, kind_word, longest_of_kind, put_chain_name, put_jobs};
+use crate::pieces::{count_of_kind, longest_of_kind};
 use cl_analyse::{ChainAnswer, Findings};
 use cl_chain::{JobChain, Measured};
 use cl_model::{LengthKind, ValidModel};
+use cl_report::{kind_word, put_chain_name, put_jobs};
 use cl_text::Text;
 use cl_time::NoMemory;
 

@@ -8,7 +8,7 @@ ghost use Rattle.cl_analyse.specs.ChainAnswers.{exact_answer_at};
 ghost use Rattle.cl_analyse.specs.Findings.{AreFindings};
 ghost use Rattle.cl_report.specs.Report.{kind_word, job_words, jobs_words, witness_line, past_line, exact_lines};
 
-use crate::lines::{put_chain_name, put_task_name};
+use crate::words::{kind_word, put_chain_name, put_jobs};
 use cl_analyse::{ExactAnswer, Findings};
 use cl_exact::{ExactLengths, Witness};
 use cl_model::{LengthKind, ValidModel};
@@ -77,21 +77,6 @@ fn put_witness(
     text.put(b"\n")
 }
 
-/// Puts the jobs of a chain, one for each group.
-fn put_jobs(text: &mut Text, model: &ValidModel, chain: u32, jobs: &[u64]) -> Result<(), NoMemory>
-    requires within { chain < length model.now.chains }
-    requires jobs { length jobs.now ≡ length (groups_at model.now chain) }
-    ensures { OnOk result (text.new ≡ text.old ++ jobs_words model.now chain jobs.now) }
-{
-    for place in 0..model.group_count(chain) {
-        text.put(b" ")?;
-        put_task_name(text, model, model.group(chain, place).task)?;
-        text.put(b":")?;
-        text.put_number(jobs[place as usize])?;
-    }
-    Ok(())
-}
-
 /// Puts the line of a chain whose hyperperiod exceeds a limit.
 fn put_past(text: &mut Text, model: &ValidModel, chain: u32, limit: u64) -> Result<(), NoMemory>
     requires { chain < length model.now.chains }
@@ -102,15 +87,4 @@ fn put_past(text: &mut Text, model: &ValidModel, chain: u32, limit: u64) -> Resu
     text.put(b" past ")?;
     text.put_number(limit)?;
     text.put(b"\n")
-}
-
-/// The word of a kind of length.
-pub(crate) fn kind_word(kind: LengthKind) -> &'static [u8]
-    ensures { result.now ≡ kind_word kind }
-{
-    match kind {
-        LengthKind::Reaction => b"reaction",
-        LengthKind::Age => b"age",
-        LengthKind::Reduced => b"reduced",
-    }
 }

@@ -6,6 +6,8 @@ pub mod laws;
 mod lines;
 mod requirement_lines;
 mod survey;
+mod words;
 
 pub use lines::report;
 pub use survey::survey_text;
+pub use words::{kind_word, put_chain_name, put_jobs, put_name, put_task_name};

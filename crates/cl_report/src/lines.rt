@@ -1,16 +1,16 @@
 //! The report of a model, as text.
 ghost use Rattle.std.specs.Prelude.{◌≡◌, ℕ, ◌<◌, ◌++◌, length, OnOk, IfOk};
 ghost use Rattle.std.specs.List.{flat_map, range_with_len};
-ghost use Rattle.cl_model.specs.ByNumber.{task_at, chain_at};
 ghost use Rattle.cl_analyse.specs.declared.findings.ChainAnswer.TheVariants.{Late};
 ghost use Rattle.cl_analyse.specs.Findings.{AreFindings};
 ghost use Rattle.cl_report.specs.Report.{task_words, task_line, bounds_words, chain_words, chain_line, chain_lines, report_text};
 
 use crate::exact_lines::put_exact;
 use crate::requirement_lines::put_requirements;
+use crate::words::{put_chain_name, put_task_name};
 use cl_analyse::{ChainAnswer, Findings};
 use cl_bound::{Bounds, TaskAnswer};
-use cl_model::{Name, ValidModel};
+use cl_model::ValidModel;
 use cl_text::Text;
 use cl_time::NoMemory;
 use std::alloc::Global;
@@ -61,21 +61,6 @@ fn put_task(
     text.put(b"\n")
 }
 
-/// Puts a name.
-pub(crate) fn put_name(text: &mut Text, name: &Name) -> Result<(), NoMemory>
-    ensures { OnOk result (text.new ≡ text.old ++ name.now) }
-{
-    text.put(name.as_slice())
-}
-
-/// Puts the name of a task.
-pub(crate) fn put_task_name(text: &mut Text, model: &ValidModel, task: u32) -> Result<(), NoMemory>
-    requires { task < length model.now.tasks }
-    ensures { OnOk result (text.new ≡ text.old ++ (task_at model.now task).name) }
-{
-    put_name(text, &model.plain().tasks.as_slice()[task as usize].name)
-}
-
 /// Puts what is found of a task.
 fn put_answer(text: &mut Text, answer: &TaskAnswer) -> Result<(), NoMemory>
     ensures { OnOk result (text.new ≡ text.old ++ task_words answer.now) }
@@ -118,18 +103,6 @@ fn put_chain(
     put_chain_name(text, model, chain)?;
     put_chain_answer(text, model, &findings.chains.as_slice()[chain as usize])?;
     text.put(b"\n")
-}
-
-/// Puts the name of a chain.
-pub(crate) fn put_chain_name(
-    text: &mut Text,
-    model: &ValidModel,
-    chain: u32,
-) -> Result<(), NoMemory>
-    requires { chain < length model.now.chains }
-    ensures { OnOk result (text.new ≡ text.old ++ (chain_at model.now chain).name) }
-{
-    put_name(text, &model.plain().chains.as_slice()[chain as usize].name)
 }
 
 /// Puts what is found of a chain.

@@ -4,8 +4,7 @@ ghost use Rattle.std.specs.List.{flat_map, range_with_len};
 ghost use Rattle.cl_analyse.specs.Findings.{AreFindings};
 ghost use Rattle.cl_report.specs.Report.{verdict_value, verdict_word, verdict_words, verdict_line, requirement_line};
 
-use crate::exact_lines::kind_word;
-use crate::lines::put_name;
+use crate::words::{kind_word, put_name};
 use cl_analyse::{Findings, Verdict};
 use cl_model::{RequirementDef, ValidModel};
 use cl_text::Text;

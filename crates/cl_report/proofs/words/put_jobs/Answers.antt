@@ -6,7 +6,7 @@ use Rattle.cl_model.specs.ByNumber.{task_at}
 use Rattle.cl_model.specs.Groups.{groups_at}
 use Rattle.cl_report.specs.Report.{job_words, jobs_words}
 use Rattle.cl_report.proofs.ReportLines.{line_more}
-use Rattle.cl_report.proofs.exact_lines.put_jobs.Goals as goal
+use Rattle.cl_report.proofs.words.put_jobs.Goals as goal
 
 pub loop-place-preserved : goal.loop-place-preserved
 loop-place-preserved c =
