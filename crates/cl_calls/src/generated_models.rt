@@ -1,24 +1,12 @@
 //! Generated models, against values that two programs computed from the format alone.
+ghost use Rattle.cl_model.specs.Ranges.{IsInRange};
+
 use cl_gen::generate;
-use cl_model::{AccessKind, MOST_TASKS, RunnableDef, SystemModel, TaskDef};
+use cl_model::{MOST_TASKS, RunnableDef, SystemModel, TaskDef};
+use cl_time::NoMemory;
 use cl_valid::{in_range, validate};
 use std::alloc::Global;
 use std::test::Fail;
-
-/// The stimulus of a task, its priority, its access, and the least and greatest times of its runnables.
-type TaskRow = (&'static str, u64, AccessKind, [(u64, u64); 2]);
-
-const TASKS: [TaskRow; 4] = [
-    ("p2", 111, AccessKind::Implicit, [(30, 85), (11, 53)]),
-    (
-        "p8",
-        14,
-        AccessKind::Implicit,
-        [(13_675, 26_349), (6_700, 18_404)],
-    ),
-    ("p1", 125, AccessKind::Timed, [(50, 59), (2, 62)]),
-    ("p2", 108, AccessKind::Timed, [(49, 143), (23, 74)]),
-];
 
 /// How many cores, stimuli, labels, tasks, chains and requirements a model has.
 fn counts(model: &SystemModel) -> [usize; 6] {
@@ -32,19 +20,46 @@ fn counts(model: &SystemModel) -> [usize; 6] {
     ]
 }
 
-fn has_times(runnable: &RunnableDef, times: (u64, u64)) -> bool {
-    runnable.least == times.0 && runnable.greatest == times.1 && !runnable.whole
+/// Puts the times of a runnable, and whether it runs whole.
+fn put_runnable(text: &mut String, alloc: Global, runnable: &RunnableDef) -> Result<(), NoMemory> {
+    let (least, greatest, whole) = (runnable.least, runnable.greatest, runnable.whole);
+    Ok(text.push_str(&format!(in alloc; ", {least} to {greatest} {whole}")?)?)
 }
 
-fn is_task(task: &TaskDef, row: TaskRow) -> bool {
-    let runnables = task.runnables.as_slice();
-    task.stimulus.as_slice() == row.0.as_bytes()
-        && task.priority == row.1
-        && task.access == row.2
-        && task.deadline.is_none()
-        && runnables.len() == 2
-        && has_times(&runnables[0], row.3[0])
-        && has_times(&runnables[1], row.3[1])
+/// Puts the stimulus of a task, its priority, its access, its deadline and its runnables.
+fn put_task(text: &mut String, alloc: Global, task: &TaskDef) -> Result<(), NoMemory> {
+    let (stimulus, priority) = (&task.stimulus, task.priority);
+    let (access, deadline) = (task.access, task.deadline);
+    text.push_str(&format!(in alloc; "{stimulus:?} {priority} {access:?} {deadline:?}")?)?;
+    for runnable in task.runnables.as_slice() {
+        put_runnable(text, alloc, runnable)?;
+    }
+    Ok(text.push_str("\n")?)
+}
+
+/// The tasks of a model, on a line each.
+fn tasks_text(alloc: Global, model: &SystemModel) -> Result<String, NoMemory> {
+    let mut text = String::new(alloc);
+    for task in model.tasks.as_slice() {
+        put_task(&mut text, alloc, task)?;
+    }
+    Ok(text)
+}
+
+/// What is asked of a generated model.
+#[derive(Clone, Copy)]
+enum Asked {
+    Counts,
+    Tasks,
+    Chains,
+}
+
+fn found_in(alloc: Global, model: &SystemModel, asked: Asked) -> Result<String, NoMemory> {
+    match asked {
+        Asked::Counts => Ok(format!(in alloc; "{:?}", counts(model))?),
+        Asked::Tasks => tasks_text(alloc, model),
+        Asked::Chains => Ok(format!(in alloc; "{:?}", model.chains)?),
+    }
 }
 
 /// The model of a seed and a number of tasks. The proof of a test that calls it need not look at their values.
@@ -55,16 +70,35 @@ fn of_seed(alloc: Global, seed: u64, tasks: u64) -> Result<SystemModel, Fail> {
     Ok(generate(alloc, seed, tasks)?)
 }
 
+/// What is found of that model.
+fn found(alloc: Global, seed: u64, tasks: u64, asked: Asked) -> Result<String, Fail> {
+    let model = of_seed(alloc, seed, tasks)?;
+    Ok(found_in(alloc, &model, asked)?)
+}
+
 #[test]
 fn generates_a_model_of_four_tasks(rt: HostRuntime) -> Result<(), Fail> {
-    let model = of_seed(rt.alloc(), 9, 4)?;
-    assert_eq!(rt; counts(&model), [1, 9, 8, 4, 1, 0]);
-    for (task, row) in model.tasks.iter().zip(TASKS) {
-        assert!(rt; is_task(task, row), "{task:?}");
-    }
-    let text = format!(in rt.alloc(); "{:?}", model.chains)?;
+    let counts = found(rt.alloc(), 9, 4, Asked::Counts)?;
+    assert_eq!(rt; counts.as_str(), "[1, 9, 8, 4, 1, 0]");
+    Ok(())
+}
+
+#[test]
+fn generates_tasks_of_two_runnables(rt: HostRuntime) -> Result<(), Fail> {
+    let tasks = found(rt.alloc(), 9, 4, Asked::Tasks)?;
+    let wanted = "\"p2\" 111 Implicit None, 30 to 85 false, 11 to 53 false\n\
+        \"p8\" 14 Implicit None, 13675 to 26349 false, 6700 to 18404 false\n\
+        \"p1\" 125 Timed None, 50 to 59 false, 2 to 62 false\n\
+        \"p2\" 108 Timed None, 49 to 143 false, 23 to 74 false\n";
+    assert_eq!(rt; tasks.as_str(), wanted);
+    Ok(())
+}
+
+#[test]
+fn generates_a_chain_through_four_tasks(rt: HostRuntime) -> Result<(), Fail> {
+    let chains = found(rt.alloc(), 9, 4, Asked::Chains)?;
     assert_eq!(rt;
-        text.as_str(),
+        chains.as_str(),
         "List { items: [ChainDef { name: \"k0\", runnables: List { items: [\"t0a\", \"t0b\", \"t1a\", \"t1b\", \"t2a\", \"t2b\", \"t3a\", \"t3b\"] }, labels: List { items: [\"m0\", \"l0\", \"m1\", \"l1\", \"m2\", \"l2\", \"m3\"] } }] }"
     );
     Ok(())
@@ -72,15 +106,25 @@ fn generates_a_model_of_four_tasks(rt: HostRuntime) -> Result<(), Fail> {
 
 #[test]
 fn generates_a_model_of_three_tasks(rt: HostRuntime) -> Result<(), Fail> {
-    let model = of_seed(rt.alloc(), 9, 3)?;
-    assert_eq!(rt; counts(&model), [1, 9, 6, 3, 0, 0]);
+    let counts = found(rt.alloc(), 9, 3, Asked::Counts)?;
+    assert_eq!(rt; counts.as_str(), "[1, 9, 6, 3, 0, 0]");
     Ok(())
 }
 
-/// Whether the model of a seed and a number of tasks is found valid.
+/// Whether a model in range is found valid.
+fn is_valid(alloc: Global, model: SystemModel) -> bool
+    requires { IsInRange model }
+{
+    validate(alloc, model).is_ok()
+}
+
+/// Whether the model of a seed and a number of tasks is found in range and valid.
 fn is_found_valid(alloc: Global, seed: u64, tasks: u64) -> Result<bool, Fail> {
     let model = of_seed(alloc, seed, tasks)?;
-    Ok(in_range(&model) && validate(alloc, model).is_ok())
+    if !in_range(&model) {
+        return Ok(false);
+    }
+    Ok(is_valid(alloc, model))
 }
 
 #[test]

@@ -2,6 +2,7 @@
 ghost use Rattle.std.specs.Prelude.{◌≡◌, ℕ, ◌<◌, ◌≤◌, length, slice_index, EachIndex, IsTrue};
 
 use cl_lanes::{first_gap, greatest_gap};
+use std::process::Abort;
 
 // Whether the slices meet the condition of the calls.
 fn are_paired(ends: &[u64], starts: &[u64]) -> bool
@@ -19,39 +20,51 @@ fn are_paired(ends: &[u64], starts: &[u64]) -> bool
     true
 }
 
+/// The greatest gap, and the first place with a gap.
+type Gaps = (Option<u64>, Option<usize>);
+
+/// The greatest gap of slices and the first place with this gap, where the slices are paired.
+fn gaps(ends: &[u64], starts: &[u64], gap: u64) -> Option<Gaps> {
+    if !are_paired(ends, starts) {
+        return None;
+    }
+    Some((greatest_gap(ends, starts), first_gap(ends, starts, gap)))
+}
+
 #[test]
 fn gaps_of_small_slices(rt: HostRuntime) {
-    let none: [u64; 0] = [];
-    assert_eq!(rt; greatest_gap(&none, &none), None);
-    assert_eq!(rt; first_gap(&none, &none, 0), None);
-    let ends = [5, 9, 9];
-    let starts = [1, 3, 4];
-    assert_eq!(rt; greatest_gap(&ends, &starts), Some(6));
-    assert_eq!(rt; first_gap(&ends, &starts, 6), Some(1));
-    assert_eq!(rt; first_gap(&ends, &starts, 7), None);
+    assert_eq!(rt; gaps(&[], &[], 0), Some((None, None)));
+    assert_eq!(rt; gaps(&[5, 9, 9], &[1, 3, 4], 6), Some((Some(6), Some(1))));
+    assert_eq!(rt; gaps(&[5, 9, 9], &[1, 3, 4], 7), Some((Some(6), None)));
     let ends = [5, 5, 5, 5, 5, 5, 5, 5, 9];
-    let starts = [5; 9];
-    assert_eq!(rt; greatest_gap(&ends, &starts), Some(4));
-    assert_eq!(rt; first_gap(&ends, &starts, 4), Some(8));
+    assert_eq!(rt; gaps(&ends, &[5; 9], 4), Some((Some(4), Some(8))));
+}
+
+/// Asserts the gaps where the starts are 7 and the ends 10, but for the first and the last, one of which is 16.
+fn assert_gaps(rt: &impl Abort, length: usize, first: u64, last: u64)
+    requires { (0 < length) × (length ≤ 130) }
+{
+    let mut ends = [10; 130];
+    ends[length - 1] = last;
+    if length > 1 || first > last {
+        ends[0] = first;
+    }
+    let (ends, starts) = (&ends[..length], &[7; 130][..length]);
+    let place = if first == 16 { 0 } else { length - 1 };
+    assert_eq!(rt;
+        gaps(ends, starts, 9),
+        Some((Some(9), Some(place))),
+        "{length}"
+    );
+    assert_eq!(rt; gaps(ends, starts, 8), Some((Some(9), None)), "{length}");
 }
 
 // The greatest gap stands at the first place, at the last, and at both.
 #[test]
 fn gaps_in_lanes_and_rests(rt: HostRuntime) {
-    let starts = [7; 130];
     for length in 1..131 {
-        for (first, last) in [(16, 10), (10, 16), (16, 16)] {
-            let mut ends = [10; 130];
-            ends[length - 1] = last;
-            if length > 1 || first > last {
-                ends[0] = first;
-            }
-            let (ends, starts) = (&ends[..length], &starts[..length]);
-            let place = if first == 16 { 0 } else { length - 1 };
-            assert!(rt; are_paired(ends, starts));
-            assert_eq!(rt; greatest_gap(ends, starts), Some(9), "{length}");
-            assert_eq!(rt; first_gap(ends, starts, 9), Some(place), "{length}");
-            assert_eq!(rt; first_gap(ends, starts, 8), None, "{length}");
-        }
+        assert_gaps(&rt, length, 16, 10);
+        assert_gaps(&rt, length, 10, 16);
+        assert_gaps(&rt, length, 16, 16);
     }
 }

@@ -1,9 +1,7 @@
 //! Names, lists, models and places.
-use cl_model::{
-    AccessKind, ChainDef, Code, CoreDef, Key, LabelDef, LengthKind, List, Name, Part, Place,
-    Refusal, RequirementDef, RunnableDef, StimulusDef, StimulusKind, SystemModel, TaskDef,
-};
-use std::alloc::Global;
+use cl_model::{Code, Key, List, Name, Part, Place, Refusal, SystemModel};
+use cl_read::read_model;
+use std::alloc::{AllocError, Global};
 use std::test::Fail;
 
 fn name(word: &str) -> Result<Name, Fail> {
@@ -18,133 +16,125 @@ fn names(alloc: Global, words: &[&str]) -> Result<List<Name>, Fail> {
     Ok(names)
 }
 
+/// Whether a word is a name.
+fn is_name(word: &str) -> bool {
+    Name::read(word.as_bytes()).is_some()
+}
+
 #[test]
 fn reads_names_of_the_grammar(rt: HostRuntime) -> Result<(), Fail> {
     assert_eq!(rt; name("A.b_c-9")?.as_slice(), b"A.b_c-9".as_slice());
+    for word in ["", "a b", "a/b", "é", "a\n"] {
+        assert!(rt; !is_name(word), "{word}");
+    }
+    Ok(())
+}
+
+#[test]
+fn reads_names_of_up_to_64_bytes(rt: HostRuntime) {
     let longest = [b'x'; 64];
     assert!(rt; Name::read(&longest).is_some());
     let too_long = [b'x'; 65];
     assert!(rt; Name::read(&too_long).is_none());
-    for word in ["", "a b", "a/b", "é", "a\n"] {
-        assert!(rt; Name::read(word.as_bytes()).is_none(), "{word}");
-    }
-    assert!(rt; name("a")? < name("ab")? && name("ab")?.copy() == name("ab")?);
+}
+
+#[test]
+fn orders_and_copies_names(rt: HostRuntime) -> Result<(), Fail> {
+    let (first, second) = (name("a")?, name("ab")?);
+    assert!(rt; first < second);
+    assert!(rt; second.copy() == second);
     Ok(())
+}
+
+/// How long a list of names is, whether it is empty, what stands at two places, and how it prints.
+fn list_text(alloc: Global, list: &List<Name>) -> Result<String, AllocError> {
+    format!(in alloc;
+        "{} {} {:?} {:?} {list:?}",
+        list.len(),
+        list.is_empty(),
+        list.at(1),
+        list.at(2)
+    )
+}
+
+/// The same, of the list of these names.
+fn listed(alloc: Global, words: &[&str]) -> Result<String, Fail> {
+    let list = names(alloc, words)?;
+    Ok(list_text(alloc, &list)?)
 }
 
 #[test]
 fn keeps_items_in_order(rt: HostRuntime) -> Result<(), Fail> {
-    let list = names(rt.alloc(), &["b", "a"])?;
-    assert_eq!(rt; list.len(), 2);
-    assert!(rt; !list.is_empty());
-    assert_eq!(rt; list.at(1), Some(&name("a")?));
-    assert_eq!(rt; list.at(2), None);
-    let text = format!(in rt.alloc(); "{list:?}")?;
-    assert_eq!(rt; text.as_str(), "List { items: [\"b\", \"a\"] }");
+    let text = listed(rt.alloc(), &["b", "a"])?;
+    assert_eq!(rt;
+        text.as_str(),
+        "2 false Some(\"a\") None List { items: [\"b\", \"a\"] }"
+    );
     Ok(())
 }
 
-/// A list of this one item.
-fn one<T: Drop>(alloc: Global, item: T) -> Result<List<T>, Fail> {
-    let mut list = List::new(alloc);
-    list.push(item)?;
-    Ok(list)
+/// A model with one item of each table. The names in it aren't known, so it isn't valid.
+const ONE_OF_EACH: &str = r#"format = "chainlat"
+version = 1
+core = [{ name = "c0" }]
+stimulus = [{ name = "s", kind = "sporadic", least = 5, greatest = 8 }]
+label = [{ name = "x" }]
+chain = [{ name = "ab", runnables = ["a", "b"], labels = ["x"] }]
+requirement = [{ name = "r", chain = "ab", kind = "age", most = 46 }]
+
+[[task]]
+name = "A"
+core = "c0"
+stimulus = "s"
+priority = 2
+access = "timed"
+deadline = 4
+runnable = [{ name = "a", least = 2, greatest = 3, whole = true, reads = ["x"], writes = ["y", "z"] }]
+"#;
+
+/// A copy as it prints, which is equal to the model.
+fn copied(alloc: Global, model: &SystemModel) -> Result<String, Fail> {
+    let copy = model.copy(alloc)?;
+    if copy != *model {
+        return Err(Fail::from("a copy is equal"));
+    }
+    Ok(format!(in alloc; "{copy:?}")?)
 }
 
-fn runnable(alloc: Global) -> Result<RunnableDef, Fail> {
-    Ok(RunnableDef {
-        name: name("a")?,
-        least: 2,
-        greatest: 3,
-        whole: true,
-        reads: names(alloc, &["x"])?,
-        writes: names(alloc, &["y", "z"])?,
-    })
-}
-
-fn task(alloc: Global) -> Result<TaskDef, Fail> {
-    Ok(TaskDef {
-        name: name("A")?,
-        core: name("c0")?,
-        stimulus: name("s")?,
-        priority: 2,
-        access: AccessKind::Timed,
-        deadline: Some(4),
-        runnables: one(alloc, runnable(alloc)?)?,
-    })
-}
-
-fn chain(alloc: Global) -> Result<ChainDef, Fail> {
-    Ok(ChainDef {
-        name: name("ab")?,
-        runnables: names(alloc, &["a", "b"])?,
-        labels: names(alloc, &["x"])?,
-    })
-}
-
-fn requirement() -> Result<RequirementDef, Fail> {
-    Ok(RequirementDef {
-        name: name("r")?,
-        chain: name("ab")?,
-        kind: LengthKind::Age,
-        most: 46,
-    })
-}
-
-fn stimulus() -> Result<StimulusDef, Fail> {
-    let kind = StimulusKind::Sporadic {
-        least: 5,
-        greatest: 8,
-    };
-    Ok(StimulusDef {
-        name: name("s")?,
-        kind,
-    })
-}
-
-fn model(alloc: Global) -> Result<SystemModel, Fail> {
-    Ok(SystemModel {
-        cores: one(alloc, CoreDef { name: name("c0")? })?,
-        stimuli: one(alloc, stimulus()?)?,
-        labels: one(alloc, LabelDef { name: name("x")? })?,
-        tasks: one(alloc, task(alloc)?)?,
-        chains: one(alloc, chain(alloc)?)?,
-        requirements: one(alloc, requirement()?)?,
-    })
+/// The same, of the model that a text means.
+fn copied_of(alloc: Global, text: &str) -> Result<String, Fail> {
+    let model = read_model(alloc, text.as_bytes())?;
+    copied(alloc, &model)
 }
 
 #[test]
 fn copies_whole_models(rt: HostRuntime) -> Result<(), Fail> {
-    let model = model(rt.alloc())?;
-    let copy = model.copy(rt.alloc())?;
-    assert!(rt; copy == model);
-    let text = format!(in rt.alloc(); "{copy:?}")?;
+    let copy = copied_of(rt.alloc(), ONE_OF_EACH)?;
     assert!(rt;
-        text.as_str()
+        copy.as_str()
             .contains("writes: List { items: [\"y\", \"z\"] }")
     );
     Ok(())
 }
 
+/// How a refusal prints.
+fn printed(alloc: Global, code: Code, place: Place) -> Result<String, AllocError> {
+    let refusal = Refusal { code, place };
+    format!(in alloc; "{refusal}")
+}
+
 #[test]
 fn prints_places(rt: HostRuntime) -> Result<(), Fail> {
+    let alloc = rt.alloc();
     let place = Part::Task
         .section_place()
         .at_item(2)
         .at_sub(0)
         .at_key(Key::Reads)
         .at_spot(13);
-    let refusal = Refusal {
-        code: Code::M37,
-        place,
-    };
-    let text = format!(in rt.alloc(); "{refusal}")?;
+    let text = printed(alloc, Code::M37, place)?;
     assert_eq!(rt; text.as_str(), "M37 task[2].runnable[0].reads[13]");
-    let top = Refusal {
-        code: Code::M1,
-        place: Place::top(),
-    };
-    let text = format!(in rt.alloc(); "{top}")?;
+    let text = printed(alloc, Code::M1, Place::top())?;
     assert_eq!(rt; text.as_str(), "M1 top");
     Ok(())
 }

@@ -1,49 +1,73 @@
 //! Shelves and sinks in memory, and the words of a command.
-use cl_io::{
-    FetchFault, MemShelf, MemSink, Shelf, Sink, SinkFault, SureShelf, SureSink, Words, WriteFault,
-    write_all,
-};
+use cl_io::{MemShelf, MemSink, Shelf, Sink, SinkFault, SureShelf, SureSink, Words, write_all};
+use cl_time::NoMemory;
+use std::alloc::Global;
 use std::test::Fail;
+
+/// What a fetch gives: the text, or the fault.
+fn fetched<S: Shelf>(
+    alloc: Global,
+    shelf: &mut S,
+    name: &str,
+    limit: u64,
+) -> Result<String, NoMemory> {
+    match shelf.fetch(alloc, name, limit) {
+        Ok(bytes) => Ok(String::from_utf8_lossy(alloc, bytes.as_slice())?),
+        Err(fault) => Ok(format!(in alloc; "{fault:?}")?),
+    }
+}
+
+/// What the fetches of these names give, each up to its limit.
+fn all_fetched<S: Shelf>(
+    alloc: Global,
+    shelf: &mut S,
+    asked: &[(&str, u64)],
+) -> Result<String, NoMemory> {
+    let mut text = String::new(alloc);
+    for (name, limit) in asked {
+        text.push_str(&fetched(alloc, shelf, name, *limit)?)?;
+        text.push_str("; ")?;
+    }
+    Ok(text)
+}
+
+/// Puts a file, and another in its place.
+fn put_twice(shelf: &mut MemShelf) -> Result<(), NoMemory> {
+    shelf.put("model", b"first")?;
+    shelf.put("model", b"in its place")
+}
 
 #[test]
 fn a_shelf_holds_what_was_put_last(rt: HostRuntime) -> Result<(), Fail> {
     let alloc = rt.alloc();
     let mut shelf = MemShelf::new(alloc);
-    shelf.put("model", b"first")?;
-    shelf.put("model", b"in its place")?;
-    assert_eq!(rt;
-        shelf.fetch(alloc, "model", 12)?.as_slice(),
-        b"in its place".as_slice()
-    );
-    assert_eq!(rt;
-        shelf.fetch(alloc, "model", 11).err(),
-        Some(FetchFault::Long { taken: 12 })
-    );
-    assert_eq!(rt;
-        shelf.fetch(alloc, "trace", 12).err(),
-        Some(FetchFault::Failed)
-    );
+    put_twice(&mut shelf)?;
+    let text = all_fetched(
+        alloc,
+        &mut shelf,
+        &[("model", 12), ("model", 11), ("trace", 12)],
+    )?;
+    assert_eq!(rt; text.as_str(), "in its place; Long { taken: 12 }; Failed; ");
     Ok(())
+}
+
+/// Puts a file, whose second fetch fails.
+fn put_failing(shelf: &mut MemShelf) -> Result<(), NoMemory> {
+    shelf.put("model", b"bytes")?;
+    shelf.fail_call(1)
 }
 
 #[test]
 fn a_shelf_fails_where_it_is_told_to(rt: HostRuntime) -> Result<(), Fail> {
     let alloc = rt.alloc();
     let mut shelf = MemShelf::new(alloc);
-    shelf.put("model", b"bytes")?;
-    shelf.fail_call(1)?;
-    assert_eq!(rt;
-        shelf.fetch(alloc, "model", 5)?.as_slice(),
-        b"bytes".as_slice()
-    );
-    assert_eq!(rt;
-        shelf.fetch(alloc, "model", 5).err(),
-        Some(FetchFault::Failed)
-    );
-    assert_eq!(rt;
-        shelf.fetch(alloc, "model", 5)?.as_slice(),
-        b"bytes".as_slice()
-    );
+    put_failing(&mut shelf)?;
+    let text = all_fetched(
+        alloc,
+        &mut shelf,
+        &[("model", 5), ("model", 5), ("model", 5)],
+    )?;
+    assert_eq!(rt; text.as_str(), "bytes; Failed; bytes; ");
     Ok(())
 }
 
@@ -52,45 +76,51 @@ fn a_sure_shelf_holds_an_empty_file_under_other_names(rt: HostRuntime) -> Result
     let alloc = rt.alloc();
     let mut shelf = SureShelf::new(alloc);
     shelf.put("model", b"bytes")?;
-    assert_eq!(rt;
-        shelf.fetch(alloc, "model", 5)?.as_slice(),
-        b"bytes".as_slice()
-    );
-    assert_eq!(rt;
-        shelf.fetch(alloc, "model", 4).err(),
-        Some(FetchFault::Long { taken: 5 })
-    );
-    assert_eq!(rt; shelf.fetch(alloc, "trace", 0)?.as_slice(), b"".as_slice());
+    let text = all_fetched(
+        alloc,
+        &mut shelf,
+        &[("model", 5), ("model", 4), ("trace", 0)],
+    )?;
+    assert_eq!(rt; text.as_str(), "bytes; Long { taken: 5 }; ; ");
     Ok(())
+}
+
+/// What is answered to each piece, and what the sink has taken by then.
+fn all_written(alloc: Global, sink: &mut MemSink, pieces: &[&[u8]]) -> Result<String, NoMemory> {
+    let mut text = String::new(alloc);
+    for piece in pieces {
+        let answer = write_all(sink, piece);
+        text.push_str(&format!(in alloc; "{answer:?} ")?)?;
+        text.push_str(&String::from_utf8_lossy(alloc, sink.bytes())?)?;
+        text.push_str("; ")?;
+    }
+    Ok(text)
 }
 
 #[test]
 fn a_piece_is_written_whole_in_steps(rt: HostRuntime) -> Result<(), Fail> {
     let alloc = rt.alloc();
     let mut sink = MemSink::new(alloc, 14, 3)?;
-    write_all(&mut sink, b"eleven byte")?;
-    assert_eq!(rt; sink.bytes(), b"eleven byte".as_slice());
-    assert_eq!(rt;
-        write_all(&mut sink, b"more").err(),
-        Some(WriteFault::Failed { written: 3 })
-    );
-    assert_eq!(rt; sink.bytes(), b"eleven bytemor".as_slice());
+    let text = all_written(alloc, &mut sink, &[b"eleven byte", b"more"])?;
+    let wanted = "Ok(()) eleven byte; Err(Failed { written: 3 }) eleven bytemor; ";
+    assert_eq!(rt; text.as_str(), wanted);
     assert_eq!(rt; sink.write(b"").err(), Some(SinkFault::Failed));
     Ok(())
+}
+
+/// What a sink takes whose third write fails.
+fn failing(alloc: Global, sink: &mut MemSink) -> Result<String, NoMemory> {
+    sink.fail_call(2)?;
+    all_written(alloc, sink, &[b"twelve bytes", b"ytes"])
 }
 
 #[test]
 fn a_sink_fails_where_it_is_told_to(rt: HostRuntime) -> Result<(), Fail> {
     let alloc = rt.alloc();
     let mut sink = MemSink::new(alloc, 64, 4)?;
-    sink.fail_call(2)?;
-    assert_eq!(rt;
-        write_all(&mut sink, b"twelve bytes").err(),
-        Some(WriteFault::Failed { written: 8 })
-    );
-    assert_eq!(rt; sink.bytes(), b"twelve b".as_slice());
-    write_all(&mut sink, b"ytes")?;
-    assert_eq!(rt; sink.bytes(), b"twelve bytes".as_slice());
+    let text = failing(alloc, &mut sink)?;
+    let wanted = "Err(Failed { written: 8 }) twelve b; Ok(()) twelve bytes; ";
+    assert_eq!(rt; text.as_str(), wanted);
     Ok(())
 }
 
@@ -103,15 +133,25 @@ fn a_sure_sink_counts_what_it_takes(rt: HostRuntime) -> Result<(), Fail> {
     Ok(())
 }
 
+/// Pushes a word, and an empty one.
+fn push_two(words: &mut Words) -> Result<(), NoMemory> {
+    words.push("analyse")?;
+    words.push("")
+}
+
+/// How many words there are, and the first three.
+fn words_text(alloc: Global, words: &Words) -> Result<String, NoMemory> {
+    let (first, second, third) = (words.at(0), words.at(1), words.at(2));
+    Ok(format!(in alloc; "{} {first:?} {second:?} {third:?}", words.len())?)
+}
+
 #[test]
 fn words_are_kept_in_order(rt: HostRuntime) -> Result<(), Fail> {
-    let mut words = Words::new(rt.alloc());
+    let alloc = rt.alloc();
+    let mut words = Words::new(alloc);
     assert!(rt; words.is_empty());
-    words.push("analyse")?;
-    words.push("")?;
-    assert_eq!(rt; words.len(), 2);
-    assert_eq!(rt; words.at(0), Some("analyse"));
-    assert_eq!(rt; words.at(1), Some(""));
-    assert_eq!(rt; words.at(2), None);
+    push_two(&mut words)?;
+    let text = words_text(alloc, &words)?;
+    assert_eq!(rt; text.as_str(), "2 Some(\"analyse\") Some(\"\") None");
     Ok(())
 }

@@ -1,5 +1,6 @@
 //! The reading of model files.
 use cl_read::{ReadFault, read_model};
+use cl_time::NoMemory;
 use std::alloc::{AllocError, Global};
 use std::test::Fail;
 
@@ -105,50 +106,60 @@ fn refuses_texts_that_are_no_document(rt: HostRuntime) -> Result<(), Fail> {
     Ok(())
 }
 
+/// What stands behind the first line, and what the text is refused for.
+const FAULTS: [(&str, &str); 10] = [
+    ("version = 3\n", "M3 top.version"),
+    ("version = 1\ncolour = 1\n", "M4 top"),
+    ("version = 1\ncore = 5\n", "M6 core"),
+    ("version = 1\ncore = [7]\n", "M6 core[0]"),
+    ("version = 1\n[[core]]\n", "M5 core[0].name"),
+    ("version = 1\n[[core]]\nname = \"a b\"\n", "M7 core[0].name"),
+    (
+        "version = 1\n[[stimulus]]\nname = \"s\"\nkind = \"aperiodic\"\n",
+        "M9 stimulus[0].kind",
+    ),
+    (
+        "version = 1\n[[stimulus]]\nname = \"s\"\nkind = \"periodic\"\nperiod = 0\n",
+        "M8 stimulus[0].period",
+    ),
+    (
+        "version = 1\n[[stimulus]]\nname = \"s\"\nkind = \"sporadic\"\nperiod = 0\n",
+        "M4 stimulus[0]",
+    ),
+    (
+        "version = 1\n[[chain]]\nname = \"k\"\nlabels = [\"x\", 4]\n",
+        "M6 chain[0].labels[1]",
+    ),
+];
+
+/// The answer to a text of this behind its first line.
+fn answer_behind(alloc: Global, rest: &str) -> Result<String, AllocError> {
+    let text = format!(in alloc; "format = \"chainlat\"\n{rest}")?;
+    answer(alloc, text.as_str().as_bytes())
+}
+
 #[test]
 fn refuses_with_the_first_fault(rt: HostRuntime) -> Result<(), Fail> {
-    let alloc = rt.alloc();
-    for (rest, wanted) in [
-        ("version = 3\n", "M3 top.version"),
-        ("version = 1\ncolour = 1\n", "M4 top"),
-        ("version = 1\ncore = 5\n", "M6 core"),
-        ("version = 1\ncore = [7]\n", "M6 core[0]"),
-        ("version = 1\n[[core]]\n", "M5 core[0].name"),
-        ("version = 1\n[[core]]\nname = \"a b\"\n", "M7 core[0].name"),
-        (
-            "version = 1\n[[stimulus]]\nname = \"s\"\nkind = \"aperiodic\"\n",
-            "M9 stimulus[0].kind",
-        ),
-        (
-            "version = 1\n[[stimulus]]\nname = \"s\"\nkind = \"periodic\"\nperiod = 0\n",
-            "M8 stimulus[0].period",
-        ),
-        (
-            "version = 1\n[[stimulus]]\nname = \"s\"\nkind = \"sporadic\"\nperiod = 0\n",
-            "M4 stimulus[0]",
-        ),
-        (
-            "version = 1\n[[chain]]\nname = \"k\"\nlabels = [\"x\", 4]\n",
-            "M6 chain[0].labels[1]",
-        ),
-    ] {
-        let text = format!(in alloc; "format = \"chainlat\"\n{rest}")?;
-        assert_eq!(rt; answer(alloc, text.as_str().as_bytes())?.as_str(), wanted);
+    for (rest, wanted) in FAULTS {
+        let found = answer_behind(rt.alloc(), rest)?;
+        assert_eq!(rt; found.as_str(), wanted);
     }
     Ok(())
 }
 
+/// A version and 65 cores.
+fn many_cores(alloc: Global) -> Result<String, NoMemory> {
+    let mut text = String::from_str(alloc, "version = 1\n")?;
+    for number in 0..65u8 {
+        text.push_str(&format!(in alloc; "[[core]]\nname = \"c{number}\"\n")?)?;
+    }
+    Ok(text)
+}
+
 #[test]
 fn refuses_too_many_cores(rt: HostRuntime) -> Result<(), Fail> {
-    let alloc = rt.alloc();
-    let mut text = String::from_str(alloc, "format = \"chainlat\"\nversion = 1\n")?;
-    for i in 0..65u8 {
-        let core = format!(in alloc; "[[core]]\nname = \"c{i}\"\n")?;
-        text.push_str(core.as_str())?;
-    }
-    assert_eq!(rt;
-        answer(alloc, text.as_str().as_bytes())?.as_str(),
-        "M10 core"
-    );
+    let cores = many_cores(rt.alloc())?;
+    let found = answer_behind(rt.alloc(), cores.as_str())?;
+    assert_eq!(rt; found.as_str(), "M10 core");
     Ok(())
 }

@@ -1,69 +1,90 @@
 //! Whether models are in range and valid.
-use cl_model::{Code, CoreDef, Key, List, MOST_CORES, Name, Part, SystemModel};
+ghost use Rattle.cl_model.specs.Ranges.{IsInRange};
+
+use cl_model::{CoreDef, List, MOST_CORES, Name, SystemModel};
 use cl_valid::{ValidFault, in_range, validate};
-use std::alloc::Global;
+use std::alloc::{AllocError, Global};
 use std::test::Fail;
 
-/// A model of cores of these names, and of nothing else.
-fn model_of_cores(alloc: Global, names: &[&str]) -> Result<SystemModel, Fail> {
+fn core(word: &str) -> Result<CoreDef, Fail> {
+    let name = Name::read(word.as_bytes()).ok_or("a name")?;
+    Ok(CoreDef { name })
+}
+
+/// Cores of these names.
+fn cores_of(alloc: Global, names: &[&str]) -> Result<List<CoreDef>, Fail> {
     let mut cores = List::new(alloc);
     for word in names {
-        let name = Name::read(word.as_bytes()).ok_or("a name")?;
-        cores.push(CoreDef { name })?;
+        cores.push(core(word)?)?;
     }
-    Ok(SystemModel {
+    Ok(cores)
+}
+
+/// So many cores of one name.
+fn equal_cores(alloc: Global, count: usize) -> Result<List<CoreDef>, Fail> {
+    let mut cores = List::new(alloc);
+    for _ in 0..count {
+        cores.push(core("c")?)?;
+    }
+    Ok(cores)
+}
+
+/// A model of cores, and of nothing else.
+fn model_of(alloc: Global, cores: List<CoreDef>) -> SystemModel {
+    SystemModel {
         cores,
         stimuli: List::new(alloc),
         labels: List::new(alloc),
         tasks: List::new(alloc),
         chains: List::new(alloc),
         requirements: List::new(alloc),
-    })
+    }
+}
+
+/// How many cores the valid model has, or how many come back, and the refusal.
+fn checked(alloc: Global, model: SystemModel) -> Result<String, AllocError>
+    requires { IsInRange model }
+{
+    match validate(alloc, model) {
+        Ok(valid) => format!(in alloc; "{} cores", valid.cores()),
+        Err((model, ValidFault::Refused(refusal))) => {
+            format!(in alloc; "{} cores back, {refusal}", model.cores.len())
+        }
+        Err((_, ValidFault::NoMemory)) => format!(in alloc; "no memory"),
+    }
+}
+
+/// The same of a model of cores, where it is in range.
+fn answer(alloc: Global, cores: List<CoreDef>) -> Result<String, AllocError> {
+    let model = model_of(alloc, cores);
+    if !in_range(&model) {
+        return format!(in alloc; "out of range");
+    }
+    checked(alloc, model)
 }
 
 #[test]
 fn a_valid_model_is_taken(rt: HostRuntime) -> Result<(), Fail> {
     let alloc = rt.alloc();
-    let model = model_of_cores(alloc, &["c0", "c1"])?;
-    assert!(rt; in_range(&model));
-    match validate(alloc, model) {
-        Ok(valid) => assert_eq!(rt; valid.cores(), 2),
-        Err(_) => assert!(rt; false, "it is valid"),
-    }
+    let found = answer(alloc, cores_of(alloc, &["c0", "c1"])?)?;
+    assert_eq!(rt; found.as_str(), "2 cores");
     Ok(())
 }
 
 #[test]
 fn a_refused_model_comes_back(rt: HostRuntime) -> Result<(), Fail> {
     let alloc = rt.alloc();
-    let model = model_of_cores(alloc, &["c0", "c1", "c0"])?;
-    assert!(rt; in_range(&model));
-    let Err((model, fault)) = validate(alloc, model) else {
-        return Err(Fail::from("a core is named twice"));
-    };
-    assert_eq!(rt; model.cores.len(), 3);
-    let ValidFault::Refused(refusal) = fault else {
-        return Err(Fail::from("there is memory"));
-    };
-    assert_eq!(rt; refusal.code, Code::M20);
-    assert_eq!(rt;
-        refusal.place,
-        Part::Core.section_place().at_item(2).at_key(Key::Name)
-    );
+    let found = answer(alloc, cores_of(alloc, &["c0", "c1", "c0"])?)?;
+    assert_eq!(rt; found.as_str(), "3 cores back, M20 core[2].name");
     Ok(())
 }
 
 #[test]
 fn a_model_with_too_many_cores_is_out_of_range(rt: HostRuntime) -> Result<(), Fail> {
     let alloc = rt.alloc();
-    let mut model = model_of_cores(alloc, &[])?;
-    for _ in 0..MOST_CORES {
-        let name = Name::read(b"c").ok_or("a name")?;
-        model.cores.push(CoreDef { name })?;
-    }
-    assert!(rt; in_range(&model));
-    let name = Name::read(b"c").ok_or("a name")?;
-    model.cores.push(CoreDef { name })?;
-    assert!(rt; !in_range(&model));
+    let found = answer(alloc, equal_cores(alloc, MOST_CORES)?)?;
+    assert_eq!(rt; found.as_str(), "64 cores back, M20 core[1].name");
+    let found = answer(alloc, equal_cores(alloc, MOST_CORES + 1)?)?;
+    assert_eq!(rt; found.as_str(), "out of range");
     Ok(())
 }

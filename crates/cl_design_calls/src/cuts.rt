@@ -1,9 +1,10 @@
-//! The best cuts of chains.
+//! The best cuts of chains, as they print.
 ghost use Rattle.std.specs.Prelude.{◌≡◌, ◌<◌};
+ghost use Rattle.cl_analyse.specs.Findings.{AreFindings};
 
-use cl_analyse::analyse;
-use cl_cut::{CutAnswer, best_cut, best_cuts};
-use cl_model::{List, ValidModel};
+use cl_analyse::{Findings, analyse};
+use cl_cut::{best_cut, best_cuts};
+use cl_model::ValidModel;
 use cl_read::read_model;
 use cl_time::Steps;
 use cl_valid::validate;
@@ -63,72 +64,106 @@ fn valid(alloc: Global, text: &str) -> Result<ValidModel, Fail> {
     }
 }
 
-fn counted<L: Ledger>(
-    blank: Blank,
+/// What is asked of a model.
+#[derive(Clone, Copy)]
+enum Asked {
+    OneChain { chain: u32 },
+    AllChains,
+}
+
+/// The best cut of a chain.
+fn one_cut<L: Ledger>(
     alloc: Global,
     model: &ValidModel,
+    findings: &Findings,
     chain: u32,
-) -> Result<CutAnswer, Fail>
-    requires name { blank.name ≡ L.name }
-    requires parts { blank.parts ≡ L.parts }
-    requires a_part { 0 < blank.parts }
+    steps: &mut Steps<L>,
+) -> Result<String, Fail>
+    requires { AreFindings model.now findings.now }
 {
     if chain >= model.chains() {
         return Err(Fail::from("there is such a chain"));
     }
-    let mut steps = Steps::<L>::open(blank);
-    let findings = analyse(alloc, model, &mut steps)?;
-    Ok(best_cut(alloc, model, &findings, chain, &mut steps)?)
+    let answer = best_cut(alloc, model, findings, chain, steps)?;
+    Ok(format!(in alloc; "{answer:?}")?)
 }
 
-fn cut(alloc: Global, model: &ValidModel, chain: u32) -> Result<CutAnswer, Fail> {
-    counted::<Brand>(Blank::new(1), alloc, model, chain)
+/// The best cuts of all chains.
+fn all_cuts<L: Ledger>(
+    alloc: Global,
+    model: &ValidModel,
+    findings: &Findings,
+    steps: &mut Steps<L>,
+) -> Result<String, Fail>
+    requires { AreFindings model.now findings.now }
+{
+    let answers = best_cuts(alloc, model, findings, steps)?;
+    Ok(format!(in alloc; "{answers:?}")?)
 }
 
-fn all_counted<L: Ledger>(
+/// What is found of the cuts of a model.
+fn found_by<L: Ledger>(
+    alloc: Global,
+    model: &ValidModel,
+    asked: Asked,
+    steps: &mut Steps<L>,
+) -> Result<String, Fail> {
+    let findings = analyse(alloc, model, steps)?;
+    match asked {
+        Asked::OneChain { chain } => one_cut(alloc, model, &findings, chain, steps),
+        Asked::AllChains => all_cuts(alloc, model, &findings, steps),
+    }
+}
+
+fn counted<L: Ledger>(
     blank: Blank,
     alloc: Global,
     model: &ValidModel,
-) -> Result<List<CutAnswer>, Fail>
+    asked: Asked,
+) -> Result<String, Fail>
     requires name { blank.name ≡ L.name }
     requires parts { blank.parts ≡ L.parts }
     requires a_part { 0 < blank.parts }
 {
     let mut steps = Steps::<L>::open(blank);
-    let findings = analyse(alloc, model, &mut steps)?;
-    Ok(best_cuts(alloc, model, &findings, &mut steps)?)
+    found_by(alloc, model, asked, &mut steps)
 }
 
-fn all_cuts(alloc: Global, model: &ValidModel) -> Result<List<CutAnswer>, Fail> {
-    all_counted::<Brand>(Blank::new(1), alloc, model)
+fn found_in(alloc: Global, model: &ValidModel, asked: Asked) -> Result<String, Fail> {
+    counted::<Brand>(Blank::new(1), alloc, model, asked)
 }
 
-/// Whether the best cut has this cost and pieces that begin with these groups.
-fn is_cut(answer: &CutAnswer, cost: u64, firsts: &[u32]) -> bool {
-    match answer {
-        CutAnswer::Cut { bound, pieces } => *bound == cost && pieces.as_slice() == firsts,
-        CutAnswer::Late { .. } => false,
-    }
+/// The same, of the model of these tests.
+fn found(alloc: Global, asked: Asked) -> Result<String, Fail> {
+    let model = valid(alloc, THREE)?;
+    found_in(alloc, &model, asked)
+}
+
+#[test]
+fn a_chain_may_cost_least_in_one_piece(rt: HostRuntime) -> Result<(), Fail> {
+    let cut = found(rt.alloc(), Asked::OneChain { chain: 0 })?;
+    assert_eq!(rt;
+        cut.as_str(),
+        "Cut { bound: 45, pieces: List { items: [0] } }"
+    );
+    Ok(())
 }
 
 #[test]
 fn a_cut_into_two_is_better_than_the_whole(rt: HostRuntime) -> Result<(), Fail> {
-    let alloc = rt.alloc();
-    let model = valid(alloc, THREE)?;
-    assert!(rt; is_cut(&cut(alloc, &model, 0)?, 45, &[0]));
-    assert!(rt; is_cut(&cut(alloc, &model, 1)?, 55, &[0, 2]));
+    let cut = found(rt.alloc(), Asked::OneChain { chain: 1 })?;
+    assert_eq!(rt;
+        cut.as_str(),
+        "Cut { bound: 55, pieces: List { items: [0, 2] } }"
+    );
     Ok(())
 }
 
 #[test]
 fn all_chains_are_cut_at_once(rt: HostRuntime) -> Result<(), Fail> {
-    let alloc = rt.alloc();
-    let model = valid(alloc, THREE)?;
-    let answers = all_cuts(alloc, &model)?;
-    let [first, second] = answers.as_slice() else {
-        return Err(Fail::from("there is one answer a chain"));
-    };
-    assert!(rt; is_cut(first, 45, &[0]));
-    assert!(rt; is_cut(second, 55, &[0, 2]));
+    let cuts = found(rt.alloc(), Asked::AllChains)?;
+    let wanted = "List { items: [Cut { bound: 45, pieces: List { items: [0] } }, \
+        Cut { bound: 55, pieces: List { items: [0, 2] } }] }";
+    assert_eq!(rt; cuts.as_str(), wanted);
     Ok(())
 }

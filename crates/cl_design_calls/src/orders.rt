@@ -3,8 +3,8 @@ ghost use Rattle.std.specs.Prelude.{◌≡◌, ◌<◌};
 
 use cl_model::ValidModel;
 use cl_read::read_model;
-use cl_time::{NoMemory, Steps};
-use cl_tune::{OrderAnswer, headroom, order};
+use cl_time::Steps;
+use cl_tune::{headroom, order};
 use cl_valid::validate;
 use std::alloc::Global;
 use std::marker::Brand;
@@ -34,9 +34,8 @@ access = "implicit"
 runnable = [{ name = "b", least = 4, greatest = 5 }]
 "#;
 
-/// The valid model of the text, where this stands in the place of that.
-fn changed(alloc: Global, old: &str, new: &str) -> Result<ValidModel, Fail> {
-    let text = ONE.replacen(alloc, old, new, 1)?;
+/// The valid model of a text.
+fn valid(alloc: Global, text: &str) -> Result<ValidModel, Fail> {
     let model = read_model(alloc, text.as_bytes())?;
     match validate(alloc, model) {
         Ok(model) => Ok(model),
@@ -44,74 +43,102 @@ fn changed(alloc: Global, old: &str, new: &str) -> Result<ValidModel, Fail> {
     }
 }
 
-fn counted_order<L: Ledger>(
+/// What is asked of a model.
+#[derive(Clone, Copy)]
+enum Asked {
+    Order,
+    Headroom,
+}
+
+/// The best order, as it prints.
+fn ordered<L: Ledger>(
+    alloc: Global,
+    model: &ValidModel,
+    steps: &mut Steps<L>,
+) -> Result<String, Fail> {
+    let answer = order(alloc, model, steps)?;
+    Ok(format!(in alloc; "{answer:?}")?)
+}
+
+/// The headroom, as it prints.
+fn grown<L: Ledger>(
+    alloc: Global,
+    model: &ValidModel,
+    steps: &mut Steps<L>,
+) -> Result<String, Fail> {
+    let percent = headroom(alloc, model, steps)?;
+    Ok(format!(in alloc; "{percent:?}")?)
+}
+
+fn counted<L: Ledger>(
     blank: Blank,
     alloc: Global,
     model: &ValidModel,
-) -> Result<OrderAnswer, NoMemory>
+    asked: Asked,
+) -> Result<String, Fail>
     requires name { blank.name ≡ L.name }
     requires parts { blank.parts ≡ L.parts }
     requires a_part { 0 < blank.parts }
 {
     let mut steps = Steps::<L>::open(blank);
-    order(alloc, model, &mut steps)
-}
-
-fn ordered(alloc: Global, model: &ValidModel) -> Result<OrderAnswer, NoMemory> {
-    counted_order::<Brand>(Blank::new(1), alloc, model)
-}
-
-fn counted_headroom<L: Ledger>(
-    blank: Blank,
-    alloc: Global,
-    model: &ValidModel,
-) -> Result<Option<u64>, NoMemory>
-    requires name { blank.name ≡ L.name }
-    requires parts { blank.parts ≡ L.parts }
-    requires a_part { 0 < blank.parts }
-{
-    let mut steps = Steps::<L>::open(blank);
-    headroom(alloc, model, &mut steps)
-}
-
-fn grown(alloc: Global, model: &ValidModel) -> Result<Option<u64>, NoMemory> {
-    counted_headroom::<Brand>(Blank::new(1), alloc, model)
-}
-
-/// Whether the best order gives the two tasks these priorities.
-fn is_order(answer: &OrderAnswer, first: u64, second: u64) -> bool {
-    match answer {
-        OrderAnswer::Order { priorities } => {
-            priorities.len() == 2
-                && priorities.at(0) == Some(&first)
-                && priorities.at(1) == Some(&second)
-        }
-        OrderAnswer::NoOrder { .. } => false,
+    match asked {
+        Asked::Order => ordered(alloc, model, &mut steps),
+        Asked::Headroom => grown(alloc, model, &mut steps),
     }
+}
+
+fn found_in(alloc: Global, model: &ValidModel, asked: Asked) -> Result<String, Fail> {
+    counted::<Brand>(Blank::new(1), alloc, model, asked)
+}
+
+/// What is found of the model of a text.
+fn found_of(alloc: Global, text: &str, asked: Asked) -> Result<String, Fail> {
+    let model = valid(alloc, text)?;
+    found_in(alloc, &model, asked)
+}
+
+/// The same, of the text of these tests, where this stands in the place of that.
+fn found(alloc: Global, old: &str, new: &str, asked: Asked) -> Result<String, Fail> {
+    let text = ONE.replacen(alloc, old, new, 1)?;
+    found_of(alloc, text.as_str(), asked)
 }
 
 #[test]
 fn the_first_task_that_fits_stands_at_the_bottom(rt: HostRuntime) -> Result<(), Fail> {
-    let alloc = rt.alloc();
-    let model = changed(alloc, "", "")?;
-    assert!(rt; is_order(&ordered(alloc, &model)?, 1, 2));
-    assert_eq!(rt; grown(alloc, &model)?, Some(199));
+    let answer = found(rt.alloc(), "", "", Asked::Order)?;
+    assert_eq!(rt;
+        answer.as_str(),
+        "Order { priorities: List { items: [1, 2] } }"
+    );
+    Ok(())
+}
+
+#[test]
+fn execution_times_may_grow(rt: HostRuntime) -> Result<(), Fail> {
+    let percent = found(rt.alloc(), "", "", Asked::Headroom)?;
+    assert_eq!(rt; percent.as_str(), "Some(199)");
     Ok(())
 }
 
 #[test]
 fn a_short_deadline_stands_above(rt: HostRuntime) -> Result<(), Fail> {
     let alloc = rt.alloc();
-    let model = changed(alloc, "priority = 2", "priority = 2\ndeadline = 7")?;
-    assert!(rt; is_order(&ordered(alloc, &model)?, 2, 1));
+    let answer = found(
+        alloc,
+        "priority = 2",
+        "priority = 2\ndeadline = 7",
+        Asked::Order,
+    )?;
+    assert_eq!(rt;
+        answer.as_str(),
+        "Order { priorities: List { items: [2, 1] } }"
+    );
     Ok(())
 }
 
 #[test]
 fn a_core_that_is_too_full_has_no_order(rt: HostRuntime) -> Result<(), Fail> {
-    let alloc = rt.alloc();
-    let model = changed(alloc, "period = 10", "period = 2")?;
-    let none = matches!(ordered(alloc, &model)?, OrderAnswer::NoOrder { core: 0 });
-    assert!(rt; none);
+    let answer = found(rt.alloc(), "period = 10", "period = 2", Asked::Order)?;
+    assert_eq!(rt; answer.as_str(), "NoOrder { core: 0 }");
     Ok(())
 }

@@ -85,16 +85,6 @@ pub(crate) fn valid(alloc: Global, text: &str) -> Result<ValidModel, Fail> {
     }
 }
 
-/// The valid model of a changed text.
-pub(crate) fn valid_with(
-    alloc: Global,
-    base: &str,
-    changes: &[Change],
-) -> Result<ValidModel, Fail> {
-    let text = changed(alloc, base, changes)?;
-    valid(alloc, text.as_str())
-}
-
 pub(crate) fn name(word: &str) -> Result<Name, Fail> {
     Ok(Name::read(word.as_bytes()).ok_or("not a name")?)
 }

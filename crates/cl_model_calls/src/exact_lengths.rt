@@ -1,49 +1,81 @@
 //! Exact lengths of two timed tasks, as they are in the tables of the definitions, and the limit on them.
 ghost use Rattle.std.specs.Prelude.{◌≡◌, ◌<◌};
 
-use crate::base::{Change, TIMED, valid_with};
+use crate::base::{Change, TIMED, changed, valid};
 use cl_exact::{ExactLengths, HyperLimit, Witness, exact, is_timed_periodic};
 use cl_model::ValidModel;
-use cl_time::Steps;
+use cl_time::{NoMemory, Steps};
 use std::alloc::Global;
 use std::marker::Brand;
 use std::sync::ledger::{Blank, Ledger};
 use std::test::Fail;
 
-/// The exact lengths of the first chain, where it has some.
-fn counted<L: Ledger>(blank: Blank, model: &ValidModel) -> Option<Result<ExactLengths, HyperLimit>>
+/// Puts the length of a witness, its moments and its jobs, on a line.
+fn put_witness(text: &mut String, alloc: Global, witness: &Witness) -> Result<(), NoMemory> {
+    let moments = format!(in alloc;
+        "{} from {} to {} jobs",
+        witness.length, witness.from, witness.to
+    )?;
+    text.push_str(&moments)?;
+    for job in witness.jobs.as_slice() {
+        text.push_str(&format!(in alloc; " {job}")?)?;
+    }
+    Ok(text.push_str("\n")?)
+}
+
+/// The exact reaction, the exact age and the exact reduced age.
+fn spelled(alloc: Global, lengths: &ExactLengths) -> Result<String, NoMemory> {
+    let mut text = String::new(alloc);
+    put_witness(&mut text, alloc, lengths.reaction())?;
+    put_witness(&mut text, alloc, lengths.age())?;
+    put_witness(&mut text, alloc, lengths.reduced())?;
+    Ok(text)
+}
+
+/// The same, of a copy.
+fn spelled_by_copy(alloc: Global, lengths: &ExactLengths) -> Result<String, NoMemory> {
+    let copy = lengths.copy();
+    spelled(alloc, &copy)
+}
+
+/// The exact lengths of the first chain, or why it has none.
+fn exact_by<L: Ledger>(
+    alloc: Global,
+    model: &ValidModel,
+    steps: &mut Steps<L>,
+) -> Result<String, NoMemory> {
+    if model.chains() == 0 || !is_timed_periodic(model, 0) {
+        return Ok(String::from_str(alloc, "not timed and periodic")?);
+    }
+    match exact(model, 0, steps) {
+        Ok(lengths) => spelled_by_copy(alloc, &lengths),
+        Err(HyperLimit { limit }) => Ok(format!(in alloc; "past {limit}")?),
+    }
+}
+
+fn counted<L: Ledger>(blank: Blank, alloc: Global, model: &ValidModel) -> Result<String, NoMemory>
     requires name { blank.name ≡ L.name }
     requires parts { blank.parts ≡ L.parts }
     requires a_part { 0 < blank.parts }
 {
     let mut steps = Steps::<L>::open(blank);
-    if model.chains() > 0 && is_timed_periodic(model, 0) {
-        Some(exact(model, 0, &mut steps))
-    } else {
-        None
-    }
+    exact_by(alloc, model, &mut steps)
 }
 
-fn answer(model: &ValidModel) -> Option<Result<ExactLengths, HyperLimit>> {
-    counted::<Brand>(Blank::new(1), model)
+fn exact_in(alloc: Global, model: &ValidModel) -> Result<String, NoMemory> {
+    counted::<Brand>(Blank::new(1), alloc, model)
 }
 
-/// The exact lengths of the two timed tasks with these changes.
-fn exact_of(alloc: Global, changes: &[Change]) -> Result<ExactLengths, Fail> {
-    let model = valid_with(alloc, TIMED, changes)?;
-    match answer(&model) {
-        Some(Ok(lengths)) => Ok(lengths.copy()),
-        Some(Err(_)) => Err(Fail::from("it is within the limit")),
-        None => Err(Fail::from("it is timed and periodic")),
-    }
+/// The same, of the model of a text.
+fn exact_of(alloc: Global, text: &str) -> Result<String, Fail> {
+    let model = valid(alloc, text)?;
+    Ok(exact_in(alloc, &model)?)
 }
 
-/// Whether a witness is of this length, from and to these moments, through these jobs.
-fn is(witness: &Witness, length: u64, from: u64, to: u64, jobs: &[u64]) -> bool {
-    witness.length == length
-        && witness.from == from
-        && witness.to == to
-        && witness.jobs.as_slice() == jobs
+/// The same, of the two timed tasks with these changes.
+fn exact_with(alloc: Global, changes: &[Change]) -> Result<String, Fail> {
+    let text = changed(alloc, TIMED, changes)?;
+    exact_of(alloc, text.as_str())
 }
 
 const FIRST: &str = "period = 10";
@@ -58,94 +90,86 @@ const HOPS: &str = r#"labels = ["x"]"#;
 
 #[test]
 fn of_two_timed_tasks(rt: HostRuntime) -> Result<(), Fail> {
-    let lengths = exact_of(rt.alloc(), &[])?;
-    assert!(rt; is(lengths.reaction(), 45, 30, 75, &[4, 4]));
-    assert!(rt; is(lengths.age(), 45, 60, 105, &[6, 5]));
-    assert!(rt; is(lengths.reduced(), 30, 60, 90, &[6, 5]));
+    let lengths = exact_with(rt.alloc(), &[])?;
+    let wanted =
+        "45 from 30 to 75 jobs 4 4\n45 from 60 to 105 jobs 6 5\n30 from 60 to 90 jobs 6 5\n";
+    assert_eq!(rt; lengths.as_str(), wanted);
     Ok(())
 }
 
 #[test]
-fn of_offsets(rt: HostRuntime) -> Result<(), Fail> {
-    let second = exact_of(rt.alloc(), &[(SECOND, "period = 15, offset = 7")])?;
-    assert!(rt; is(second.reaction(), 47, 20, 67, &[3, 3]));
-    assert!(rt; is(second.age(), 47, 50, 97, &[5, 4]));
-    assert!(rt; is(second.reduced(), 32, 50, 82, &[5, 4]));
-    let first = exact_of(rt.alloc(), &[(FIRST, "period = 10, offset = 3")])?;
-    assert!(rt; is(first.reaction(), 47, 13, 60, &[2, 3]));
-    assert!(rt; is(first.age(), 47, 43, 90, &[4, 4]));
-    assert!(rt; is(first.reduced(), 32, 43, 75, &[4, 4]));
+fn of_a_later_writer(rt: HostRuntime) -> Result<(), Fail> {
+    let lengths = exact_with(rt.alloc(), &[(FIRST, "period = 10, offset = 3")])?;
+    let wanted =
+        "47 from 13 to 60 jobs 2 3\n47 from 43 to 90 jobs 4 4\n32 from 43 to 75 jobs 4 4\n";
+    assert_eq!(rt; lengths.as_str(), wanted);
+    Ok(())
+}
+
+#[test]
+fn of_a_later_reader(rt: HostRuntime) -> Result<(), Fail> {
+    let lengths = exact_with(rt.alloc(), &[(SECOND, "period = 15, offset = 7")])?;
+    let wanted =
+        "47 from 20 to 67 jobs 3 3\n47 from 50 to 97 jobs 5 4\n32 from 50 to 82 jobs 5 4\n";
+    assert_eq!(rt; lengths.as_str(), wanted);
     Ok(())
 }
 
 #[test]
 fn of_an_early_deadline(rt: HostRuntime) -> Result<(), Fail> {
-    let lengths = exact_of(
-        rt.alloc(),
-        &[(TIMED_ACCESS, "access = \"timed\"\ndeadline = 4")],
-    )?;
-    assert!(rt; is(lengths.reaction(), 40, 20, 60, &[3, 3]));
-    assert!(rt; is(lengths.age(), 40, 50, 90, &[5, 4]));
-    assert!(rt; is(lengths.reduced(), 25, 50, 75, &[5, 4]));
+    let early = [(TIMED_ACCESS, "access = \"timed\"\ndeadline = 4")];
+    let lengths = exact_with(rt.alloc(), &early)?;
+    let wanted =
+        "40 from 20 to 60 jobs 3 3\n40 from 50 to 90 jobs 5 4\n25 from 50 to 75 jobs 5 4\n";
+    assert_eq!(rt; lengths.as_str(), wanted);
     Ok(())
 }
 
 #[test]
-fn of_one_group_and_of_three(rt: HostRuntime) -> Result<(), Fail> {
-    let alone = exact_of(
-        rt.alloc(),
-        &[(STEPS, r#"runnables = ["b"]"#), (HOPS, "labels = []")],
-    )?;
-    assert!(rt; is(alone.reaction(), 30, 0, 30, &[1]));
-    assert!(rt; is(alone.age(), 30, 30, 60, &[2]));
-    assert!(rt; is(alone.reduced(), 15, 30, 45, &[2]));
-    let back = exact_of(
-        rt.alloc(),
-        &[
-            (STEPS, r#"runnables = ["a", "b", "a"]"#),
-            (HOPS, r#"labels = ["x", "y"]"#),
-        ],
-    )?;
-    assert!(rt; is(back.reaction(), 60, 30, 90, &[4, 4, 8]));
-    assert!(rt; is(back.age(), 60, 30, 90, &[3, 3, 7]));
-    assert!(rt; is(back.reduced(), 50, 30, 80, &[3, 3, 7]));
+fn of_one_group(rt: HostRuntime) -> Result<(), Fail> {
+    let alone = [(STEPS, r#"runnables = ["b"]"#), (HOPS, "labels = []")];
+    let lengths = exact_with(rt.alloc(), &alone)?;
+    let wanted = "30 from 0 to 30 jobs 1\n30 from 30 to 60 jobs 2\n15 from 30 to 45 jobs 2\n";
+    assert_eq!(rt; lengths.as_str(), wanted);
     Ok(())
 }
 
 #[test]
-fn to_the_limit_and_past_it(rt: HostRuntime) -> Result<(), Fail> {
-    let at = exact_of(
-        rt.alloc(),
-        &[(FIRST, "period = 1"), (SECOND, "period = 1000000")],
-    )?;
-    assert!(rt;
-        is(
-            at.reaction(),
-            2_000_001,
-            999_999,
-            3_000_000,
-            &[1_000_000, 2]
-        )
-    );
-    assert!(rt; is(at.age(), 2_000_001, 2_999_999, 5_000_000, &[2_999_999, 3]));
-    let model = valid_with(
-        rt.alloc(),
-        TIMED,
-        &[(FIRST, "period = 1"), (SECOND, "period = 1000001")],
-    )?;
-    let past = matches!(answer(&model), Some(Err(HyperLimit { limit: 1_000_000 })));
-    assert!(rt; past);
+fn of_three_groups(rt: HostRuntime) -> Result<(), Fail> {
+    let back = [
+        (STEPS, r#"runnables = ["a", "b", "a"]"#),
+        (HOPS, r#"labels = ["x", "y"]"#),
+    ];
+    let lengths = exact_with(rt.alloc(), &back)?;
+    let wanted =
+        "60 from 30 to 90 jobs 4 4 8\n60 from 30 to 90 jobs 3 3 7\n50 from 30 to 80 jobs 3 3 7\n";
+    assert_eq!(rt; lengths.as_str(), wanted);
+    Ok(())
+}
+
+#[test]
+fn to_the_limit(rt: HostRuntime) -> Result<(), Fail> {
+    let at = [(FIRST, "period = 1"), (SECOND, "period = 1000000")];
+    let lengths = exact_with(rt.alloc(), &at)?;
+    let wanted = "2000001 from 999999 to 3000000 jobs 1000000 2\n\
+        2000001 from 2999999 to 5000000 jobs 2999999 3\n\
+        1000001 from 2999999 to 4000000 jobs 2999999 3\n";
+    assert_eq!(rt; lengths.as_str(), wanted);
+    Ok(())
+}
+
+#[test]
+fn past_the_limit(rt: HostRuntime) -> Result<(), Fail> {
+    let past = [(FIRST, "period = 1"), (SECOND, "period = 1000001")];
+    let lengths = exact_with(rt.alloc(), &past)?;
+    assert_eq!(rt; lengths.as_str(), "past 1000000");
     Ok(())
 }
 
 #[test]
 fn of_timed_periodic_tasks_alone(rt: HostRuntime) -> Result<(), Fail> {
-    let model = valid_with(
-        rt.alloc(),
-        TIMED,
-        &[(TIMED_ACCESS, "access = \"implicit\"")],
-    )?;
-    let none = answer(&model).is_none();
-    assert!(rt; none);
+    let untimed = [(TIMED_ACCESS, "access = \"implicit\"")];
+    let lengths = exact_with(rt.alloc(), &untimed)?;
+    assert_eq!(rt; lengths.as_str(), "not timed and periodic");
     Ok(())
 }

@@ -6,7 +6,6 @@ use cl_edit::Edit;
 use cl_incr::Session;
 use cl_model::ValidModel;
 use cl_report::report;
-use cl_text::Text;
 use cl_time::{NoMemory, Steps};
 use std::alloc::Global;
 use std::marker::Brand;
@@ -65,29 +64,47 @@ fn report_of_costly(alloc: Global) -> Result<String, NoMemory> {
     Ok(text)
 }
 
-/// What a session over a model reports after so many turns, in each of which the greatest time of a runnable rises by a
-/// tick and falls again.
+/// The report of a session's model.
+fn report_of(alloc: Global, session: &Session) -> Result<String, Fail> {
+    let text = report(alloc, session.model(), session.findings())?;
+    Ok(String::from_utf8_lossy(alloc, text.as_slice())?)
+}
+
+/// The report of a session after so many turns, in each of which the greatest time of a runnable rises by a tick and falls
+/// again.
+fn reported_by<L: Ledger>(
+    alloc: Global,
+    session: &mut Session,
+    turns: u64,
+    steps: &mut Steps<L>,
+) -> Result<String, Fail> {
+    take_turns(session, turns, steps)?;
+    report_of(alloc, session)
+}
+
+/// The same, of a session over a model.
+fn started<L: Ledger>(
+    alloc: Global,
+    model: ValidModel,
+    turns: u64,
+    steps: &mut Steps<L>,
+) -> Result<String, Fail> {
+    let mut session = Session::start(alloc, model, steps)?;
+    reported_by(alloc, &mut session, turns, steps)
+}
+
 fn counted<L: Ledger>(
     blank: Blank,
     alloc: Global,
     model: ValidModel,
     turns: u64,
-) -> Result<Text, Fail>
+) -> Result<String, Fail>
     requires name { blank.name ≡ L.name }
     requires parts { blank.parts ≡ L.parts }
     requires a_part { 0 < blank.parts }
 {
     let mut steps = Steps::<L>::open(blank);
-    let mut session = Session::start(alloc, model, &mut steps)?;
-    match take_turns(&mut session, turns, &mut steps) {
-        Ok(()) => text_of(alloc, &session),
-        Err(fail) => Err(fail),
-    }
-}
-
-/// The report of a session's model.
-fn text_of(alloc: Global, session: &Session) -> Result<Text, Fail> {
-    Ok(report(alloc, session.model(), session.findings())?)
+    started(alloc, model, turns, &mut steps)
 }
 
 fn take_turns<L: Ledger>(
@@ -130,19 +147,26 @@ fn apply<L: Ledger>(session: &mut Session, edit: &Edit, steps: &mut Steps<L>) ->
     Ok(())
 }
 
-fn reported(alloc: Global, model: ValidModel, turns: u64) -> Result<Text, Fail> {
+fn reported(alloc: Global, model: ValidModel, turns: u64) -> Result<String, Fail> {
     counted::<Brand>(Blank::new(1), alloc, model, turns)
+}
+
+/// The same, of a session over the model of a text.
+fn reported_of(alloc: Global, text: &str, turns: u64) -> Result<String, Fail> {
+    reported(alloc, valid(alloc, text)?, turns)
+}
+
+/// The same, over the costly model.
+fn reported_of_costly(alloc: Global, turns: u64) -> Result<String, Fail> {
+    let text = costly(alloc)?;
+    reported_of(alloc, text.as_str(), turns)
 }
 
 #[test]
 fn four_thousand_edits_of_another_task_keep_the_exact_lengths(rt: HostRuntime) -> Result<(), Fail> {
     let alloc = rt.alloc();
-    let report = report_of_costly(alloc)?;
-    let text = costly(alloc)?;
-    let found = reported(alloc, valid(alloc, &text)?, 2_000)?;
-    assert_eq!(rt;
-        str::from_utf8(found.as_slice()).unwrap_or("no text"),
-        report.as_str()
-    );
+    let wanted = report_of_costly(alloc)?;
+    let found = reported_of_costly(alloc, 2_000)?;
+    assert_eq!(rt; found.as_str(), wanted.as_str());
     Ok(())
 }
