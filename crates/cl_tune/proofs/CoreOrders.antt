@@ -39,7 +39,7 @@ module _ (model : SystemModel) (valid : IsValid model) (core : ℕ) where
       let below : x < length model.tasks = omega (arith, range_below 0 (length model.tasks) x parts.0) in
       (omega (arith, below, count_is model), core_is model x below ∙ eqb-true (core_of model x) core parts.1)
 
-  task_there : (x : ℕ) → x < length system.tasks → (timing_at system x).core ≡ core → has x tasks ≡ true
+  pub task_there : (x : ℕ) → x < length system.tasks → (timing_at system x).core ≡ core → has x tasks ≡ true
   task_there x h on =
       let below : x < length model.tasks = omega (arith, h, count_is model) in
       has_filter on_core x (range_with_len 0 (length model.tasks))

@@ -7,6 +7,10 @@ pub mod FilledOrders
 pub mod Priorities
 pub mod UnderOrders
 pub mod CoreOrders
+pub mod OrdersTogether
+pub mod ReorderedModels
+pub mod ReorderedPriorities
+pub mod ReorderedValid
 pub mod ScaledValid
 pub mod ScaledAnswers
 pub mod ScaledBounds

@@ -1,5 +1,5 @@
 -- The priorities that an order gives: those of the tasks after a task are higher, and those of the tasks before it lower.
-use Rattle.std.proofs.Common.{◌≡◌, ℕ, suc, ◌+◌, ◌<◌, inl, inr, Bool, true, false, not, ◌||◌, nat_lt, Some, None, List, [], ◌∷◌, ◌++◌, length, refl, sym, ap, ◌∙◌, arith}
+use Rattle.std.proofs.Common.{◌≡◌, ℕ, suc, ◌+◌, ◌<◌, ◌≤◌, inl, inr, Bool, true, false, not, ◌||◌, nat_lt, Some, None, List, [], ◌∷◌, ◌++◌, length, refl, sym, ap, ◌∙◌, arith}
 use Rattle.std.specs.Prelude.{◌==◌, unwrap_or}
 use Rattle.std.specs.List.{prefix_len}
 use Rattle.std.proofs.lemmas.Bool.{true≢false, false≢true, eqb-true, or_parts, lt-ltb, cond-true, cond-false, not_from_true, not_from_false, false_from_ne_true, or_left, or_right}
@@ -42,6 +42,27 @@ priority_is : (order : List ℕ) (x : ℕ) → has x order ≡ true → priority
 priority_is order x is =
     ap (λ place. unwrap_or place 0 + 1) (cond-true (nat_lt (spot x order) (length order)) (Some (spot x order)) None
     (lt-ltb (spot x order) (length order) (spot_within x order is)))
+
+-- it is at most the number of tasks
+pub priority_few : (order : List ℕ) (x : ℕ) → has x order ≡ true → priority_in order x ≤ length order
+priority_few order x is = omega (arith, priority_is order x is, spot_within x order is)
+
+spots_apart : (x y : ℕ) (xs : List ℕ) → has x xs ≡ true → has y xs ≡ true → spot x xs ≡ spot y xs → x ≡ y
+spots_apart x y [] is is_too same = absurd (false≢true is)
+spots_apart x y (z ∷ zs) is is_too same = go (z == x) (z == y) refl refl (spots_apart x y zs)
+  where
+    go : (a b : Bool) → (z == x) ≡ a → (z == y) ≡ b → (has x zs ≡ true → has y zs ≡ true → spot x zs ≡ spot y zs → x ≡ y) → x ≡ y
+    go true true e f again = sym (eqb-true z x e) ∙ eqb-true z y f
+    go true false e f again = absurd (omega (arith, same, spot_here x z zs e, spot_later y z zs f))
+    go false true e f again = absurd (omega (arith, same, spot_later x z zs e, spot_here y z zs f))
+    go false false e f again = again
+        (sym (ap (λ b. b || has x zs) e) ∙ is)
+        (sym (ap (λ b. b || has y zs) f) ∙ is_too)
+        (omega (arith, same, spot_later x z zs e, spot_later y z zs f))
+
+-- an order gives two tasks different priorities
+pub priorities_apart : (order : List ℕ) (x y : ℕ) → has x order ≡ true → has y order ≡ true → priority_in order x ≡ priority_in order y → x ≡ y
+priorities_apart order x y is is_too same = spots_apart x y order is is_too (omega (arith, same, priority_is order x is, priority_is order y is_too))
 
 -- what stands in the front of a list that has each number once doesn't stand in its rest
 pub apart : (front rest : List ℕ) (x : ℕ) → AreDistinct (front ++ rest) → has x front ≡ true → has x rest ≡ false

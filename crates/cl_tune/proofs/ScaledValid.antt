@@ -35,7 +35,7 @@ use Rattle.cl_tune.specs.Scaled.{scaled_runnable, scaled_task, scaled}
 
 -- ---- checks of mapped items
 
-each_mapped : {X Y : Type 0} (n : ℕ) (check : ℕ → Y → List Refusal) (f : X → Y) (xs : List X) → each_from n check (map f xs) ≡ each_from n (λ i x. check i (f x)) xs
+pub each_mapped : {X Y : Type 0} (n : ℕ) (check : ℕ → Y → List Refusal) (f : X → Y) (xs : List X) → each_from n check (map f xs) ≡ each_from n (λ i x. check i (f x)) xs
 each_mapped n check f [] = refl
 each_mapped n check f (x ∷ xs) = ap (λ list. check n (f x) ++ list) (each_mapped (n + 1) check f xs)
 
@@ -46,6 +46,24 @@ each_kept n check other f kept [] none = refl
 each_kept n check other f kept (x ∷ xs) none =
     ap (λ list. list ++ each_from (n + 1) other (map f xs)) (kept n x (none_before (check n x) (each_from (n + 1) check xs) none))
     ∙ each_kept (n + 1) check other f kept xs (none_behind (check n x) (each_from (n + 1) check xs) none)
+
+-- other tasks that have the names of the model's tasks, and repeat names of runnables where those do, pass the same checks
+pub names_checked : (model : SystemModel) (tasks : List TaskDef) → map (λ (task : TaskDef). task.name) tasks ≡ task_names model
+    → each (runnable_repeats tasks) tasks ≡ each (runnable_repeats model.tasks) model.tasks
+    → name_checks (record model { tasks = tasks }) ≡ name_checks model
+unfolding name_checks
+names_checked model tasks names repeat =
+    let checks : List (List ℕ) → List Refusal → List Refusal = λ names runnables.
+    in_order (section_repeats M20 part.Core (core_names model)
+    ∷ section_repeats M21 part.Stimulus (stimulus_names model)
+    ∷ section_repeats M22 part.Label (label_names model)
+    ∷ section_repeats M23 part.Task names
+    ∷ runnables
+    ∷ section_repeats M25 part.Chain (chain_names model)
+    ∷ section_repeats M26 part.Requirement (requirement_names model)
+    ∷ []) in
+    ap (λ names. checks names (each (runnable_repeats tasks) tasks)) names
+    ∙ ap (checks (task_names model)) repeat
 
 -- ---- what is kept of runnables and tasks
 
@@ -97,19 +115,8 @@ module _ (model : SystemModel) (percent : ℕ) where
       ∙ each_same 0 (λ i task. runnable_repeats made.tasks i (scaled_task percent task)) (runnable_repeats model.tasks) model.tasks repeats_kept
 
   name_checks_kept : name_checks made ≡ name_checks model
-  unfolding name_checks scaled
-  name_checks_kept =
-      let checks : List (List ℕ) → List Refusal → List Refusal = λ names runnables.
-      in_order (section_repeats M20 part.Core (core_names model)
-      ∷ section_repeats M21 part.Stimulus (stimulus_names model)
-      ∷ section_repeats M22 part.Label (label_names model)
-      ∷ section_repeats M23 part.Task names
-      ∷ runnables
-      ∷ section_repeats M25 part.Chain (chain_names model)
-      ∷ section_repeats M26 part.Requirement (requirement_names model)
-      ∷ []) in
-      ap (λ names. checks names (each (runnable_repeats made.tasks) made.tasks)) names_of_tasks
-      ∙ ap (checks (task_names model)) all_repeats_kept
+  unfolding scaled
+  name_checks_kept = names_checked model (map (scaled_task percent) model.tasks) names_of_tasks all_repeats_kept
 
   -- ---- tasks
 

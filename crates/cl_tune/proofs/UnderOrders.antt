@@ -86,15 +86,15 @@ module _ (system : System) (core : ℕ) (order : List ℕ) where
   abbrev hold : ℕ → ℕ
   hold task = longest_hold (timing_at system task)
 
-  count_under : length under.tasks ≡ length system.tasks
+  pub count_under : length under.tasks ≡ length system.tasks
   unfolding system_under
   count_under = length-map-range_with_len timing 0 (length system.tasks)
 
-  timing_is : (i : ℕ) → i < length system.tasks → timing_at under i ≡ timing i
+  pub timing_is : (i : ℕ) → i < length system.tasks → timing_at under i ≡ timing i
   unfolding system_under
   timing_is i h = get_or-map-range_with_len timing 0 (length system.tasks) i i no_timing h (omega arith)
 
-  same_core : (i : ℕ) → (timing i).core ≡ (timing_at system i).core
+  pub same_core : (i : ℕ) → (timing i).core ≡ (timing_at system i).core
   same_core i = elim ((timing_at system i).core == core)
       as (λ b. (cond b (record (timing_at system i) { priority = priority_in order i }) (timing_at system i)).core ≡ (timing_at system i).core) [ true ↦ refl | false ↦ refl ]
 

@@ -1,5 +1,5 @@
 -- Orders of the tasks of a core, and what the tasks answer under them. Source: Audsley 1991.
-use Rattle.std.specs.Prelude.{◌≡◌, ℕ, ◌+◌, ◌<◌, true, false, ◌==◌, if◌then◌else◌, List, length, map, position, unwrap_or, All, IsPermutation}
+use Rattle.std.specs.Prelude.{◌≡◌, ℕ, ◌+◌, ◌<◌, true, false, ◌==◌, if◌then◌else◌, List, length, map, position, unwrap_or, All, IsPermutation, slice_index}
 use Rattle.std.specs.List.{range_with_len}
 use Rattle.cl_model.specs.declared.model.SystemModel.{SystemModel}
 use Rattle.cl_model.specs.ByNumber.{tasks_of_core}
@@ -23,6 +23,14 @@ timing_under system core order task =
 -- a system where they do
 unfoldable pub system_under : System → (core : ℕ) (order : List ℕ) → System
 system_under system core order = record system { tasks = map (timing_under system core order) (range_with_len 0 (length system.tasks)) }
+
+-- a task of a system with the priorities that a list gives, one a task in file order
+abbrev pub timing_with : System → (priorities : List ℕ) → (task : ℕ) → Timing
+timing_with system priorities task = record (timing_at system task) { priority = slice_index priorities task }
+
+-- a system with these priorities, on all its cores at once
+unfoldable pub system_with : System → (priorities : List ℕ) → System
+system_with system priorities = record system { tasks = map (timing_with system priorities) (range_with_len 0 (length system.tasks)) }
 
 -- a task passes: its deadline spans few least distances of each task of higher priority on its core, and it isn't late
 pub record Passes (system : System) (task : ℕ) : Type 0 where

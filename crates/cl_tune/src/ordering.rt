@@ -49,6 +49,8 @@ fn priorities_by(
 /// least distances of a task of higher priority, and of all such orders it is the first in dictionary order, as a list of
 /// tasks by their numbers from priority 1 upward. Whole runnables block as they do under the order that is tried.
 ///
+/// With these priorities on all cores at once the model is valid and none of its tasks is late (see `laws`).
+///
 /// Where no order of some core passes, the answer is the first such core. The only error is `NoMemory`, where memory ran
 /// out. It asks one question of each task that is tried at a place, and counts a step for each.
 pub fn order<L: Ledger>(
