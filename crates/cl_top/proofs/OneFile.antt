@@ -1,14 +1,19 @@
 -- A command of a model file alone.
-use Rattle.std.proofs.Common.{◌≡◌, ℕ, inl, inr, List, [], ◌∷◌, Some, refl, sym, ap, subst, arith}
+use Rattle.std.proofs.Common.{◌≡◌, ◌≢◌, ℕ, ◌+◌, ◌≤◌, inl, inr, List, [], ◌∷◌, Option, Some, Ok, refl, sym, ap, subst, arith}
 use Rattle.std.specs.Prelude.{Contains}
 use Rattle.std.specs.List.{AllByRecursion}
 use Rattle.std.proofs.lemmas.Bool.{cases_lt}
-use Rattle.cl_io.specs.Shelf.{Held}
+use Rattle.cl_io.specs.Counts.{Rose, RisesAlone}
+use Rattle.cl_io.specs.Names.{SameAtEach}
+use Rattle.cl_io.specs.Shelf.{Held, Content}
 use Rattle.cl_gen.specs.declared.limits.TheConstants.{MOST_EXECUTIONS}
 use Rattle.cl_gen.specs.Count.{execution_count}
 use Rattle.cl_model.specs.declared.model.SystemModel.{SystemModel}
+use Rattle.cl_model.specs.Reading.{model_of}
 use Rattle.cl_top.specs.declared.command.Command.{Command}
 use Rattle.cl_top.specs.declared.command.Command.TheVariants.{Analyse, Migrate, Simulate, Cut, Order, Headroom}
+use Rattle.cl_top.specs.declared.one_model.Asked.{Asked}
+use Rattle.cl_top.specs.declared.one_model.Asked.TheVariants.{Report, NewText, Cuts, Priorities, Headroom as Room}
 use Rattle.cl_top.specs.declared.opening.Opened.{Opened}
 use Rattle.cl_top.specs.declared.opening.Opened.TheVariants as opened
 use Rattle.cl_top.specs.declared.opening.TheConstants.{FILE_LIMIT}
@@ -20,12 +25,15 @@ use Rattle.cl_top.specs.Commands.Simulate.{IsSimulated}
 use Rattle.cl_top.specs.Commands.Cut.{IsCutOutcome}
 use Rattle.cl_top.specs.Commands.Order.{IsOrderOutcome}
 use Rattle.cl_top.specs.Commands.Headroom.{IsHeadroomOutcome}
-use Rattle.cl_top.specs.Files.{Fetched, EachFile, MayGive, FileRose}
+use Rattle.cl_top.specs.Files.{Fetched, EachFile, MayGive, FileRose, TellsFiles}
+use Rattle.cl_top.specs.Inner.Leaving.{LeavesRest}
+use Rattle.cl_top.specs.Inner.OneModel.{command_asking, IsOutcomeOf, AreStepsOf}
 use Rattle.cl_top.specs.Inner.Opened.{IsOpenedAs}
 use Rattle.cl_top.specs.Outcome.{OpensModel, HasOutcome}
 use Rattle.cl_top.specs.Run.{ComesAs, ComesTo}
+use Rattle.cl_top.specs.Steps.{model_steps, AreFewSteps}
 use Rattle.cl_top.proofs.Comings.{Cause, IsOfContent, opened_cause, comes_to}
-use Rattle.cl_top.proofs.Openings.{opened_valid, opened_stopped}
+use Rattle.cl_top.proofs.Openings.{opened_valid, opened_stopped, opened_means}
 
 -- its one file is a model, and its outcome is what comes next of a valid one, which is of content
 pub record IsOfModel (command : Command) (next : SystemModel → Outcome → Type 0) : Type 0 where
@@ -62,6 +70,40 @@ module _ (command : Command) (next : SystemModel → Outcome → Type 0) (of : I
       pub model_stops : (gives : Opened) → IsOpenedAs 1 fetch gives → gives ≡ opened.Stopped found → ComesTo words held before after longest found
       model_stops gives is stopped = comes_of (opened_stopped next found 1 fetch (subst (IsOpenedAs 1 fetch) stopped is))
 
+  -- ---- what it leaves
+
+  module _ (words : List (List ℕ)) (is_command : command_of words ≡ Some command) (held held_after : List ℕ → Held)
+      (faults faults_after longest longest_after : List ℕ → ℕ) (same : SameAtEach held held_after)
+      (faults_rise : RisesAlone (word words 1) faults faults_after) (longest_rise : RisesAlone (word words 1) longest longest_after) where
+    abbrev IsBeside : Option Command → (name : List ℕ) → Type 0
+    IsBeside other name = EachFile other (λ file. name ≢ word words file.place)
+
+    -- where the steps are few of a model that is told
+    one_leaves : (steps steps_after : ℕ)
+        → ((contents : ℕ → List ℕ) → held (word words 1) ≡ Content (contents 1) → AreFewSteps (Some command) contents steps steps_after)
+        → LeavesRest words held held_after faults faults_after longest longest_after steps steps_after
+    one_leaves steps steps_after few = record {
+      same = same;
+      other_faults = λ name beside. faults_rise.others name (of_each _ (subst (λ other. IsBeside other name) is_command beside));
+      other_longest = λ name beside. longest_rise.others name (of_each _ (subst (λ other. IsBeside other name) is_command beside));
+      few_steps = λ contents tells. subst (λ other. AreFewSteps other contents steps steps_after) (sym is_command)
+          (few contents (of_each _ (subst (λ other. TellsFiles other words held contents) is_command tells)));
+    }
+
+    pub stopped_leaves : (steps : ℕ) → ((contents : ℕ → List ℕ) → AreFewSteps (Some command) contents steps steps)
+        → LeavesRest words held held_after faults faults_after longest longest_after steps steps
+    stopped_leaves steps few = one_leaves steps steps (λ contents tells. few contents)
+
+    pub valid_leaves : (model : SystemModel) (gives : Opened) (fetch : Fetched)
+        → MayGive (held (word words 1)) FILE_LIMIT (Rose (faults (word words 1)) (faults_after (word words 1))) (longest_after (word words 1)) fetch
+        → IsOpenedAs 1 fetch gives → gives ≡ opened.Valid model → (steps steps_after : ℕ)
+        → ((contents : ℕ → List ℕ) → model_of (contents 1) ≡ Ok model → AreFewSteps (Some command) contents steps steps_after)
+        → LeavesRest words held held_after faults faults_after longest longest_after steps steps_after
+    valid_leaves model gives fetch may is valid steps steps_after few = one_leaves steps steps_after (λ contents tells.
+        few contents (opened_means model fetch (contents 1) FILE_LIMIT _ _
+        (subst (λ (h : Held). MayGive h FILE_LIMIT (Rose (faults (word words 1)) (faults_after (word words 1))) (longest_after (word words 1)) fetch) tells may)
+        (subst (IsOpenedAs 1 fetch) valid is)))
+
 -- ---- the commands
 
 pub of_analyse : IsOfModel Analyse IsAnalysed
@@ -87,3 +129,27 @@ of_order = record { files = refl; has = λ gave found is. is; opens = λ gave fo
 
 pub of_headroom : IsOfModel Headroom IsHeadroomOutcome
 of_headroom = record { files = refl; has = λ gave found is. is; opens = λ gave found is. is; content = λ model found is. inl is.done }
+
+-- those that name nothing else, by what they ask
+pub of_asked : (asked : Asked) → IsOfModel (command_asking asked) (IsOutcomeOf asked)
+of_asked Report = of_analyse
+of_asked NewText = of_migrate
+of_asked Cuts = of_cut
+of_asked Priorities = of_order
+of_asked Room = of_headroom
+
+pub few_of_asked : (asked : Asked) (model : SystemModel) (contents : ℕ → List ℕ) (before after : ℕ) → model_of (contents 1) ≡ Ok model
+    → AreStepsOf asked model before after → AreFewSteps (Some (command_asking asked)) contents before after
+few_of_asked Report model contents before after means few = subst (λ read. after ≤ before + model_steps read) (sym means) few
+few_of_asked NewText model contents before after means few = few
+few_of_asked Cuts model contents before after means few = tt
+few_of_asked Priorities model contents before after means few = tt
+few_of_asked Room model contents before after means few = tt
+
+-- no step is few
+pub none_of_asked : (asked : Asked) (contents : ℕ → List ℕ) (steps : ℕ) → AreFewSteps (Some (command_asking asked)) contents steps steps
+none_of_asked Report contents steps = omega arith
+none_of_asked NewText contents steps = omega arith
+none_of_asked Cuts contents steps = tt
+none_of_asked Priorities contents steps = tt
+none_of_asked Room contents steps = tt

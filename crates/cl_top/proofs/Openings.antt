@@ -1,5 +1,5 @@
 -- The opening of a file and of a model, whatever comes next.
-use Rattle.std.proofs.Common.{◌≡◌, ◌⊎◌, ℕ, inl, inr, List, [], ◌∷◌, Option, Some, None, Result, Ok, Err, refl, subst}
+use Rattle.std.proofs.Common.{◌≡◌, ◌⊎◌, ℕ, inl, inr, List, [], ◌∷◌, Option, Some, None, Result, Ok, Err, refl, sym, ap, ◌∙◌, subst}
 use Rattle.cl_model.specs.declared.model.SystemModel.{SystemModel}
 use Rattle.cl_model.specs.declared.refusal.Refusal.{Refusal}
 use Rattle.cl_model.specs.Reading.{model_of}
@@ -8,7 +8,8 @@ use Rattle.cl_model.specs.Validity.{refusals_of, refusal_of, IsValid}
 use Rattle.cl_model.proofs.ReadModels.{read_in_range}
 use Rattle.cl_top.specs.declared.outcome.Outcome.{Outcome}
 use Rattle.cl_top.specs.declared.opening.Opened.TheVariants as opened
-use Rattle.cl_top.specs.Files.{Fetched, Unasked, Bytes, Fault, TooLong}
+use Rattle.cl_io.specs.Shelf.{Content}
+use Rattle.cl_top.specs.Files.{Fetched, Unasked, Bytes, Fault, TooLong, MayGive}
 use Rattle.cl_top.specs.Inner.Opened.{IsValidatedAs, IsReadAs, IsOpenedAs}
 use Rattle.cl_top.specs.Outcome.{model_refused, read_fault, long_file, ValidatesTo, ReadsTo, OpensTo}
 
@@ -58,6 +59,21 @@ module _ (next : SystemModel → Outcome → Type 0) (found : Outcome) where
   opened_stopped place Fault is = is
   opened_stopped place TooLong is = is
   opened_stopped place (Bytes bytes) is = read_stopped (model_of bytes) is
+
+-- ---- what was opened
+
+module _ (model : SystemModel) where
+  read_means : (read : Result SystemModel Refusal) → IsReadAs read (opened.Valid model) → read ≡ Ok model
+  read_means (Ok read) is = ap Ok (sym is.0)
+  read_means (Err refusal) is = absurd is
+
+  -- the valid model of a fetch of told bytes is the one that they mean
+  pub opened_means : (fetch : Fetched) (content : List ℕ) (limit : ℕ) (rose : Type 0) (long : ℕ) → MayGive (Content content) limit rose long fetch
+      → IsOpenedAs 1 fetch (opened.Valid model) → model_of content ≡ Ok model
+  opened_means Unasked content limit rose long may is = absurd is
+  opened_means Fault content limit rose long may is = absurd is
+  opened_means TooLong content limit rose long may is = absurd is
+  opened_means (Bytes bytes) content limit rose long may is = ap model_of (sym may.0) ∙ read_means (model_of bytes) is
 
 -- ---- a model that was opened
 

@@ -16,13 +16,13 @@ use Rattle.cl_top.specs.declared.opening.TheConstants.{FILE_LIMIT}
 use Rattle.cl_top.specs.declared.outcome.Outcome.{Outcome}
 use Rattle.cl_top.specs.Command.{File, model_file, command_of, word}
 use Rattle.cl_top.specs.Files.{Fetched, Unasked, Bytes, Fault, TooLong, EachFile, MayGive, TellsFiles}
-use Rattle.cl_top.specs.Inner.Opened.{IsReadAs, IsOpenedAs}
+use Rattle.cl_top.specs.Inner.Opened.{IsOpenedAs}
 use Rattle.cl_top.specs.Inner.Leaving.{LeavesRest}
 use Rattle.cl_top.specs.Outcome.{OpensTo, OpensFile, OpensModel, HasOutcome}
 use Rattle.cl_top.specs.Run.{ComesTo}
 use Rattle.cl_top.specs.Steps.{AreFewSteps}
 use Rattle.cl_top.proofs.Comings.{comes_to}
-use Rattle.cl_top.proofs.Openings.{opened_valid, opened_stopped}
+use Rattle.cl_top.proofs.Openings.{opened_valid, opened_stopped, opened_means}
 
 -- ---- two fetches in turn
 
@@ -138,20 +138,9 @@ module _ (command : Command) (limit : ℕ) (OfText : SystemModel → (text : Lis
 
     -- ---- what stays
 
-    read_means : (read : Result SystemModel Refusal) → IsReadAs read (opened.Valid model) → read ≡ Ok model
-    read_means (Ok read) is = ap Ok (sym is.0)
-    read_means (Err refusal) is = absurd is
-
-    fetch_means : (fetch : Fetched) (content : List ℕ) (limit : ℕ) (rose : Type 0) (long : ℕ) → MayGive (Content content) limit rose long fetch
-        → IsOpenedAs 1 fetch (opened.Valid model) → model_of content ≡ Ok model
-    fetch_means Unasked content limit rose long may is = absurd is
-    fetch_means Fault content limit rose long may is = absurd is
-    fetch_means TooLong content limit rose long may is = absurd is
-    fetch_means (Bytes bytes) content limit rose long may is = ap model_of (sym may.0) ∙ read_means (model_of bytes) is
-
     told_model : (contents : ℕ → List ℕ) → held first ≡ Content (contents 1) → model_of (contents 1) ≡ Ok model
     told_model contents tells =
-        fetch_means model_fetch (contents 1) FILE_LIMIT (Rose (faults first) (faults_between first)) (longest_between first)
+        opened_means model model_fetch (contents 1) FILE_LIMIT (Rose (faults first) (faults_between first)) (longest_between first)
         (subst (λ (h : Held). MayGive h FILE_LIMIT (Rose (faults first) (faults_between first)) (longest_between first) model_fetch) tells may)
         (subst (IsOpenedAs 1 model_fetch) valid is)
 

@@ -4,10 +4,10 @@
 
 mod command;
 mod commands;
-mod designing;
 mod editing;
 mod file_shelf;
 pub mod laws;
+mod one_model;
 mod opening;
 mod out_sink;
 mod outcome;

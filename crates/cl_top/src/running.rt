@@ -13,14 +13,12 @@ ghost use Rattle.cl_top.specs.Run.{ComesTo, ComesToTold, IsWhole, IsCut, Ends, K
 ghost use Rattle.cl_top.specs.Steps.{AreFewSteps};
 
 use crate::command::{Command, read_command};
-use crate::commands::analyse::analysed;
 use crate::commands::generate::generated;
-use crate::commands::migrate::migrated;
 use crate::commands::replay::replayed;
 use crate::commands::simulate::simulated;
 use crate::commands::survey::surveyed;
-use crate::designing::{cut_file, headroom_file, order_file};
 use crate::editing::edit_files;
+use crate::one_model::{Asked, model_file};
 use crate::opening::{FileFetch, Opened, TRACE_LIMIT, fetch_file, open_model};
 use crate::{Outcome, status};
 use cl_io::{Shelf, Sink, Words, WriteFault, write_all};
@@ -109,56 +107,18 @@ fn find_outcome<S: Shelf, L: Ledger>(
 {
     match read_command(words) {
         None => Outcome::words_refused(alloc),
-        Some(Command::Analyse) => analyse_file(alloc, words, shelf, steps),
-        Some(Command::Migrate) => migrate_file(alloc, words, shelf, steps),
+        Some(Command::Analyse) => model_file(alloc, Asked::Report, words, shelf, steps),
+        Some(Command::Migrate) => model_file(alloc, Asked::NewText, words, shelf, steps),
         Some(Command::Simulate { ticks, seed }) => {
             simulate_file(alloc, words, ticks, seed, shelf, steps)
         }
         Some(Command::Replay) => replay_files(alloc, words, shelf, steps),
         Some(Command::Edit) => edit_files(alloc, words, shelf, steps),
-        Some(Command::Cut) => cut_file(alloc, words, shelf, steps),
-        Some(Command::Order) => order_file(alloc, words, shelf, steps),
-        Some(Command::Headroom) => headroom_file(alloc, words, shelf, steps),
+        Some(Command::Cut) => model_file(alloc, Asked::Cuts, words, shelf, steps),
+        Some(Command::Order) => model_file(alloc, Asked::Priorities, words, shelf, steps),
+        Some(Command::Headroom) => model_file(alloc, Asked::Headroom, words, shelf, steps),
         Some(Command::Generate { seed, tasks }) => generated(alloc, seed, tasks),
         Some(Command::Survey { seed, tasks }) => surveyed(alloc, seed, tasks, steps),
-    }
-}
-
-/// The outcome of `analyse MODEL`.
-fn analyse_file<S: Shelf, L: Ledger>(
-    alloc: Global,
-    words: &Words,
-    shelf: &mut S,
-    steps: &mut Steps<L>,
-) -> Result<Outcome, NoMemory>
-    requires { command_of words.now ≡ Some Command.Analyse }
-    ensures comes { IfOk result
-        (ComesTo words.now (S.held shelf.old) (S.faults shelf.old) (S.faults shelf.new) (S.longest shelf.new)) }
-    ensures leaves { LeavesRest words.now (S.held shelf.old) (S.held shelf.new) (S.faults shelf.old) (S.faults shelf.new)
-        (S.longest shelf.old) (S.longest shelf.new) steps.old steps.new }
-{
-    match open_model(alloc, words, 1, shelf)? {
-        Opened::Valid(model) => analysed(alloc, &model, steps),
-        Opened::Stopped(outcome) => Ok(outcome),
-    }
-}
-
-/// The outcome of `migrate MODEL`, without a step.
-fn migrate_file<S: Shelf, L: Ledger>(
-    alloc: Global,
-    words: &Words,
-    shelf: &mut S,
-    _steps: &mut Steps<L>,
-) -> Result<Outcome, NoMemory>
-    requires { command_of words.now ≡ Some Command.Migrate }
-    ensures comes { IfOk result
-        (ComesTo words.now (S.held shelf.old) (S.faults shelf.old) (S.faults shelf.new) (S.longest shelf.new)) }
-    ensures leaves { LeavesRest words.now (S.held shelf.old) (S.held shelf.new) (S.faults shelf.old) (S.faults shelf.new)
-        (S.longest shelf.old) (S.longest shelf.new) _steps.old _steps.new }
-{
-    match open_model(alloc, words, 1, shelf)? {
-        Opened::Valid(model) => migrated(alloc, &model),
-        Opened::Stopped(outcome) => Ok(outcome),
     }
 }
 
