@@ -1,36 +1,9 @@
 //! Generated models: `generate` and `survey`, against values that two programs computed from the format alone.
-use crate::calls::{answer_of, run_here, words_of};
-use cl_io::{MemShelf, MemSink};
+use crate::calls::{analysed, answer, assert_answer, text_of};
 use cl_time::NoMemory;
 use std::alloc::Global;
 use std::process::Abort;
 use std::test::Fail;
-
-/// Room for the text of every generated model.
-const ROOM: usize = 1 << 20;
-
-/// What a command without a file answers: its status, and the sink that it wrote to.
-fn answer(alloc: Global, line: &str) -> Result<(u8, MemSink), NoMemory> {
-    let words = words_of(alloc, line)?;
-    let mut shelf = MemShelf::new(alloc);
-    let mut sink = MemSink::new(alloc, ROOM, ROOM)?;
-    let status = run_here(alloc, &words, &mut shelf, &mut sink);
-    Ok((status, sink))
-}
-
-fn assert_text(
-    rt: &impl Abort,
-    alloc: Global,
-    line: &str,
-    status: u8,
-    text: &str,
-) -> Result<(), NoMemory> {
-    let (answered, sink) = answer(alloc, line)?;
-    let written = str::from_utf8(sink.bytes()).unwrap_or("no text");
-    assert_eq!(rt; written, text, "{line}");
-    assert_eq!(rt; answered, status, "{line}");
-    Ok(())
-}
 
 /// The words of a survey, its lines on tasks and chains, and its sums.
 type SurveyRow = (
@@ -100,12 +73,17 @@ const SURVEYS: [SurveyRow; 8] = [
     ),
 ];
 
+/// Asserts what a survey answers.
+fn assert_survey(rt: &impl Abort, alloc: Global, row: SurveyRow) -> Result<(), NoMemory> {
+    let (line, tasks, chains, exact, sums) = row;
+    let wanted = format!(in alloc; "0 chainlat survey 1\n{tasks}\n{chains}\n{exact}\n{sums}\n")?;
+    assert_answer(rt, alloc, line, &[], wanted.as_str(), line)
+}
+
 #[test]
 fn surveys_sum_up_generated_models(rt: HostRuntime) -> Result<(), Fail> {
-    let alloc = rt.alloc();
-    for (line, tasks, chains, exact, sums) in SURVEYS {
-        let text = format!(in alloc; "chainlat survey 1\n{tasks}\n{chains}\n{exact}\n{sums}\n")?;
-        assert_text(&rt, alloc, line, 0, text.as_str())?;
+    for row in SURVEYS {
+        assert_survey(&rt, rt.alloc(), row)?;
     }
     Ok(())
 }
@@ -130,49 +108,44 @@ const NO_COMMANDS: [&str; 14] = [
 #[test]
 fn other_numbers_are_no_command(rt: HostRuntime) -> Result<(), Fail> {
     for line in NO_COMMANDS {
-        assert_text(&rt, rt.alloc(), line, 2, "words refused\n")?;
+        assert_answer(&rt, rt.alloc(), line, &[], "2 words refused\n", line)?;
     }
     Ok(())
 }
 
 /// The report of the text that `generate` writes.
-fn report_of(alloc: Global, line: &str) -> Result<(u8, MemSink), NoMemory> {
-    let (_, sink) = answer(alloc, line)?;
-    answer_of(alloc, sink.bytes())
+fn report_of(alloc: Global, line: &str) -> Result<String, NoMemory> {
+    let generated = answer(alloc, line, &[])?;
+    analysed(alloc, text_of(generated.as_str()).as_bytes())
 }
 
 #[test]
-fn the_text_of_a_generated_model_is_analysed(rt: HostRuntime) -> Result<(), Fail> {
-    let alloc = rt.alloc();
-    let (status, sink) = report_of(alloc, "generate 9 3")?;
-    let text = str::from_utf8(sink.bytes()).unwrap_or("no text");
-    assert_eq!(rt; status, 0);
+fn each_task_of_a_generated_model_is_reported(rt: HostRuntime) -> Result<(), Fail> {
+    let report = report_of(rt.alloc(), "generate 9 3")?;
+    let text = text_of(report.as_str());
     assert_eq!(rt; text.lines().count(), 4, "{text}");
-    for start in [
-        "\ntask t0 response ",
-        "\ntask t1 response ",
-        "\ntask t2 response ",
-    ] {
-        assert!(rt; text.contains(start), "{text}");
-    }
-    let (status, sink) = report_of(alloc, "generate 9 4")?;
-    let text = str::from_utf8(sink.bytes()).unwrap_or("no text");
-    assert_eq!(rt; status, 0);
+    assert!(rt; text.contains("\ntask t0 response "), "{text}");
+    assert!(rt; text.contains("\ntask t1 response "), "{text}");
+    assert!(rt; text.contains("\ntask t2 response "), "{text}");
+    Ok(())
+}
+
+#[test]
+fn the_chain_of_a_generated_model_is_reported(rt: HostRuntime) -> Result<(), Fail> {
+    let report = report_of(rt.alloc(), "generate 9 4")?;
+    let text = text_of(report.as_str());
+    assert_eq!(rt; text.lines().count(), 6, "{text}");
     assert!(rt;
         text.ends_with("\nchain k0 reaction 1070801 age 1070801 reduced 1065801\n"),
         "{text}"
     );
-    assert!(rt;
-        text.lines().count() == 6 && !text.contains(" late "),
-        "{text}"
-    );
+    assert!(rt; !text.contains(" late "), "{text}");
     Ok(())
 }
 
 #[test]
 fn the_most_tasks_and_the_greatest_seed_are_generated(rt: HostRuntime) -> Result<(), Fail> {
-    let (status, sink) = answer(rt.alloc(), "generate 18446744073709551615 1024")?;
-    assert_eq!(rt; status, 0);
-    assert!(rt; sink.bytes().len() > 300_000);
+    let generated = answer(rt.alloc(), "generate 18446744073709551615 1024", &[])?;
+    assert!(rt; text_of(generated.as_str()).len() > 300_000);
     Ok(())
 }

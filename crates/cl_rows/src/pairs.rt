@@ -190,32 +190,49 @@ fn crowded(
     Ok(text)
 }
 
+/// Asserts what a crowded core is refused for.
+fn assert_crowded(
+    rt: &impl Abort,
+    alloc: Global,
+    count: usize,
+    last: &str,
+    runnable: &str,
+    outcome: &str,
+) -> Result<(), NoMemory> {
+    let text = crowded(rt, alloc, count, last, runnable)?;
+    assert_outcome(rt, alloc, text.as_bytes(), outcome, outcome)
+}
+
 #[test]
 fn the_129th_task_of_a_core_is_refused_in_order(rt: HostRuntime) -> Result<(), Fail> {
     let alloc = rt.alloc();
+    assert_crowded(&rt, alloc, 127, LAST, LAST_RUNNABLE, "M34 task[128].core")?;
+    assert_crowded(&rt, alloc, 126, LAST, "", "M35 task[127]")?;
+    assert_crowded(&rt, alloc, 127, LAST, "", "M34 task[128].core")?;
+    Ok(())
+}
+
+#[test]
+fn too_much_jitter_is_refused_before_the_129th_task(rt: HostRuntime) -> Result<(), Fail> {
+    let alloc = rt.alloc();
     let jittery = LAST.replace(alloc, "\"far\"", "\"jittery\"")?;
-    // how many tasks stand before the last, the last, its runnable, and what the file is refused for
-    let cases = [
-        (127, LAST, LAST_RUNNABLE, "M34 task[128].core"),
-        (
-            126,
-            jittery.as_str(),
-            LAST_RUNNABLE,
-            "M33 task[127].stimulus",
-        ),
-        (
-            127,
-            jittery.as_str(),
-            LAST_RUNNABLE,
-            "M33 task[128].stimulus",
-        ),
-        (126, LAST, "", "M35 task[127]"),
-        (127, LAST, "", "M34 task[128].core"),
-    ];
-    for (count, last, runnable, outcome) in cases {
-        let text = crowded(&rt, alloc, count, last, runnable)?;
-        assert_outcome(&rt, alloc, text.as_bytes(), outcome, outcome)?;
-    }
+    let last = jittery.as_str();
+    assert_crowded(
+        &rt,
+        alloc,
+        126,
+        last,
+        LAST_RUNNABLE,
+        "M33 task[127].stimulus",
+    )?;
+    assert_crowded(
+        &rt,
+        alloc,
+        127,
+        last,
+        LAST_RUNNABLE,
+        "M33 task[128].stimulus",
+    )?;
     Ok(())
 }
 
@@ -229,35 +246,47 @@ fn a_label_of_another_answers_before_too_many_runnables(rt: HostRuntime) -> Resu
     Ok(())
 }
 
+/// What is wrong in the model of two tasks, what stands before an array's members, a member, how many of them are added,
+/// and what the file is refused for without them and with them.
+type LongRow = (
+    Change,
+    &'static str,
+    &'static str,
+    usize,
+    &'static str,
+    &'static str,
+);
+
+const LONG_CORES: LongRow = (
+    ("\"c0\"\n", "7\n"),
+    "labels = [\"x\"]\n",
+    "[[core]]\nname = \"k#\"\n",
+    63,
+    "M6 core[0].name",
+    "M10 core",
+);
+
+const LONG_READS: LongRow = (
+    ("reads = [\"x\"]", "reads = [\"a b\"]"),
+    "reads = [",
+    "\"l#\", ",
+    256,
+    "M7 task[1].runnable[0].reads[0]",
+    "M10 task[1].runnable[0].reads",
+);
+
+/// Asserts what a file with a fault comes to, and what it comes to once an array is too long.
+fn assert_long(rt: &impl Abort, alloc: Global, row: LongRow) -> Result<(), NoMemory> {
+    let ((old, new), before, member, count, alone, outcome) = row;
+    let faulty = changed(rt, alloc, TWO, old, new)?;
+    assert_outcome(rt, alloc, faulty.as_bytes(), alone, alone)?;
+    let long = grown(rt, alloc, faulty.as_str(), before, member, count)?;
+    assert_outcome(rt, alloc, long.as_bytes(), outcome, outcome)
+}
+
 #[test]
 fn a_long_array_answers_before_its_members(rt: HostRuntime) -> Result<(), Fail> {
-    let alloc = rt.alloc();
-    // what is wrong in the model of two tasks, what stands before an array's members, a member, how many of them are
-    // added, and what the file is refused for without them and with them
-    let cases = [
-        (
-            ("\"c0\"\n", "7\n"),
-            "labels = [\"x\"]\n",
-            "[[core]]\nname = \"k#\"\n",
-            63,
-            ["M6 core[0].name", "M10 core"],
-        ),
-        (
-            ("reads = [\"x\"]", "reads = [\"a b\"]"),
-            "reads = [",
-            "\"l#\", ",
-            256,
-            [
-                "M7 task[1].runnable[0].reads[0]",
-                "M10 task[1].runnable[0].reads",
-            ],
-        ),
-    ];
-    for ((old, new), before, member, count, [alone, outcome]) in cases {
-        let faulty = changed(&rt, alloc, TWO, old, new)?;
-        assert_outcome(&rt, alloc, faulty.as_bytes(), alone, alone)?;
-        let long = grown(&rt, alloc, &faulty, before, member, count)?;
-        assert_outcome(&rt, alloc, long.as_bytes(), outcome, outcome)?;
-    }
+    assert_long(&rt, rt.alloc(), LONG_CORES)?;
+    assert_long(&rt, rt.alloc(), LONG_READS)?;
     Ok(())
 }

@@ -1,6 +1,7 @@
+//! Files that are read or refused, and their limits.
 use crate::base::{EMPTY, FULL, ONE, TWO};
 use crate::texts::{
-    ACCEPTED, assert_outcome, assert_report, assert_rows, changed, grown, many_tasks,
+    ACCEPTED, Change, assert_outcome, assert_report, assert_rows, changed, grown, many_tasks,
 };
 use cl_time::NoMemory;
 use faults::{ABSENT_ROWS, KIND_ROWS, STARTS, TOP_ROWS, TWO_ROWS, UNKNOWN_ROWS};
@@ -18,6 +19,13 @@ mod limits;
 mod salvos;
 mod writings;
 
+/// Asserts what the base comes to with an array.
+fn assert_array(rt: &impl Abort, alloc: Global, base: &str, row: ArrayRow) -> Result<(), NoMemory> {
+    let (before, entry, count, outcome) = row;
+    let text = grown(rt, alloc, base, before, entry, count)?;
+    assert_outcome(rt, alloc, text.as_bytes(), outcome, entry)
+}
+
 /// Asserts what the base comes to with each of the arrays.
 fn assert_arrays(
     rt: &impl Abort,
@@ -25,11 +33,30 @@ fn assert_arrays(
     base: &str,
     rows: &[ArrayRow],
 ) -> Result<(), NoMemory> {
-    for (before, entry, count, outcome) in rows {
-        let text = grown(rt, alloc, base, before, entry, *count)?;
-        assert_outcome(rt, alloc, text.as_bytes(), outcome, entry)?;
+    for row in rows {
+        assert_array(rt, alloc, base, *row)?;
     }
     Ok(())
+}
+
+/// Asserts that the model of two tasks is reported on as it is in each other writing.
+fn assert_writings(rt: &impl Abort, alloc: Global, writings: &[Change]) -> Result<(), NoMemory> {
+    for (old, new) in writings {
+        assert_writing(rt, alloc, old, new, TWO_REPORT)?;
+    }
+    Ok(())
+}
+
+/// Asserts how the model of two tasks is reported on with a change.
+fn assert_writing(
+    rt: &impl Abort,
+    alloc: Global,
+    old: &str,
+    new: &str,
+    report: &str,
+) -> Result<(), NoMemory> {
+    let text = changed(rt, alloc, TWO, old, new)?;
+    assert_report(rt, alloc, text.as_str(), report)
 }
 
 #[test]
@@ -38,50 +65,63 @@ fn files_are_refused_at_their_first_fault(rt: HostRuntime) -> Result<(), Fail> {
     for (content, outcome) in STARTS {
         assert_outcome(&rt, alloc, content, outcome, outcome)?;
     }
-    let tables = [
-        (EMPTY, TOP_ROWS.as_slice()),
-        (TWO, TWO_ROWS.as_slice()),
-        (FULL, ABSENT_ROWS.as_slice()),
-        (FULL, UNKNOWN_ROWS.as_slice()),
-        (FULL, KIND_ROWS.as_slice()),
-    ];
-    for (base, rows) in tables {
-        assert_rows(&rt, alloc, base, rows)?;
-    }
+    assert_rows(&rt, alloc, EMPTY, &TOP_ROWS)?;
+    assert_rows(&rt, alloc, TWO, &TWO_ROWS)?;
+    Ok(())
+}
+
+#[test]
+fn tables_are_refused_at_their_first_fault(rt: HostRuntime) -> Result<(), Fail> {
+    let alloc = rt.alloc();
+    assert_rows(&rt, alloc, FULL, &ABSENT_ROWS)?;
+    assert_rows(&rt, alloc, FULL, &UNKNOWN_ROWS)?;
+    assert_rows(&rt, alloc, FULL, &KIND_ROWS)?;
     Ok(())
 }
 
 #[test]
 fn files_read_in_every_writing(rt: HostRuntime) -> Result<(), Fail> {
     let alloc = rt.alloc();
-    for (base, outcome) in [
-        (EMPTY, ACCEPTED),
-        (TWO, ACCEPTED),
-        (ONE, ACCEPTED),
-        (FULL, ACCEPTED),
-    ] {
-        assert_outcome(&rt, alloc, base.as_bytes(), outcome, base)?;
+    for base in [EMPTY, TWO, ONE, FULL] {
+        assert_outcome(&rt, alloc, base.as_bytes(), ACCEPTED, base)?;
     }
-    for (old, new) in WRITINGS {
-        let text = changed(&rt, alloc, TWO, old, new)?;
-        assert_report(&rt, alloc, &text, TWO_REPORT)?;
-    }
+    assert_writings(&rt, alloc, &WRITINGS)?;
     let (old, new) = EARLY_CHAIN;
-    let early = changed(&rt, alloc, TWO, old, new)?;
-    assert_report(&rt, alloc, &early, EARLY_REPORT)?;
-    let marked = format!(in alloc; "\u{feff}{TWO}")?;
-    let lines = TWO.replace(alloc, "\n", "\r\n")?;
-    for text in [marked.as_str(), lines.as_str()] {
-        assert_report(&rt, alloc, text, TWO_REPORT)?;
-    }
+    assert_writing(&rt, alloc, old, new, EARLY_REPORT)?;
     Ok(())
+}
+
+#[test]
+fn files_read_behind_a_mark(rt: HostRuntime) -> Result<(), Fail> {
+    let marked = format!(in rt.alloc(); "\u{feff}{TWO}")?;
+    assert_report(&rt, rt.alloc(), marked.as_str(), TWO_REPORT)?;
+    Ok(())
+}
+
+#[test]
+fn files_read_with_lines_that_end_in_two_bytes(rt: HostRuntime) -> Result<(), Fail> {
+    let lines = TWO.replace(rt.alloc(), "\n", "\r\n")?;
+    assert_report(&rt, rt.alloc(), lines.as_str(), TWO_REPORT)?;
+    Ok(())
+}
+
+/// The model of every key with a burst stimulus besides.
+fn full_of_version_2(rt: &impl Abort, alloc: Global) -> Result<String, NoMemory> {
+    let second = changed(rt, alloc, FULL, "version = 1\n", "version = 2\n")?;
+    grown(
+        rt,
+        alloc,
+        second.as_str(),
+        "offset = 0\njitter = 0\n",
+        SALVO,
+        1,
+    )
 }
 
 #[test]
 fn version_2_has_bursts_besides(rt: HostRuntime) -> Result<(), Fail> {
     let alloc = rt.alloc();
-    let second = changed(&rt, alloc, FULL, "version = 1\n", "version = 2\n")?;
-    let full = grown(&rt, alloc, &second, "offset = 0\njitter = 0\n", SALVO, 1)?;
+    let full = full_of_version_2(&rt, alloc)?;
     assert_outcome(&rt, alloc, full.as_bytes(), ACCEPTED, "every key")?;
     assert_rows(&rt, alloc, &full, &SALVO_ROWS)?;
     Ok(())
@@ -90,40 +130,78 @@ fn version_2_has_bursts_besides(rt: HostRuntime) -> Result<(), Fail> {
 #[test]
 fn limits_hold_at_their_ends_and_one_past(rt: HostRuntime) -> Result<(), Fail> {
     let alloc = rt.alloc();
-    for rows in [
-        NAME_ROWS.as_slice(),
-        WORD_ROWS.as_slice(),
-        RANGE_ROWS.as_slice(),
-    ] {
-        assert_rows(&rt, alloc, FULL, rows)?;
-    }
-    for (letters, outcome) in [(64, ACCEPTED), (65, "M7 core[0].name")] {
-        let name = "N".repeat(alloc, letters)?;
-        let text = TWO.replace(alloc, "c0", &name)?;
-        assert_outcome(&rt, alloc, text.as_bytes(), outcome, &name)?;
-    }
+    assert_rows(&rt, alloc, FULL, &NAME_ROWS)?;
+    assert_rows(&rt, alloc, FULL, &WORD_ROWS)?;
+    assert_rows(&rt, alloc, FULL, &RANGE_ROWS)?;
+    Ok(())
+}
+
+/// Asserts what a core's name of so many letters comes to.
+fn assert_letters(
+    rt: &impl Abort,
+    alloc: Global,
+    letters: usize,
+    outcome: &str,
+) -> Result<(), NoMemory> {
+    let name = "N".repeat(alloc, letters)?;
+    let text = TWO.replace(alloc, "c0", &name)?;
+    assert_outcome(rt, alloc, text.as_bytes(), outcome, outcome)
+}
+
+#[test]
+fn names_have_up_to_64_letters(rt: HostRuntime) -> Result<(), Fail> {
+    let alloc = rt.alloc();
+    assert_letters(&rt, alloc, 64, ACCEPTED)?;
+    assert_letters(&rt, alloc, 65, "M7 core[0].name")?;
     Ok(())
 }
 
 #[test]
-fn arrays_hold_at_their_limit_and_one_past(rt: HostRuntime) -> Result<(), Fail> {
+fn sections_hold_at_their_limit_and_one_past(rt: HostRuntime) -> Result<(), Fail> {
+    assert_arrays(&rt, rt.alloc(), TWO, &SECTION_ROWS)?;
+    Ok(())
+}
+
+#[test]
+fn labels_of_a_runnable_hold_at_their_limit_and_one_past(rt: HostRuntime) -> Result<(), Fail> {
     let alloc = rt.alloc();
     let label = "[[label]]\nname = \"l#\"\n";
     let labelled = grown(&rt, alloc, TWO, "name = \"x\"\n", label, 256)?;
+    assert_arrays(&rt, alloc, labelled.as_str(), &ACCESS_ROWS)?;
+    Ok(())
+}
+
+#[test]
+fn steps_of_a_chain_hold_at_their_limit_and_one_past(rt: HostRuntime) -> Result<(), Fail> {
+    let alloc = rt.alloc();
     let hopped = grown(&rt, alloc, FULL, "labels = [", "\"x\", ", 63)?;
+    assert_arrays(&rt, alloc, hopped.as_str(), &STEP_ROWS)?;
+    Ok(())
+}
+
+#[test]
+fn hops_of_a_chain_hold_at_their_limit_and_one_past(rt: HostRuntime) -> Result<(), Fail> {
+    let alloc = rt.alloc();
     let stepped = grown(&rt, alloc, FULL, "runnables = [\"f\"", ", \"f\"", 63)?;
-    let tables = [
-        (TWO, SECTION_ROWS.as_slice()),
-        (labelled.as_str(), ACCESS_ROWS.as_slice()),
-        (hopped.as_str(), STEP_ROWS.as_slice()),
-        (stepped.as_str(), HOP_ROWS.as_slice()),
-    ];
-    for (base, rows) in tables {
-        assert_arrays(&rt, alloc, base, rows)?;
-    }
-    for (last, outcome) in [(128, ACCEPTED), (129, "M10 task")] {
-        let text = many_tasks(alloc, last)?;
-        assert_outcome(&rt, alloc, text.as_bytes(), outcome, outcome)?;
-    }
+    assert_arrays(&rt, alloc, stepped.as_str(), &HOP_ROWS)?;
+    Ok(())
+}
+
+/// Asserts what so many tasks on the last of eight full cores come to.
+fn assert_tasks(
+    rt: &impl Abort,
+    alloc: Global,
+    last: usize,
+    outcome: &str,
+) -> Result<(), NoMemory> {
+    let text = many_tasks(alloc, last)?;
+    assert_outcome(rt, alloc, text.as_bytes(), outcome, outcome)
+}
+
+#[test]
+fn tasks_hold_at_their_limit_and_one_past(rt: HostRuntime) -> Result<(), Fail> {
+    let alloc = rt.alloc();
+    assert_tasks(&rt, alloc, 128, ACCEPTED)?;
+    assert_tasks(&rt, alloc, 129, "M10 task")?;
     Ok(())
 }

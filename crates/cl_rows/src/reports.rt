@@ -1,9 +1,8 @@
 //! Whole files with their reports, and reports that are cut.
 use crate::base::{ONE, TWO};
-use crate::calls::{ROOM, run_here, shelf_of, words_of};
-use crate::texts::{Change, TITLE, assert_report, assert_rows, changed};
+use crate::calls::{ROOM, limited};
+use crate::texts::{Change, REPORTED, assert_report, assert_rows, changed};
 use bursts::{BURST, BURST_FAULTS, BURST_ROWS};
-use cl_io::MemSink;
 use cl_time::NoMemory;
 use exact::{EXACT_ROWS, LIMIT_ROWS};
 use required::REQUIRED_ROWS;
@@ -41,9 +40,9 @@ fn file_of(
     Ok(text)
 }
 
-/// The report with these lines after its title.
-fn report_of(alloc: Global, lines: &[&str]) -> Result<String, NoMemory> {
-    let mut text = String::from_str(alloc, TITLE)?;
+/// These lines behind a title.
+fn lines_behind(alloc: Global, title: &str, lines: &[&str]) -> Result<String, NoMemory> {
+    let mut text = String::from_str(alloc, title)?;
     for line in lines {
         text.push_str(line)?;
         text.push_str("\n")?;
@@ -51,12 +50,23 @@ fn report_of(alloc: Global, lines: &[&str]) -> Result<String, NoMemory> {
     Ok(text)
 }
 
+/// The answer with these lines in its report.
+fn report_of(alloc: Global, lines: &[&str]) -> Result<String, NoMemory> {
+    lines_behind(alloc, REPORTED, lines)
+}
+
+/// Asserts that a file is answered by its report.
+fn assert_report_row(rt: &impl Abort, alloc: Global, row: ReportRow) -> Result<(), NoMemory> {
+    let (base, changes, lines) = row;
+    let file = file_of(rt, alloc, base, changes)?;
+    let report = report_of(alloc, lines)?;
+    assert_report(rt, alloc, file.as_str(), report.as_str())
+}
+
 /// Asserts that each file is answered by its report.
 fn assert_reports(rt: &impl Abort, alloc: Global, rows: &[ReportRow]) -> Result<(), NoMemory> {
-    for (base, changes, lines) in rows {
-        let file = file_of(rt, alloc, base, changes)?;
-        let report = report_of(alloc, lines)?;
-        assert_report(rt, alloc, &file, &report)?;
+    for row in rows {
+        assert_report_row(rt, alloc, *row)?;
     }
     Ok(())
 }
@@ -101,30 +111,19 @@ fn requirements_get_their_verdicts(rt: HostRuntime) -> Result<(), Fail> {
 #[test]
 fn a_report_is_cut_where_its_sink_fails(rt: HostRuntime) -> Result<(), Fail> {
     let alloc = rt.alloc();
-    let words = words_of(alloc, "analyse model")?;
-    // the file, the room, the step, the write that fails, and what is written
-    let cases = [
-        (TWO, 10, 64, 99, "chainlat r"),
-        (ONE, ROOM, 30, 1, "chainlat report 1\ntask A respo"),
-        (
-            ONE,
-            ROOM,
-            30,
-            2,
-            "chainlat report 1\ntask A response 3 deadline 10\ntask B respo",
-        ),
-    ];
-    for (file, room, step, failing, written) in cases {
-        let mut shelf = shelf_of(alloc, "model", file.as_bytes())?;
-        assert!(rt; step > 0);
-        let mut sink = MemSink::new(alloc, room, step)?;
-        sink.fail_call(failing)?;
-        assert_eq!(rt;
-            run_here(alloc, &words, &mut shelf, &mut sink),
-            9,
-            "{written}"
-        );
-        assert_eq!(rt; sink.bytes(), written.as_bytes(), "{written}");
-    }
+    let found = limited(alloc, "analyse model", TWO.as_bytes(), (10, 64, 99))?;
+    assert_eq!(rt; found.as_str(), "9 chainlat r");
+    let found = limited(alloc, "analyse model", ONE.as_bytes(), (ROOM, 30, 1))?;
+    assert_eq!(rt; found.as_str(), "9 chainlat report 1\ntask A respo");
+    Ok(())
+}
+
+#[test]
+fn a_report_is_cut_at_a_later_write(rt: HostRuntime) -> Result<(), Fail> {
+    let found = limited(rt.alloc(), "analyse model", ONE.as_bytes(), (ROOM, 30, 2))?;
+    assert_eq!(rt;
+        found.as_str(),
+        "9 chainlat report 1\ntask A response 3 deadline 10\ntask B respo"
+    );
     Ok(())
 }

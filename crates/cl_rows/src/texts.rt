@@ -1,5 +1,6 @@
+//! Files that are changed and grown, and what they come to.
 use crate::base::EMPTY;
-use crate::calls::answer_of;
+use crate::calls::{analysed, assert_answer};
 use cl_time::NoMemory;
 use std::alloc::Global;
 use std::process::Abort;
@@ -7,8 +8,11 @@ use std::process::Abort;
 /// What a row says of a file that is accepted and reported on.
 pub(crate) const ACCEPTED: &str = "accepted";
 
-/// How every report begins.
-pub(crate) const TITLE: &str = "chainlat report 1\n";
+/// How the answer begins to every file that is reported on.
+pub(crate) const REPORTED: &str = "0 chainlat report 1\n";
+
+/// The command that most files are tried with.
+const ANALYSE: &str = "analyse model";
 
 /// A text of a file that must be there, and what stands in its place.
 pub(crate) type Change = (&'static str, &'static str);
@@ -56,6 +60,37 @@ pub(crate) fn grown(
     changed(rt, alloc, base, after, &new)
 }
 
+/// Asserts that a file is refused for this.
+fn assert_refused(
+    rt: &impl Abort,
+    alloc: Global,
+    content: &[u8],
+    refusal: &str,
+    case: &str,
+) -> Result<(), NoMemory> {
+    let wanted = format!(in alloc; "5 model refused {refusal}\n")?;
+    assert_answer(
+        rt,
+        alloc,
+        ANALYSE,
+        &[("model", content)],
+        wanted.as_str(),
+        case,
+    )
+}
+
+/// Asserts that a file is accepted and reported on.
+fn assert_accepted(
+    rt: &impl Abort,
+    alloc: Global,
+    content: &[u8],
+    case: &str,
+) -> Result<(), NoMemory> {
+    let found = analysed(alloc, content)?;
+    assert!(rt; found.as_str().starts_with(REPORTED), "{case}: {found}");
+    Ok(())
+}
+
 /// Asserts what a file comes to. The case is named where it fails.
 pub(crate) fn assert_outcome(
     rt: &impl Abort,
@@ -64,31 +99,35 @@ pub(crate) fn assert_outcome(
     outcome: &str,
     case: &str,
 ) -> Result<(), NoMemory> {
-    let (status, sink) = answer_of(alloc, content)?;
-    let text = str::from_utf8(sink.bytes()).unwrap_or("no text");
     if outcome == ACCEPTED {
-        assert!(rt; text.starts_with(TITLE), "{case}: {text}");
-        assert_eq!(rt; status, 0, "{case}");
+        assert_accepted(rt, alloc, content, case)
     } else {
-        let refusal = format!(in alloc; "model refused {outcome}\n")?;
-        assert_eq!(rt; text, refusal.as_str(), "{case}");
-        assert_eq!(rt; status, 5, "{case}");
+        assert_refused(rt, alloc, content, outcome, case)
     }
-    Ok(())
 }
 
-/// Asserts that a file is answered by this report.
+/// Asserts that a file is answered by this report, behind its status.
 pub(crate) fn assert_report(
     rt: &impl Abort,
     alloc: Global,
     file: &str,
     report: &str,
 ) -> Result<(), NoMemory> {
-    let (status, sink) = answer_of(alloc, file.as_bytes())?;
-    let text = str::from_utf8(sink.bytes()).unwrap_or("no text");
-    assert_eq!(rt; text, report, "{file}");
-    assert_eq!(rt; status, 0, "{file}");
-    Ok(())
+    assert_answer(
+        rt,
+        alloc,
+        ANALYSE,
+        &[("model", file.as_bytes())],
+        report,
+        file,
+    )
+}
+
+/// Asserts what the base comes to with a change.
+fn assert_row(rt: &impl Abort, alloc: Global, base: &str, row: Row) -> Result<(), NoMemory> {
+    let (old, new, outcome) = row;
+    let text = changed(rt, alloc, base, old, new)?;
+    assert_outcome(rt, alloc, text.as_bytes(), outcome, new)
 }
 
 /// Asserts what the base comes to with each of the changes.
@@ -98,9 +137,8 @@ pub(crate) fn assert_rows(
     base: &str,
     rows: &[Row],
 ) -> Result<(), NoMemory> {
-    for (old, new, outcome) in rows {
-        let text = changed(rt, alloc, base, old, new)?;
-        assert_outcome(rt, alloc, text.as_bytes(), outcome, new)?;
+    for row in rows {
+        assert_row(rt, alloc, base, *row)?;
     }
     Ok(())
 }

@@ -1,6 +1,9 @@
 //! Models that read: which of them are valid, and what the others are refused for.
 use crate::base::{FULL, ONE, TWO};
 use crate::texts::{ACCEPTED, Row, assert_outcome, assert_rows, changed, grown, many_runnables};
+use cl_time::NoMemory;
+use std::alloc::Global;
+use std::process::Abort;
 use std::test::Fail;
 
 /// Changes of the model of two tasks.
@@ -261,45 +264,71 @@ greatest = 1
 #[test]
 fn models_are_refused_for_their_first_fault(rt: HostRuntime) -> Result<(), Fail> {
     let alloc = rt.alloc();
-    let tables = [
-        (TWO, TWO_ROWS.as_slice()),
-        (ONE, ONE_ROWS.as_slice()),
-        (FULL, FULL_ROWS.as_slice()),
-        (TWO, PAIR_ROWS.as_slice()),
-        (FULL, LAST_ROWS.as_slice()),
-    ];
-    for (base, rows) in tables {
-        assert_rows(&rt, alloc, base, rows)?;
-    }
-    // The deadlines of a core are compared only once each task is checked.
-    let slow = changed(&rt, alloc, ONE, "period = 20\n", "period = 10000001\n")?;
-    let rows = [
-        (
-            "period = 10\n",
-            "period = 10 # short\n",
-            "M42 task[1].deadline",
-        ),
-        (
-            "reads = [\"x\"]",
-            "reads = [\"zz\"]",
-            "M37 task[1].runnable[0].reads[0]",
-        ),
-    ];
-    assert_rows(&rt, alloc, &slow, &rows)?;
+    assert_rows(&rt, alloc, TWO, &TWO_ROWS)?;
+    assert_rows(&rt, alloc, ONE, &ONE_ROWS)?;
+    assert_rows(&rt, alloc, FULL, &FULL_ROWS)?;
     Ok(())
+}
+
+#[test]
+fn models_of_two_faults_are_refused_for_the_first(rt: HostRuntime) -> Result<(), Fail> {
+    let alloc = rt.alloc();
+    assert_rows(&rt, alloc, TWO, &PAIR_ROWS)?;
+    assert_rows(&rt, alloc, FULL, &LAST_ROWS)?;
+    Ok(())
+}
+
+/// Changes of a model whose slower task is so slow that its deadline spans too many least distances of the other.
+const SLOW_ROWS: [Row; 2] = [
+    (
+        "period = 10\n",
+        "period = 10 # short\n",
+        "M42 task[1].deadline",
+    ),
+    (
+        "reads = [\"x\"]",
+        "reads = [\"zz\"]",
+        "M37 task[1].runnable[0].reads[0]",
+    ),
+];
+
+#[test]
+fn deadlines_of_a_core_are_compared_once_each_task_is_checked(rt: HostRuntime) -> Result<(), Fail> {
+    let alloc = rt.alloc();
+    let slow = changed(&rt, alloc, ONE, "period = 20\n", "period = 10000001\n")?;
+    assert_rows(&rt, alloc, slow.as_str(), &SLOW_ROWS)?;
+    Ok(())
+}
+
+/// Asserts what so many tasks beside that of the model of every key come to.
+fn assert_far_tasks(
+    rt: &impl Abort,
+    alloc: Global,
+    count: usize,
+    outcome: &str,
+) -> Result<(), NoMemory> {
+    let end = "most = 1000000000000000\n";
+    let text = grown(rt, alloc, FULL, end, FAR_TASK, count)?;
+    assert_outcome(rt, alloc, text.as_bytes(), outcome, outcome)
+}
+
+/// Asserts what so many runnables in the first task of a model of many runnables come to.
+fn assert_runnables(
+    rt: &impl Abort,
+    alloc: Global,
+    first: usize,
+    outcome: &str,
+) -> Result<(), NoMemory> {
+    let text = many_runnables(alloc, first, false)?;
+    assert_outcome(rt, alloc, text.as_bytes(), outcome, outcome)
 }
 
 #[test]
 fn limits_of_a_whole_model_hold_and_one_past(rt: HostRuntime) -> Result<(), Fail> {
     let alloc = rt.alloc();
-    for (count, outcome) in [(127, ACCEPTED), (128, "M34 task[128].core")] {
-        let end = "most = 1000000000000000\n";
-        let text = grown(&rt, alloc, FULL, end, FAR_TASK, count)?;
-        assert_outcome(&rt, alloc, text.as_bytes(), outcome, outcome)?;
-    }
-    for (first, outcome) in [(255, ACCEPTED), (256, "M41 task[32]")] {
-        let text = many_runnables(alloc, first, false)?;
-        assert_outcome(&rt, alloc, text.as_bytes(), outcome, outcome)?;
-    }
+    assert_far_tasks(&rt, alloc, 127, ACCEPTED)?;
+    assert_far_tasks(&rt, alloc, 128, "M34 task[128].core")?;
+    assert_runnables(&rt, alloc, 255, ACCEPTED)?;
+    assert_runnables(&rt, alloc, 256, "M41 task[32]")?;
     Ok(())
 }

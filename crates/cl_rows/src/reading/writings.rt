@@ -49,15 +49,15 @@ pub(super) const EARLY_CHAIN: Change = (
     "[[chain]]\nname = \"early\"\nrunnables = [\"a\"]\n\n[[core]]\nname = \"c0\"\n\n[[core]]\nname = \"c1\"\n",
 );
 
-/// The report of the model of two tasks.
-pub(super) const TWO_REPORT: &str = "chainlat report 1
+/// The answer to the model of two tasks: its status and its report.
+pub(super) const TWO_REPORT: &str = "0 chainlat report 1
 task A response 3 deadline 10
 task B response 5 deadline 20
 chain ab reaction 37 age 37 reduced 17
 ";
 
-/// The report with the other chain. Its bounds are those of one group: the distance between arrivals and the response.
-pub(super) const EARLY_REPORT: &str = "chainlat report 1
+/// The answer with the other chain. Its bounds are those of one group: the distance between arrivals and the response.
+pub(super) const EARLY_REPORT: &str = "0 chainlat report 1
 task A response 3 deadline 10
 task B response 5 deadline 20
 chain early reaction 13 age 13 reduced 3

@@ -7,7 +7,7 @@ use super::file_of;
 use super::models::LET;
 use super::whole::{B_TAKES_6_WHOLE, VERSION_2};
 use crate::base::{EMPTY, ONE, TWO};
-use crate::calls::{roomy_sink, run_here, shelf_of, words_of};
+use crate::calls::assert_answer;
 use crate::texts::Change;
 use cl_time::NoMemory;
 use std::alloc::Global;
@@ -236,11 +236,17 @@ const HEADROOM_ROWS: &[DesignRow] = &[
 
 /// Asserts what each model is answered.
 fn assert_designs(rt: &impl Abort, alloc: Global, rows: &[DesignRow]) -> Result<(), NoMemory> {
-    for (base, changes, verb, lines) in rows {
-        let file = file_of(rt, alloc, base, changes)?;
-        assert_design(rt, alloc, &file, verb, lines)?;
+    for row in rows {
+        assert_design_row(rt, alloc, *row)?;
     }
     Ok(())
+}
+
+/// Asserts what a row's model is answered.
+fn assert_design_row(rt: &impl Abort, alloc: Global, row: DesignRow) -> Result<(), NoMemory> {
+    let (base, changes, verb, lines) = row;
+    let file = file_of(rt, alloc, base, changes)?;
+    assert_design(rt, alloc, file.as_str(), verb, lines)
 }
 
 /// Asserts what a verb answers of a model.
@@ -252,15 +258,9 @@ fn assert_design(
     lines: &str,
 ) -> Result<(), NoMemory> {
     let line = format!(in alloc; "{verb} model")?;
-    let words = words_of(alloc, line.as_str())?;
-    let mut shelf = shelf_of(alloc, "model", file.as_bytes())?;
-    let mut sink = roomy_sink(alloc)?;
-    let answer = run_here(alloc, &words, &mut shelf, &mut sink);
-    let written = str::from_utf8(sink.bytes()).unwrap_or("no text");
-    let text = format!(in alloc; "chainlat {verb} 1\n{lines}")?;
-    assert_eq!(rt; written, text.as_str(), "{file}");
-    assert_eq!(rt; answer, 0, "{file}");
-    Ok(())
+    let wanted = format!(in alloc; "0 chainlat {verb} 1\n{lines}")?;
+    let files = [("model", file.as_bytes())];
+    assert_answer(rt, alloc, line.as_str(), &files, wanted.as_str(), file)
 }
 
 #[test]

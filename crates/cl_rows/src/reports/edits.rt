@@ -2,7 +2,7 @@
 use super::bursts::BURST;
 use super::models::SPORADIC;
 use crate::base::{ONE, TWO};
-use crate::calls::{roomy_sink, run_here, shelf_of, words_of};
+use crate::calls::assert_answer;
 use cl_time::NoMemory;
 use std::alloc::Global;
 use std::process::Abort;
@@ -19,6 +19,15 @@ const OF_ONE: &str =
 const REQUIREMENT: &str =
     "\n[[requirement]]\nname = \"r\"\nchain = \"ab\"\nkind = \"age\"\nmost = 50\n";
 
+/// A status and texts, as one text.
+fn joined(alloc: Global, status: u8, texts: &[&str]) -> Result<String, NoMemory> {
+    let mut text = format!(in alloc; "{status} ")?;
+    for part in texts {
+        text.push_str(part)?;
+    }
+    Ok(text)
+}
+
 /// Asserts what `edit` of a model file and a text of edits answers: its status, and the texts of which its own is made.
 fn assert_edit(
     rt: &impl Abort,
@@ -28,19 +37,21 @@ fn assert_edit(
     status: u8,
     texts: &[&str],
 ) -> Result<(), NoMemory> {
-    let words = words_of(alloc, "edit model edits")?;
-    let mut shelf = shelf_of(alloc, "model", file.as_bytes())?;
-    shelf.put("edits", edits.as_bytes())?;
-    let mut sink = roomy_sink(alloc)?;
-    let answer = run_here(alloc, &words, &mut shelf, &mut sink);
-    let written = str::from_utf8(sink.bytes()).unwrap_or("no text");
-    let mut text = String::new(alloc);
-    for part in texts {
-        text.push_str(part)?;
-    }
-    assert_eq!(rt; written, text.as_str(), "{edits}");
-    assert_eq!(rt; answer, status, "{edits}");
-    Ok(())
+    let files = [("model", file.as_bytes()), ("edits", edits.as_bytes())];
+    let wanted = joined(alloc, status, texts)?;
+    assert_answer(
+        rt,
+        alloc,
+        "edit model edits",
+        &files,
+        wanted.as_str(),
+        edits,
+    )
+}
+
+/// Edits behind the title.
+fn titled(alloc: Global, edits: &str) -> Result<String, NoMemory> {
+    Ok(format!(in alloc; "chainlat edits 1\n{edits}")?)
 }
 
 /// Asserts that edits, which stand behind the title, come to reports: their lines, each behind the title of a report.
@@ -51,9 +62,8 @@ fn assert_reported(
     edits: &str,
     reports: &[&str],
 ) -> Result<(), NoMemory> {
-    let mut text = String::from_str(alloc, "chainlat edits 1\n")?;
-    text.push_str(edits)?;
-    assert_edit(rt, alloc, file, &text, 0, reports)
+    let text = titled(alloc, edits)?;
+    assert_edit(rt, alloc, file, text.as_str(), 0, reports)
 }
 
 /// Asserts that edits, which stand behind the title, are refused without a report before.
@@ -64,16 +74,9 @@ fn assert_refused(
     edits: &str,
     refusal: &str,
 ) -> Result<(), NoMemory> {
-    let mut text = String::from_str(alloc, "chainlat edits 1\n")?;
-    text.push_str(edits)?;
-    assert_edit(
-        rt,
-        alloc,
-        file,
-        &text,
-        7,
-        &["edits refused line ", refusal, "\n"],
-    )
+    let text = titled(alloc, edits)?;
+    let texts = ["edits refused line ", refusal, "\n"];
+    assert_edit(rt, alloc, file, text.as_str(), 7, &texts)
 }
 
 #[test]

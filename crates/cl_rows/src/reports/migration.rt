@@ -5,9 +5,8 @@ use super::tables::{REPORT_ROWS, ReportRow};
 use super::whole::WHOLE_ROWS;
 use super::{file_of, report_of};
 use crate::base::{EMPTY, FULL, ONE, TWO};
-use crate::calls::{ROOM, answer_of, roomy_sink, run_here, shelf_of, words_of};
-use crate::texts::{assert_report, changed};
-use cl_io::MemSink;
+use crate::calls::{ROOM, analysed, answer, assert_answer, assert_text, limited, text_of};
+use crate::texts::changed;
 use cl_time::NoMemory;
 use std::alloc::Global;
 use std::process::Abort;
@@ -136,7 +135,9 @@ name = "a"
 "#;
 
 /// What is changed in a file, and what is then changed in what `migrate` makes of it.
-const KEPT: [(&str, &str, &str, &str); 4] = [
+type KeptRow = (&'static str, &'static str, &'static str, &'static str);
+
+const KEPT: [KeptRow; 4] = [
     (
         "kind = \"burst\"\noffset = 0\n",
         "kind = \"burst\"\noffset = 3\n",
@@ -163,13 +164,12 @@ const KEPT: [(&str, &str, &str, &str); 4] = [
     ),
 ];
 
-/// What `migrate` of a file answers: its status, and the sink that it wrote to.
-fn migration_of(alloc: Global, content: &[u8]) -> Result<(u8, MemSink), NoMemory> {
-    let words = words_of(alloc, "migrate model")?;
-    let mut shelf = shelf_of(alloc, "model", content)?;
-    let mut sink = roomy_sink(alloc)?;
-    let status = run_here(alloc, &words, &mut shelf, &mut sink);
-    Ok((status, sink))
+/// The command of these rows.
+const MIGRATE: &str = "migrate model";
+
+/// What `migrate` of a file answers.
+fn migration_of(alloc: Global, content: &[u8]) -> Result<String, NoMemory> {
+    answer(alloc, MIGRATE, &[("model", content)])
 }
 
 /// Asserts what `migrate` makes of a file, and that it makes the same of its own text.
@@ -179,34 +179,62 @@ fn assert_migrated(
     file: &str,
     migrated: &str,
 ) -> Result<(), NoMemory> {
-    for content in [file, migrated] {
-        let (status, sink) = migration_of(alloc, content.as_bytes())?;
-        let text = str::from_utf8(sink.bytes()).unwrap_or("no text");
-        assert_eq!(rt; text, migrated, "{file}");
-        assert_eq!(rt; status, 0, "{file}");
-    }
-    Ok(())
+    assert_text(
+        rt,
+        alloc,
+        MIGRATE,
+        &[("model", file.as_bytes())],
+        (0, migrated),
+        file,
+    )?;
+    assert_text(
+        rt,
+        alloc,
+        MIGRATE,
+        &[("model", migrated.as_bytes())],
+        (0, migrated),
+        file,
+    )
+}
+
+/// What `analyse` answers to what `migrate` makes of a file, which isn't refused.
+fn analysed_again(rt: &impl Abort, alloc: Global, file: &str) -> Result<String, NoMemory> {
+    let migrated = migration_of(alloc, file.as_bytes())?;
+    assert!(rt; migrated.as_str().starts_with("0 "), "{file}");
+    analysed(alloc, text_of(migrated.as_str()).as_bytes())
 }
 
 /// Asserts that `analyse` answers what `migrate` makes of a file as it answers the file.
 fn assert_analysed_alike(rt: &impl Abort, alloc: Global, file: &str) -> Result<(), NoMemory> {
-    let (done, migrated) = migration_of(alloc, file.as_bytes())?;
-    assert_eq!(rt; done, 0, "{file}");
-    let (status, sink) = answer_of(alloc, file.as_bytes())?;
-    let (again, other) = answer_of(alloc, migrated.bytes())?;
-    assert_eq!(rt; again, status, "{file}");
-    assert_eq!(rt; other.bytes(), sink.bytes(), "{file}");
+    let again = analysed_again(rt, alloc, file)?;
+    let files = [("model", file.as_bytes())];
+    assert_answer(rt, alloc, "analyse model", &files, again.as_str(), file)
+}
+
+/// Asserts that what `migrate` makes of a file is answered by the file's report.
+fn assert_report_stays(rt: &impl Abort, alloc: Global, row: ReportRow) -> Result<(), NoMemory> {
+    let (base, changes, lines) = row;
+    let file = file_of(rt, alloc, base, changes)?;
+    let report = report_of(alloc, lines)?;
+    assert_answered_again(rt, alloc, file.as_str(), report.as_str())
+}
+
+/// Asserts how what `migrate` makes of a file is answered.
+fn assert_answered_again(
+    rt: &impl Abort,
+    alloc: Global,
+    file: &str,
+    report: &str,
+) -> Result<(), NoMemory> {
+    let again = analysed_again(rt, alloc, file)?;
+    assert_eq!(rt; again.as_str(), report, "{file}");
     Ok(())
 }
 
 /// Asserts that what `migrate` makes of each file is answered by the file's report.
 fn assert_reports_stay(rt: &impl Abort, alloc: Global, rows: &[ReportRow]) -> Result<(), NoMemory> {
-    for (base, changes, lines) in rows {
-        let file = file_of(rt, alloc, base, changes)?;
-        let report = report_of(alloc, lines)?;
-        let (_, migrated) = migration_of(alloc, file.as_bytes())?;
-        let text = str::from_utf8(migrated.bytes()).unwrap_or("no text");
-        assert_report(rt, alloc, text, &report)?;
+    for row in rows {
+        assert_report_stays(rt, alloc, *row)?;
     }
     Ok(())
 }
@@ -217,38 +245,44 @@ fn a_model_is_migrated_to_version_2(rt: HostRuntime) -> Result<(), Fail> {
     let empty = "format = \"chainlat\"\nversion = 2\n";
     assert_migrated(&rt, alloc, EMPTY, empty)?;
     assert_migrated(&rt, alloc, FULL, FULL_MIGRATED)?;
+    assert_migrated(&rt, alloc, DEFAULTS, DEFAULTS_MIGRATED)?;
     Ok(())
 }
 
+/// Asserts that what is changed in a file is changed in what `migrate` makes of it.
+fn assert_kept(rt: &impl Abort, alloc: Global, row: KeptRow) -> Result<(), NoMemory> {
+    let (old, new, old_migrated, new_migrated) = row;
+    let file = changed(rt, alloc, DEFAULTS, old, new)?;
+    let migrated = changed(rt, alloc, DEFAULTS_MIGRATED, old_migrated, new_migrated)?;
+    assert_migrated(rt, alloc, file.as_str(), migrated.as_str())
+}
+
 #[test]
-fn defaults_are_left_out(rt: HostRuntime) -> Result<(), Fail> {
-    let alloc = rt.alloc();
-    assert_migrated(&rt, alloc, DEFAULTS, DEFAULTS_MIGRATED)?;
-    for (old, new, old_migrated, new_migrated) in KEPT {
-        let file = changed(&rt, alloc, DEFAULTS, old, new)?;
-        let migrated = changed(&rt, alloc, DEFAULTS_MIGRATED, old_migrated, new_migrated)?;
-        assert_migrated(&rt, alloc, &file, &migrated)?;
+fn what_is_no_default_is_kept(rt: HostRuntime) -> Result<(), Fail> {
+    for row in KEPT {
+        assert_kept(&rt, rt.alloc(), row)?;
     }
     Ok(())
 }
 
+/// Files that are migrated.
+const FILES: [&str; 10] = [
+    EMPTY,
+    TWO,
+    ONE,
+    FULL,
+    SPORADIC,
+    ROUND,
+    SENSE_TO_ACT,
+    VALVE,
+    BURST,
+    DEFAULTS,
+];
+
 #[test]
 fn migrated_files_are_analysed_as_before(rt: HostRuntime) -> Result<(), Fail> {
-    let alloc = rt.alloc();
-    let files = [
-        EMPTY,
-        TWO,
-        ONE,
-        FULL,
-        SPORADIC,
-        ROUND,
-        SENSE_TO_ACT,
-        VALVE,
-        BURST,
-        DEFAULTS,
-    ];
-    for file in files {
-        assert_analysed_alike(&rt, alloc, file)?;
+    for file in FILES {
+        assert_analysed_alike(&rt, rt.alloc(), file)?;
     }
     Ok(())
 }
@@ -261,60 +295,53 @@ fn reports_stay_after_a_migration(rt: HostRuntime) -> Result<(), Fail> {
     Ok(())
 }
 
+/// The words, and what is answered of them over a shelf with the model of nothing alone.
+const CAUSES: [(&str, &str); 3] = [
+    ("migrate", "2 words refused\n"),
+    ("migrate model model", "2 words refused\n"),
+    ("migrate other", "3 read fault 1\n"),
+];
+
+#[test]
+fn a_migration_has_the_causes_of_its_words(rt: HostRuntime) -> Result<(), Fail> {
+    for (line, wanted) in CAUSES {
+        assert_answer(
+            &rt,
+            rt.alloc(),
+            line,
+            &[("model", EMPTY.as_bytes())],
+            wanted,
+            line,
+        )?;
+    }
+    Ok(())
+}
+
 #[test]
 fn a_migration_has_the_causes_of_its_file(rt: HostRuntime) -> Result<(), Fail> {
     let alloc = rt.alloc();
-    let long = vec![in alloc; b'#'; 16_777_217]?;
+    let empty = migration_of(alloc, b"")?;
+    assert_eq!(rt; empty.as_str(), "5 model refused M2 top.format\n");
     let early = changed(&rt, alloc, BURST, "version = 2", "version = 1")?;
-    // the words, the file, the status and the text
-    let cases = [
-        ("migrate", EMPTY.as_bytes(), 2, "words refused\n"),
-        (
-            "migrate model model",
-            EMPTY.as_bytes(),
-            2,
-            "words refused\n",
-        ),
-        ("migrate other", EMPTY.as_bytes(), 3, "read fault 1\n"),
-        ("migrate model", long.as_slice(), 4, "long file 1\n"),
-        ("migrate model", b"", 5, "model refused M2 top.format\n"),
-        (
-            "migrate model",
-            early.as_bytes(),
-            5,
-            "model refused M9 stimulus[0].kind\n",
-        ),
-    ];
-    for (line, content, status, text) in cases {
-        let mut shelf = shelf_of(alloc, "model", content)?;
-        let mut sink = roomy_sink(alloc)?;
-        let answer = run_here(alloc, &words_of(alloc, line)?, &mut shelf, &mut sink);
-        assert_eq!(rt; answer, status, "{text}");
-        assert_eq!(rt; sink.bytes(), text.as_bytes(), "{text}");
-    }
+    let refused = migration_of(alloc, early.as_bytes())?;
+    assert_eq!(rt; refused.as_str(), "5 model refused M9 stimulus[0].kind\n");
+    Ok(())
+}
+
+#[test]
+fn a_file_that_is_too_long_is_not_migrated(rt: HostRuntime) -> Result<(), Fail> {
+    let long = vec![in rt.alloc(); b'#'; 16_777_217]?;
+    let refused = migration_of(rt.alloc(), long.as_slice())?;
+    assert_eq!(rt; refused.as_str(), "4 long file 1\n");
     Ok(())
 }
 
 #[test]
 fn a_migration_is_cut_where_its_sink_fails(rt: HostRuntime) -> Result<(), Fail> {
     let alloc = rt.alloc();
-    let words = words_of(alloc, "migrate model")?;
-    // the room, the step, the write that fails, and what is written
-    let cases = [
-        (10, 64, 99, "format = \""),
-        (ROOM, 30, 1, "format = \"chainlat\"\nversion = "),
-    ];
-    for (room, step, failing, written) in cases {
-        let mut shelf = shelf_of(alloc, "model", FULL.as_bytes())?;
-        assert!(rt; step > 0);
-        let mut sink = MemSink::new(alloc, room, step)?;
-        sink.fail_call(failing)?;
-        assert_eq!(rt;
-            run_here(alloc, &words, &mut shelf, &mut sink),
-            9,
-            "{written}"
-        );
-        assert_eq!(rt; sink.bytes(), written.as_bytes(), "{written}");
-    }
+    let found = limited(alloc, MIGRATE, FULL.as_bytes(), (10, 64, 99))?;
+    assert_eq!(rt; found.as_str(), "9 format = \"");
+    let found = limited(alloc, MIGRATE, FULL.as_bytes(), (ROOM, 30, 1))?;
+    assert_eq!(rt; found.as_str(), "9 format = \"chainlat\"\nversion = ");
     Ok(())
 }

@@ -1,10 +1,11 @@
 //! Replays: what is measured in the traces of simulations, traces that are refused, and runs that aren't legal.
 use super::bursts::BURST;
-use super::file_of;
 use super::models::SPORADIC;
+use super::simulations::SimulationRow;
 use super::traces::{FIXED, HELD, SIMULATION_ROWS};
+use super::{file_of, lines_behind};
 use crate::base::{ONE, TWO};
-use crate::calls::{roomy_sink, run_here, shelf_of, words_of};
+use crate::calls::{answer, assert_answer, assert_text};
 use cl_time::NoMemory;
 use std::alloc::Global;
 use std::process::Abort;
@@ -112,35 +113,71 @@ fn assert_replay(
     status: u8,
     text: &str,
 ) -> Result<(), NoMemory> {
-    let words = words_of(alloc, "replay model trace")?;
-    let mut shelf = shelf_of(alloc, "model", file.as_bytes())?;
-    shelf.put("trace", trace.as_bytes())?;
-    let mut sink = roomy_sink(alloc)?;
-    let answer = run_here(alloc, &words, &mut shelf, &mut sink);
-    let written = str::from_utf8(sink.bytes()).unwrap_or("no text");
-    assert_eq!(rt; written, text, "{trace}");
-    assert_eq!(rt; answer, status, "{trace}");
-    Ok(())
+    let files = [("model", file.as_bytes()), ("trace", trace.as_bytes())];
+    assert_text(
+        rt,
+        alloc,
+        "replay model trace",
+        &files,
+        (status, text),
+        trace,
+    )
 }
 
-/// The replay with these lines after its title.
-fn replay_of(alloc: Global, lines: &[&str]) -> Result<String, NoMemory> {
-    let mut text = String::from_str(alloc, "chainlat replay 1\n")?;
-    for line in lines {
-        text.push_str(line)?;
-        text.push_str("\n")?;
+/// Asserts that the trace of a simulation is replayed with these lines.
+fn assert_replayed(
+    rt: &impl Abort,
+    alloc: Global,
+    row: SimulationRow,
+    lines: &[&str],
+) -> Result<(), NoMemory> {
+    let (base, changes, _, trace) = row;
+    let file = file_of(rt, alloc, base, changes)?;
+    let replay = lines_behind(alloc, "chainlat replay 1\n", lines)?;
+    assert_replay(rt, alloc, file.as_str(), trace, 0, replay.as_str())
+}
+
+/// Asserts that the traces of the first simulations are replayed with these lines.
+fn assert_all_replayed(
+    rt: &impl Abort,
+    alloc: Global,
+    rows: &[SimulationRow],
+    replays: &[&[&str]],
+) -> Result<(), NoMemory> {
+    for (row, lines) in rows.iter().zip(replays) {
+        assert_replayed(rt, alloc, *row, lines)?;
     }
-    Ok(text)
+    Ok(())
 }
 
 #[test]
 fn what_is_simulated_is_replayed(rt: HostRuntime) -> Result<(), Fail> {
-    let alloc = rt.alloc();
-    for (row, lines) in SIMULATION_ROWS.iter().zip(REPLAYS.iter()) {
-        let (base, changes, _, trace) = row;
-        let file = file_of(&rt, alloc, base, changes)?;
-        let replay = replay_of(alloc, lines)?;
-        assert_replay(&rt, alloc, &file, trace, 0, &replay)?;
+    assert_all_replayed(&rt, rt.alloc(), SIMULATION_ROWS, &REPLAYS)?;
+    Ok(())
+}
+
+/// Asserts how a text behind the title of a trace is refused.
+fn assert_refused(
+    rt: &impl Abort,
+    alloc: Global,
+    file: &str,
+    rest: &str,
+    refusal: &str,
+) -> Result<(), NoMemory> {
+    let trace = format!(in alloc; "chainlat trace 1\n{rest}")?;
+    let wanted = format!(in alloc; "{refusal}\n")?;
+    assert_replay(rt, alloc, file, trace.as_str(), 6, wanted.as_str())
+}
+
+/// Asserts how each of the texts is refused.
+fn assert_all_refused(
+    rt: &impl Abort,
+    alloc: Global,
+    file: &str,
+    rows: &[(&str, &str)],
+) -> Result<(), NoMemory> {
+    for (rest, refusal) in rows {
+        assert_refused(rt, alloc, file, rest, refusal)?;
     }
     Ok(())
 }
@@ -149,40 +186,62 @@ fn what_is_simulated_is_replayed(rt: HostRuntime) -> Result<(), Fail> {
 fn traces_are_refused_at_their_first_bad_line_or_broken_rule(rt: HostRuntime) -> Result<(), Fail> {
     let alloc = rt.alloc();
     let file = file_of(&rt, alloc, TWO, FIXED)?;
-    for (rest, refusal) in REFUSED {
-        let trace = format!(in alloc; "chainlat trace 1\n{rest}")?;
-        let text = format!(in alloc; "{refusal}\n")?;
-        assert_replay(&rt, alloc, &file, trace.as_str(), 6, text.as_str())?;
-    }
-    assert_replay(&rt, alloc, &file, "", 6, "trace refused line 1\n")?;
-    assert_replay(&rt, alloc, &file, WHOLE, 6, "trace refused line 15\n")?;
-    let longer = format!(in alloc; "{WHOLE}end\nx")?;
+    assert_all_refused(&rt, alloc, file.as_str(), &REFUSED)?;
+    Ok(())
+}
+
+#[test]
+fn a_trace_without_its_end_is_refused(rt: HostRuntime) -> Result<(), Fail> {
+    let alloc = rt.alloc();
+    let file = file_of(&rt, alloc, TWO, FIXED)?;
+    assert_replay(&rt, alloc, file.as_str(), "", 6, "trace refused line 1\n")?;
     assert_replay(
         &rt,
         alloc,
-        &file,
-        longer.as_str(),
+        file.as_str(),
+        WHOLE,
         6,
-        "trace refused line 16\n",
+        "trace refused line 15\n",
     )?;
     Ok(())
 }
 
 #[test]
+fn a_trace_with_more_after_its_end_is_refused(rt: HostRuntime) -> Result<(), Fail> {
+    let alloc = rt.alloc();
+    let file = file_of(&rt, alloc, TWO, FIXED)?;
+    let longer = format!(in alloc; "{WHOLE}end\nx")?;
+    let refusal = "trace refused line 16\n";
+    assert_replay(&rt, alloc, file.as_str(), longer.as_str(), 6, refusal)?;
+    Ok(())
+}
+
+/// Asserts what the replay of a trace of the sporadic task answers.
+fn assert_sporadic(
+    rt: &impl Abort,
+    alloc: Global,
+    ticks: u64,
+    lines: &str,
+    status: u8,
+    text: &str,
+) -> Result<(), NoMemory> {
+    let trace = format!(in alloc; "chainlat trace 1\nticks {ticks}\n{lines}end\n")?;
+    assert_replay(rt, alloc, SPORADIC, trace.as_str(), status, text)
+}
+
+/// Two jobs of the sporadic task, and three.
+const TWO_JOBS: &str = "job S 0 0 1\njob S 8 8 1\nrun S 0 1\nrun S 8 9\n";
+
+const THREE_JOBS: &str =
+    "job S 0 0 1\njob S 8 8 1\njob S 16 16 1\nrun S 0 1\nrun S 8 9\nrun S 16 17\n";
+
+#[test]
 fn sporadic_jobs_are_due_by_the_end_of_the_run(rt: HostRuntime) -> Result<(), Fail> {
     let alloc = rt.alloc();
     let missing = "trace illegal missing task S tick 16\n";
-    let title = "chainlat replay 1\n";
-    let jobs = "job S 0 0 1\njob S 8 8 1\n";
-    let runs = "run S 0 1\nrun S 8 9\n";
-    let short = format!(in alloc; "chainlat trace 1\nticks 16\n{jobs}{runs}end\n")?;
-    let long = format!(in alloc; "chainlat trace 1\nticks 17\n{jobs}{runs}end\n")?;
-    let whole = format!(in alloc;
-        "chainlat trace 1\nticks 17\n{jobs}job S 16 16 1\n{runs}run S 16 17\nend\n"
-    )?;
-    assert_replay(&rt, alloc, SPORADIC, short.as_str(), 0, title)?;
-    assert_replay(&rt, alloc, SPORADIC, long.as_str(), 6, missing)?;
-    assert_replay(&rt, alloc, SPORADIC, whole.as_str(), 0, title)?;
+    assert_sporadic(&rt, alloc, 16, TWO_JOBS, 0, "chainlat replay 1\n")?;
+    assert_sporadic(&rt, alloc, 17, TWO_JOBS, 6, missing)?;
+    assert_sporadic(&rt, alloc, 17, THREE_JOBS, 0, "chainlat replay 1\n")?;
     Ok(())
 }
 
@@ -203,27 +262,36 @@ fn a_whole_runnable_that_was_interrupted_is_no_legal_run(rt: HostRuntime) -> Res
     Ok(())
 }
 
+/// The words, and what is answered of them over a shelf with the model of two tasks alone.
+const SECOND_FILE: [(&str, &str); 5] = [
+    ("replay model", "2 words refused\n"),
+    ("replay model trace more", "2 words refused\n"),
+    ("replay other trace", "3 read fault 1\n"),
+    ("replay model trace", "3 read fault 2\n"),
+    ("replay model model", "6 trace refused line 1\n"),
+];
+
+#[test]
+fn the_second_file_is_read_after_the_first(rt: HostRuntime) -> Result<(), Fail> {
+    for (line, wanted) in SECOND_FILE {
+        assert_answer(
+            &rt,
+            rt.alloc(),
+            line,
+            &[("model", TWO.as_bytes())],
+            wanted,
+            line,
+        )?;
+    }
+    Ok(())
+}
+
 #[test]
 fn the_second_file_is_read_after_the_model_is_valid(rt: HostRuntime) -> Result<(), Fail> {
     let alloc = rt.alloc();
-    // the words, what the model file holds, the status and the text
-    let cases = [
-        ("replay model", TWO, 2, "words refused\n"),
-        ("replay model trace more", TWO, 2, "words refused\n"),
-        ("replay other trace", TWO, 3, "read fault 1\n"),
-        ("replay model trace", TWO, 3, "read fault 2\n"),
-        ("replay model trace", "", 5, "model refused M2 top.format\n"),
-        ("replay model model", TWO, 6, "trace refused line 1\n"),
-        ("replay model model", BURST, 6, "trace refused line 1\n"),
-    ];
-    for (line, file, status, text) in cases {
-        let words = words_of(alloc, line)?;
-        let mut shelf = shelf_of(alloc, "model", file.as_bytes())?;
-        let mut sink = roomy_sink(alloc)?;
-        let answer = run_here(alloc, &words, &mut shelf, &mut sink);
-        let written = str::from_utf8(sink.bytes()).unwrap_or("no text");
-        assert_eq!(rt; written, text, "{line}");
-        assert_eq!(rt; answer, status, "{line}");
-    }
+    let refused = answer(alloc, "replay model trace", &[("model", b"")])?;
+    assert_eq!(rt; refused.as_str(), "5 model refused M2 top.format\n");
+    let bursts = answer(alloc, "replay model model", &[("model", BURST.as_bytes())])?;
+    assert_eq!(rt; bursts.as_str(), "6 trace refused line 1\n");
     Ok(())
 }
