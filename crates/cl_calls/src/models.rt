@@ -4,7 +4,7 @@ use cl_read::read_model;
 use std::alloc::{AllocError, Global};
 use std::test::Fail;
 
-fn name(word: &str) -> Result<Name, Fail> {
+pub(crate) fn name(word: &str) -> Result<Name, Fail> {
     Ok(Name::read(word.as_bytes()).ok_or("not a name")?)
 }
 

@@ -1,21 +1,17 @@
 //! Whether models are in range and valid.
 ghost use Rattle.cl_model.specs.Ranges.{IsInRange};
 
-use cl_model::{CoreDef, List, MOST_CORES, Name, SystemModel};
+use crate::models::name;
+use cl_model::{CoreDef, List, MOST_CORES, SystemModel};
 use cl_valid::{ValidFault, in_range, validate};
 use std::alloc::{AllocError, Global};
 use std::test::Fail;
-
-fn core(word: &str) -> Result<CoreDef, Fail> {
-    let name = Name::read(word.as_bytes()).ok_or("a name")?;
-    Ok(CoreDef { name })
-}
 
 /// Cores of these names.
 fn cores_of(alloc: Global, names: &[&str]) -> Result<List<CoreDef>, Fail> {
     let mut cores = List::new(alloc);
     for word in names {
-        cores.push(core(word)?)?;
+        cores.push(CoreDef { name: name(word)? })?;
     }
     Ok(cores)
 }
@@ -24,7 +20,7 @@ fn cores_of(alloc: Global, names: &[&str]) -> Result<List<CoreDef>, Fail> {
 fn equal_cores(alloc: Global, count: usize) -> Result<List<CoreDef>, Fail> {
     let mut cores = List::new(alloc);
     for _ in 0..count {
-        cores.push(core("c")?)?;
+        cores.push(CoreDef { name: name("c")? })?;
     }
     Ok(cores)
 }
@@ -41,16 +37,23 @@ fn model_of(alloc: Global, cores: List<CoreDef>) -> SystemModel {
     }
 }
 
+/// How many cores a model has that came back, and what it is refused for.
+fn refused(alloc: Global, model: &SystemModel, fault: ValidFault) -> Result<String, AllocError> {
+    match fault {
+        ValidFault::Refused(refusal) => {
+            format!(in alloc; "{} cores back, {refusal}", model.cores.len())
+        }
+        ValidFault::NoMemory => format!(in alloc; "no memory"),
+    }
+}
+
 /// How many cores the valid model has, or how many come back, and the refusal.
 fn checked(alloc: Global, model: SystemModel) -> Result<String, AllocError>
     requires { IsInRange model }
 {
     match validate(alloc, model) {
         Ok(valid) => format!(in alloc; "{} cores", valid.cores()),
-        Err((model, ValidFault::Refused(refusal))) => {
-            format!(in alloc; "{} cores back, {refusal}", model.cores.len())
-        }
-        Err((_, ValidFault::NoMemory)) => format!(in alloc; "no memory"),
+        Err((model, fault)) => refused(alloc, &model, fault),
     }
 }
 
