@@ -123,14 +123,25 @@ fn assert_pair(
     assert_outcome(rt, alloc, both.as_bytes(), outcome, second_outcome)
 }
 
+/// Asserts the same of each pair of faults.
+fn assert_pairs(
+    rt: &impl Abort,
+    alloc: Global,
+    base: &str,
+    pairs: &[(Fault, Fault)],
+) -> Result<(), NoMemory> {
+    for (first, second) in pairs {
+        assert_pair(rt, alloc, base, *first, *second)?;
+    }
+    Ok(())
+}
+
 #[test]
 fn of_two_faults_of_a_model_the_first_answers(rt: HostRuntime) -> Result<(), Fail> {
     let alloc = rt.alloc();
     let (old, new) = REQUIREMENTS;
     let base = changed(&rt, alloc, ONE, old, new)?;
-    for (first, second) in PAIRS {
-        assert_pair(&rt, alloc, &base, first, second)?;
-    }
+    assert_pairs(&rt, alloc, base.as_str(), &PAIRS)?;
     Ok(())
 }
 
