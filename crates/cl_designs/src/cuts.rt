@@ -19,7 +19,7 @@ use std::sync::ledger::Ledger;
 /// the name of the first late task along the steps of the chain.
 ///
 /// It analyses the model first, and counts the steps of that and of each cut. `NoMemory` comes where there is no memory
-/// for what is found, for a copy of the model or for the text; it leaves nothing.
+/// for what is found, for the cuts or for the text; it leaves nothing.
 pub fn cut_text<L: Ledger>(
     alloc: Global,
     model: &ValidModel,
