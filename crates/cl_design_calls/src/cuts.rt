@@ -2,12 +2,11 @@
 ghost use Rattle.std.specs.Prelude.{◌≡◌, ◌<◌};
 ghost use Rattle.cl_analyse.specs.Findings.{AreFindings};
 
+use crate::base::valid;
 use cl_analyse::{Findings, analyse};
 use cl_cut::{best_cut, best_cuts};
 use cl_model::ValidModel;
-use cl_read::read_model;
 use cl_time::Steps;
-use cl_valid::validate;
 use std::alloc::Global;
 use std::marker::Brand;
 use std::sync::ledger::{Blank, Ledger};
@@ -54,15 +53,6 @@ name = "abc"
 runnables = ["a", "b", "c"]
 labels = ["x", "z"]
 "#;
-
-/// The valid model of a text.
-fn valid(alloc: Global, text: &str) -> Result<ValidModel, Fail> {
-    let model = read_model(alloc, text.as_bytes())?;
-    match validate(alloc, model) {
-        Ok(model) => Ok(model),
-        Err((_, fault)) => Err(fault.into()),
-    }
-}
 
 /// What is asked of a model.
 #[derive(Clone, Copy)]

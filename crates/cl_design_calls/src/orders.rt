@@ -1,11 +1,10 @@
 //! The best orders of the priorities, and how far execution times may grow.
 ghost use Rattle.std.specs.Prelude.{◌≡◌, ◌<◌};
 
+use crate::base::valid;
 use cl_model::ValidModel;
-use cl_read::read_model;
 use cl_time::Steps;
 use cl_tune::{headroom, order};
-use cl_valid::validate;
 use std::alloc::Global;
 use std::marker::Brand;
 use std::sync::ledger::{Blank, Ledger};
@@ -33,15 +32,6 @@ priority = 1
 access = "implicit"
 runnable = [{ name = "b", least = 4, greatest = 5 }]
 "#;
-
-/// The valid model of a text.
-fn valid(alloc: Global, text: &str) -> Result<ValidModel, Fail> {
-    let model = read_model(alloc, text.as_bytes())?;
-    match validate(alloc, model) {
-        Ok(model) => Ok(model),
-        Err((_, fault)) => Err(fault.into()),
-    }
-}
 
 /// What is asked of a model.
 #[derive(Clone, Copy)]

@@ -10,7 +10,7 @@ use cl_time::NoMemory;
 
 /// Puts a name behind a text.
 ///
-/// `NoMemory` comes where there is no memory for it.
+/// `NoMemory` comes where there is no memory for it; no clause says what the text then holds.
 pub fn put_name(text: &mut Text, name: &Name) -> Result<(), NoMemory>
     ensures { OnOk result (text.new ≡ text.old ++ name.now) }
 {
@@ -19,7 +19,7 @@ pub fn put_name(text: &mut Text, name: &Name) -> Result<(), NoMemory>
 
 /// Puts the name of a task behind a text.
 ///
-/// `NoMemory` comes where there is no memory for it.
+/// `NoMemory` comes where there is no memory for it; no clause says what the text then holds.
 pub fn put_task_name(text: &mut Text, model: &ValidModel, task: u32) -> Result<(), NoMemory>
     requires { task < length model.now.tasks }
     ensures { OnOk result (text.new ≡ text.old ++ (task_at model.now task).name) }
@@ -29,7 +29,7 @@ pub fn put_task_name(text: &mut Text, model: &ValidModel, task: u32) -> Result<(
 
 /// Puts the name of a chain behind a text.
 ///
-/// `NoMemory` comes where there is no memory for it.
+/// `NoMemory` comes where there is no memory for it; no clause says what the text then holds.
 pub fn put_chain_name(text: &mut Text, model: &ValidModel, chain: u32) -> Result<(), NoMemory>
     requires { chain < length model.now.chains }
     ensures { OnOk result (text.new ≡ text.old ++ (chain_at model.now chain).name) }
@@ -39,7 +39,7 @@ pub fn put_chain_name(text: &mut Text, model: &ValidModel, chain: u32) -> Result
 
 /// Puts the jobs of a chain behind a text, one for each group.
 ///
-/// `NoMemory` comes where there is no memory for them; the text may then have some of them.
+/// `NoMemory` comes where there is no memory for them; no clause says what the text then holds, which may be some of them.
 pub fn put_jobs(
     text: &mut Text,
     model: &ValidModel,
