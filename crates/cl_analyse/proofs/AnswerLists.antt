@@ -1,7 +1,7 @@
 -- The lists of answers, one answer after the other.
 use Rattle.std.proofs.Common.{◌≡◌, ℕ, ◌+◌, ◌<◌, ◌≤◌, List, [], ◌∷◌, ◌++◌, length, get_or, take, map, refl, sym, ap, subst, ◌∙◌, arith, below_more, length-append, inl, inr}
 use Rattle.std.proofs.lemmas.List.{take_more, take_all, get_or-map, get_or_append_left, get_or_past}
-use Rattle.std.proofs.lemmas.Option.{slice_get_cases}
+use Rattle.std.proofs.lemmas.Option.{none-some, slice_get_cases}
 use Rattle.std.proofs.Math.Seq.{get_or-append_seam}
 use Rattle.std.proofs.Math.ListN.{length-map}
 use Rattle.cl_model.specs.declared.model.SystemModel.{SystemModel}
@@ -53,12 +53,9 @@ all_chains model n = all_mapped (chain_answer_of model) model.chains n
 -- a look-up finds nothing past the end
 pub nothing_at : {X : Type 0} (xs : List X) (i : ℕ) (d : X) → None ≡ slice_get xs i → get_or xs i d ≡ d
 nothing_at xs i d none = elim (slice_get_cases xs i).1 [
-  | inl found ↦ absurd (some_is_none found.0 (sym found.2 ∙ sym none))
+  | inl found ↦ absurd (none-some found.0 (none ∙ found.2))
   | inr past ↦ get_or_past xs i d past.0
 ]
-  where
-    some_is_none : {X : Type 0} (x : X) → Some x ≡ None → ⊥
-    some_is_none x is = cc
 
 -- the answer for a chain, from its first late task or from its bounds
 pub late_answer : (model : SystemModel) (answers : List TaskAnswer) (chain : ChainDef) (task : ℕ) → answers ≡ answers_of (system_of model)

@@ -1,4 +1,5 @@
--- The first late task along a chain is the same along its steps and along its groups, since an inner hop stays in one task.
+-- The first late task along a chain is the same along its steps and along its groups, since an inner hop stays in one
+-- task.
 use Rattle.std.proofs.Common.{◌≡◌, ℕ, ◌+◌, ◌<◌, ◌≤◌, Bool, true, false, cond, ◌==◌, Option, Some, None, List, [], ◌∷◌, length, get_or, take, refl, sym, ap, ◌∙◌, subst, nat_lt}
 use Rattle.std.specs.Prelude.{find}
 use Rattle.std.specs.Option.{option_map}

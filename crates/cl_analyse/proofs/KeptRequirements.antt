@@ -1,5 +1,5 @@
--- What is found met is kept: the value that was found is at least the length of every complete chain. What is found broken
--- is broken: some complete chain of some run is as long as the value.
+-- What is found met is kept: the value that was found is at least the length of every complete chain. What is found
+-- broken is broken: some complete chain of some run is as long as the value.
 use Rattle.std.proofs.Common.{◌≡◌, ◌⊎◌, ℕ, ◌≤◌, Bool, true, false, Option, Some, None, inl, inr, List, refl, nat_le, arith, ◌+◌, ap, ◌<◌}
 use Rattle.std.specs.Prelude.{if◌then◌else◌}
 use Rattle.std.proofs.lemmas.Bool.Decides.{nat_tests}

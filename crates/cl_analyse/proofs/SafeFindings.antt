@@ -65,7 +65,7 @@ bounds_where : (first : Option ℕ) (own bounds : Lengths) → chain_answer firs
 bounds_where None own bounds is = (refl, cc)
 bounds_where (Some task) own bounds is = absurd (cc)
 
-late_where : (first : Option ℕ) (own : Lengths) (task : ℕ) → chain_answer first own ≡ Late task → first ≡ Some task
+pub late_where : (first : Option ℕ) (own : Lengths) (task : ℕ) → chain_answer first own ≡ Late task → first ≡ Some task
 late_where None own task is = absurd (cc)
 late_where (Some other) own task is = cc
 

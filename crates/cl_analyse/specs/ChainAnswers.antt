@@ -1,4 +1,4 @@
--- What is found of each chain of a model: its bounds and its exact lengths. Source: this project's profile.
+-- What is found of each chain of a model: its bounds and its exact lengths.
 use Rattle.std.specs.Prelude.{◌≡◌, ℕ, ◌<◌, Bool, true, false, List, length, map, slice_index_or, find, Option, Some, None}
 use Rattle.std.specs.Option.{option_map}
 use Rattle.cl_model.specs.declared.model.SystemModel.{SystemModel}
@@ -52,8 +52,8 @@ OnLate (Late task) fact = fact
 abbrev pub exact_answer_at : List ExactAnswer → (chain : ℕ) → ExactAnswer
 exact_answer_at answers chain = slice_index_or answers chain ChainLate
 
--- The answer for a chain none of whose tasks is late, by whether its tasks are all timed and periodic: its exact lengths
--- where its hyperperiod is within the limit, else the limit.
+-- The answer for a chain none of whose tasks is late, by whether its tasks are all timed and periodic: its exact
+-- lengths where its hyperperiod is within the limit, else the limit.
 abbrev pub IsTimelyAnswer : SystemModel → (chain : ℕ) → (timed_periodic : Bool) → ExactAnswer → Type 0
 IsTimelyAnswer model chain false answer = answer ≡ NotTimed
 IsTimelyAnswer model chain true (Exact lengths) =

@@ -1,5 +1,5 @@
 -- The findings of a model: the answer for each task, the bounds and the exact lengths of each chain, and the verdict on
--- each requirement. Source: this project's profile.
+-- each requirement.
 use Rattle.std.specs.Prelude.{◌≡◌}
 use Rattle.cl_model.specs.declared.model.SystemModel.{SystemModel}
 use Rattle.cl_runs.specs.SystemOf.{system_of}

@@ -98,8 +98,8 @@ pub record IsBroken (model : SystemModel) (requirement : RequirementDef) : Type 
 
 -- The findings are safe. In every legal run of any length each job of a settled task finishes within its response, and
 -- each bound is at least the length of every complete chain of its kind. A bound is missing only where a task has no
--- fixpoint within its deadline. Exact lengths are exact, and missing only for one of three reasons. What is found met is
--- kept.
+-- fixpoint within its deadline. Exact lengths are exact, and missing only for one of three reasons. What is found met
+-- is kept.
 pub record AreSafeFindings (model : SystemModel) (findings : Findings) : Type 0 where
   pub responses : (task : ℕ) (response : Response) → task < length model.tasks
       → answer_at findings.tasks task ≡ Settled response → AlwaysFinishesWithin (system_of model) task response.response

@@ -1,4 +1,4 @@
--- Requirements: the values that are found for them, and the verdicts. Source: this project's profile.
+-- Requirements: the values that are found for them, and the verdicts.
 use Rattle.std.specs.Prelude.{ℕ, List, [], map, slice_index_or, Option, Some, None, unwrap_or, nat_le, if◌then◌else◌}
 use Rattle.cl_model.specs.declared.model.SystemModel.{SystemModel}
 use Rattle.cl_model.specs.declared.chain.LengthKind.{LengthKind}

@@ -2,6 +2,7 @@
 ghost use Rattle.std.specs.Prelude.{◌≡◌, ◌+◌, ◌*◌, ◌<◌, ◌≤◌, length, slice_index_or, IfOk};
 ghost use Rattle.cl_model.specs.Groups.{steps_of};
 ghost use Rattle.cl_model.specs.ByNumber.{chain_at};
+ghost use Rattle.cl_model.specs.Validity.{IsValid};
 ghost use Rattle.cl_runs.specs.SystemOf.{system_of};
 ghost use Rattle.cl_runs.specs.TaskTiming.{timing_at};
 ghost use Rattle.cl_resp.specs.Question.{IsQuestionInRange};
@@ -26,8 +27,8 @@ use std::sync::ledger::Ledger;
 ///
 /// In each legal run, of any length, each job of a task that is found settled finishes within its response of its
 /// arrival where the run lasts so long, and each bound and each exact length is at least the length of each complete
-/// chain of its kind. The witness of an exact length is such a chain, of that length, in each legal run that lasts to its
-/// end. A requirement that is found met is kept by each complete chain.
+/// chain of its kind. The witness of an exact length is such a chain, of that length, in each legal run that lasts to
+/// its end. A requirement that is found met is kept by each complete chain.
 ///
 /// It counts a step for each task, for each chain that has bounds, and for each whose exact lengths are sought.
 /// `NoMemory` comes where there is no memory for the findings or for a question; it leaves nothing.
@@ -40,8 +41,6 @@ pub fn analyse<L: Ledger>(
     ensures safe { IfOk result (AreSafeFindings model.now) }
     ensures steps { steps.new ≤ steps.old + (length model.now.tasks + 2 * length model.now.chains) }
 {
-    // read for what it says: the model is valid
-    let _plain = model.plain();
     let tasks = answer_tasks(alloc, model, steps)?;
     let chains = answer_chains(alloc, model, &tasks, steps)?;
     let exacts = answer_exacts(alloc, model, &chains, steps)?;
@@ -62,6 +61,7 @@ fn answer_tasks<L: Ledger>(
 ) -> Result<List<TaskAnswer>, NoMemory>
     ensures answers { IfOk result (λ answers. answers ≡ answers_of (system_of model.now)) }
     ensures steps { steps.new ≤ steps.old + length model.now.tasks }
+    ensures valid { IsValid model.now }
 {
     let mut answers = List::new(alloc);
     for task in 0..model.tasks() {
@@ -85,8 +85,8 @@ fn answer_task<L: Ledger>(
     Ok(answer_question(&question, steps))
 }
 
-/// The answer to the question of a task: its window and its response, in ticks, or that it is late. It counts one step and
-/// takes no memory.
+/// The answer to the question of a task: its window and its response, in ticks, or that it is late. It counts one step
+/// and takes no memory.
 pub fn answer_question<L: Ledger>(question: &Question, steps: &mut Steps<L>) -> TaskAnswer
     requires { IsQuestionInRange question.now }
     ensures answer { result ≡ answer_with (response_to question.now) }

@@ -29,8 +29,8 @@ pub(crate) fn answer_exacts<L: Ledger>(
     Ok(answers)
 }
 
-/// The exact lengths of a chain, from what was found of its bounds. Seeking them counts a step; a chain that is late counts
-/// none. It takes no memory.
+/// The exact lengths of a chain, from what was found of its bounds. Seeking them counts a step; a chain that is late
+/// counts none. It takes no memory.
 pub fn answer_exact<L: Ledger>(
     model: &ValidModel,
     chain: u32,

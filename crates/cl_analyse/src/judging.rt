@@ -8,8 +8,8 @@ use cl_model::{LengthKind, List, RequirementDef, ValidModel};
 use cl_time::NoMemory;
 use std::alloc::Global;
 
-/// The verdicts on all requirements, in file order, from what was found of all chains. `NoMemory` comes where there is no
-/// memory for them; it leaves nothing.
+/// The verdicts on all requirements, in file order, from what was found of all chains. `NoMemory` comes where there is
+/// no memory for them; it leaves nothing.
 pub fn judge_all(
     alloc: Global,
     model: &ValidModel,

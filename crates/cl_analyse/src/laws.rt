@@ -16,10 +16,10 @@ ghost use Rattle.cl_analyse.specs.Headline.{AreWithinBounds, IsKept, IsBroken, A
 ghost use Rattle.cl_analyse.specs.Verdicts.{requirement_at, verdict_at};
 
 /// In every legal run of a valid model, of any length, each job of a settled task finishes within its response, and no
-/// complete chain is longer than its bound or its exact length, which some chain of each run that is long enough attains.
-/// A bound is missing only where a task along the chain has no fixpoint within its deadline, and the first such task is
-/// named; exact lengths are missing only where a task is late, where one isn't both timed and periodic, or where the
-/// hyperperiod exceeds the limit that is named.
+/// complete chain is longer than its bound or its exact length, which some chain of each run that is long enough
+/// attains. A bound is missing only where a task along the chain has no fixpoint within its deadline, and the first
+/// such task is named; exact lengths are missing only where a task is late, where one isn't both timed and periodic, or
+/// where the hyperperiod exceeds the limit that is named.
 pub fn findings_are_safe()
     ensures { (model : SystemModel) → IsValid model → (findings : Findings) → AreFindings model findings
         → AreSafeFindings model findings }

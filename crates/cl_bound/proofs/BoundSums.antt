@@ -1,8 +1,8 @@
 -- The sums over all of some groups of a valid model are their bounds.
-use Rattle.std.proofs.Common.{◌≡◌, ℕ, ℤ, pos, ◌*◌, ◌<◌, ◌≤◌, List, [], ◌∷◌, length, get_or, take, drop, map, refl, sym, ap, ◌∙◌, arith}
+use Rattle.std.proofs.Common.{◌≡◌, ℕ, ℤ, pos, ◌-◌, ◌*◌, ◌<◌, ◌≤◌, List, [], ◌∷◌, length, get_or, take, drop, map, refl, sym, ap, ◌∙◌, arith}
 use Rattle.std.specs.Prelude.{All}
 use Rattle.std.proofs.lemmas.Int.{ints}
-use Rattle.std.proofs.lemmas.List.{take_all}
+use Rattle.std.proofs.lemmas.List.{take_all, length-drop}
 use Rattle.std.proofs.Math.ListN.{length-map}
 use Rattle.cl_model.specs.declared.limits.TheConstants.{MOST_TICKS, MOST_STEPS}
 use Rattle.cl_model.specs.declared.model.SystemModel.{SystemModel}
@@ -21,7 +21,7 @@ use Rattle.cl_bound.specs.Answers.{answers_of, NoneIsLate}
 use Rattle.cl_bound.specs.Hops.{group_timing}
 use Rattle.cl_bound.specs.Bounds.{Lengths, greatest_reaction, greatest_age, greatest_reduced, AreBoundsOf, settled_timing, settled_timings, bounds_of}
 use Rattle.cl_bound.specs.SettledChains.{IsSettledChain, AreWithin}
-use Rattle.cl_bound.specs.Inner.Sums.{IsBound, sums_of, reaction_in, age_in, reduced_in}
+use Rattle.cl_bound.specs.Inner.Sums.{IsBound, sums_of, HaveBounds, AreBoundsIn}
 use Rattle.cl_bound.proofs.ModelGroups.{settled_chain}
 use Rattle.cl_bound.proofs.SettledChains.{settled_sums, AreLimited, limited, reaction_positive, age_positive, reduced_positive}
 
@@ -31,10 +31,14 @@ first_and_rest [] some = absurd (omega (arith, some))
 first_and_rest (group ∷ groups) some = refl
 
 -- the sums up to the last group are those of all
-pub all_sums : (timing : Group → GroupTiming) (first : GroupTiming) (groups rest : List Group) (count : ℕ) (sums : Sums) → rest ≡ groups
-    → sums ≡ sums_of first (take count (map timing rest)) → length rest ≤ count → sums ≡ sums_of first (map timing groups)
-all_sums timing first groups rest count sums is are whole =
-    are ∙ ap (sums_of first) (take_all count (map timing rest) (omega (arith, whole, length-map rest timing)) ∙ ap (map timing) is)
+pub all_sums : (timing : Group → GroupTiming) (first : GroupTiming) (groups : List Group) (count : ℕ) (sums : Sums)
+    → sums ≡ sums_of first (take count (map timing groups)) → length groups ≤ count → sums ≡ sums_of first (map timing groups)
+all_sums timing first groups count sums are whole =
+    are ∙ ap (sums_of first) (take_all count (map timing groups) (omega (arith, whole, length-map groups timing)))
+
+-- what stands past the first group is all that is left
+pub rest_is : (groups : List Group) → take (length groups - 1) (drop 1 groups) ≡ drop 1 groups
+rest_is groups = take_all (length groups - 1) (drop 1 groups) (omega (arith, length-drop 1 groups))
 
 -- a bound that is positive and small enough
 bounded : (n count : ℕ) (z : ℤ) → pos n ≡ z → 1 ≤ n → n ≤ 2 * count * MOST_TICKS → count ≤ MOST_STEPS → IsBound z
@@ -74,24 +78,21 @@ module _ (model : SystemModel) (valid : IsValid model) (groups : List Group) (so
   are_sums : AreBoundsOf (settled_timings (system_of model) groups) bounds
   are_sums = settled_sums (system_of model) (system_sound model valid) groups is_settled
 
-  -- each is a bound
-  pub reaction_bound : IsBound (reaction_in first sums)
-  reaction_bound = bounded bounds.reaction _ _ (are_sums.reaction ∙ ap greatest_reaction split)
-      (reaction_positive (system_of model) (system_sound model valid) groups is_settled some) most.reaction few
-
-  pub age_bound : IsBound (age_in first sums)
-  age_bound = bounded bounds.age _ _ (are_sums.age ∙ ap greatest_age split)
-      (age_positive (system_of model) (system_sound model valid) groups is_settled some) most.age few
-
-  pub reduced_bound : IsBound (reduced_in first sums)
-  reduced_bound = bounded bounds.reduced _ _ (are_sums.reduced ∙ ap greatest_reduced split)
-      (reduced_positive (system_of model) (system_sound model valid) groups is_settled some) most.reduced few
+  -- each of them is a bound
+  pub have_bounds : HaveBounds first sums
+  have_bounds = record {
+    reaction = bounded bounds.reaction _ _ (are_sums.reaction ∙ ap greatest_reaction split)
+        (reaction_positive (system_of model) (system_sound model valid) groups is_settled some) most.reaction few;
+    age = bounded bounds.age _ _ (are_sums.age ∙ ap greatest_age split)
+        (age_positive (system_of model) (system_sound model valid) groups is_settled some) most.age few;
+    reduced = bounded bounds.reduced _ _ (are_sums.reduced ∙ ap greatest_reduced split)
+        (reduced_positive (system_of model) (system_sound model valid) groups is_settled some) most.reduced few;
+  }
 
   -- bounds that are these sums are those of the groups
-  pub bounds_are : (found : Lengths) → pos found.reaction ≡ reaction_in first sums → pos found.age ≡ age_in first sums → pos found.reduced ≡ reduced_in first sums
-      → AreBoundsOf (settled_timings (system_of model) groups) found
-  bounds_are found reaction age reduced = record {
-    reaction = reaction ∙ sym (ap greatest_reaction split);
-    age = age ∙ sym (ap greatest_age split);
-    reduced = reduced ∙ sym (ap greatest_reduced split);
+  pub bounds_are : (found : Lengths) → AreBoundsIn first sums found → AreBoundsOf (settled_timings (system_of model) groups) found
+  bounds_are found are = record {
+    reaction = are.reaction ∙ sym (ap greatest_reaction split);
+    age = are.age ∙ sym (ap greatest_age split);
+    reduced = are.reduced ∙ sym (ap greatest_reduced split);
   }

@@ -13,3 +13,4 @@ pub mod SettledChains
 pub mod ModelGroups
 pub mod LoopSums
 pub mod BoundSums
+pub mod NoGreater

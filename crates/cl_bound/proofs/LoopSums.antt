@@ -7,7 +7,7 @@ use Rattle.cl_bound.specs.declared.group_timing.GroupTiming.{GroupTiming}
 use Rattle.cl_bound.specs.declared.sums.Sums.{Sums}
 use Rattle.cl_bound.specs.Hops.{forward_hop, backward_hop, hops}
 use Rattle.cl_bound.specs.Bounds.{last_of}
-use Rattle.cl_bound.specs.Inner.Sums.{IsWithin, sums_with, sums_of}
+use Rattle.cl_bound.specs.Inner.Sums.{IsIntegerWithin, sums_with, sums_of}
 
 -- a sum with one more group
 hops_more : (hop : GroupTiming → GroupTiming → ℤ) (first : GroupTiming) (groups : List GroupTiming) (next : GroupTiming)
@@ -37,5 +37,5 @@ more_sums first groups count old new next was within is added =
     ∙ ap (sums_of first) (ap (λ (g : GroupTiming). take count groups ++ g ∷ []) is ∙ sym (take_more groups count next within))
 
 -- a sum stays as near as its hops let it
-pub nearer : (place : ℕ) (sum hop : ℤ) → IsWithin (place * 2 ^ 65) sum → IsWithin (2 ^ 65) hop → IsWithin ((place + 1) * 2 ^ 65) (sum +ℤ hop)
+pub nearer : (place : ℕ) (sum hop : ℤ) → IsIntegerWithin (place * 2 ^ 65) sum → IsIntegerWithin (2 ^ 65) hop → IsIntegerWithin ((place + 1) * 2 ^ 65) (sum +ℤ hop)
 nearer place sum hop near next = (omega (arith, ints, near.0, next.0), omega (arith, ints, near.1, next.1))

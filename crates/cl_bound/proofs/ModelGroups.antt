@@ -10,10 +10,10 @@ use Rattle.cl_model.specs.declared.task.TaskDef.{TaskDef}
 use Rattle.cl_model.specs.Groups.{IsGroupOf}
 use Rattle.cl_model.specs.ByNumber.{task_at, core_of, jitter_of, stimulus_of}
 use Rattle.cl_model.specs.Timing.{greatest_distance, greatest_jitter}
+use Rattle.cl_model.specs.Kinds.{is_timed}
 use Rattle.cl_runs.specs.TaskTiming.{Timing, timing_at}
-use Rattle.cl_runs.specs.SystemOf.{range_of, system_of}
-use Rattle.cl_runs.proofs.ModelSystem.{timing_is, count_is}
-use Rattle.cl_comm.specs.AccessMoments.{is_timed}
+use Rattle.cl_runs.specs.SystemOf.{system_of}
+use Rattle.cl_runs.proofs.ModelSystem.{timing_is, count_is, range_count_is}
 use Rattle.cl_comm.specs.Windows.{window_at}
 use Rattle.cl_resp.specs.Response.{IsSettled}
 use Rattle.cl_bound.specs.declared.answer.TaskAnswer.{TaskAnswer}
@@ -25,16 +25,12 @@ use Rattle.cl_bound.specs.Hops.{group_timing}
 use Rattle.cl_bound.specs.Bounds.{settled_timing}
 use Rattle.cl_bound.specs.SettledChains.{IsGroupOfTask, IsSettledChain}
 
--- a task has as many ranges as runnables
-pub ranges_of_task : (model : SystemModel) (i : ℕ) → i < length model.tasks → length (timing_at (system_of model) i).ranges ≡ length (task_at model i).runnables
-ranges_of_task model i h = ap (λ (task : Timing). length task.ranges) (timing_is model i h) ∙ length-map (task_at model i).runnables range_of
-
 -- a group of a model is one of its system
 pub group_of_system : (model : SystemModel) (group : Group) → IsGroupOf model group → IsGroupOfTask (system_of model) group
 group_of_system model group is = record {
   is_task = omega (arith, is.known, count_is model);
   ordered = is.ordered;
-  is_runnable = omega (arith, is.within, ranges_of_task model group.task is.known);
+  is_runnable = omega (arith, is.within, range_count_is model group.task is.known);
 }
 
 -- a chain of a model, none of whose tasks is late

@@ -1,11 +1,12 @@
--- Where a job of one group reads before a job of another writes, it arrived at most so much later: by the jitter where the
--- hop saves, else by when the writer writes.
+-- Where a job of one group reads before a job of another writes, it arrived at most so much later: by the jitter where
+-- the hop saves, else by when the writer writes.
 use Rattle.std.proofs.Common.{◌≡◌, ◌≢◌, ℕ, ◌+◌, ◌<◌, ◌≤◌, true, inl, inr, not, nat_lt, length, sym, ap, ◌∙◌, subst, arith}
 use Rattle.std.specs.Prelude.{◌==◌, ◌&&◌}
 use Rattle.std.proofs.lemmas.Bool.{cases_lt, and_parts, ltb-true, eqb-true, true≢false}
 use Rattle.cl_model.specs.declared.group.Group.{Group}
 use Rattle.cl_model.specs.declared.task.AccessKind.{AccessKind}
 use Rattle.cl_model.specs.declared.task.AccessKind.TheVariants.{Timed}
+use Rattle.cl_model.specs.Kinds.{is_timed}
 use Rattle.cl_runs.specs.TaskTiming.{Timing, System, timing_at, IsSound}
 use Rattle.cl_runs.specs.Table.{job_at}
 use Rattle.cl_runs.specs.Run.{Run, jobs_of}
@@ -13,7 +14,6 @@ use Rattle.cl_runs.specs.Legal.{IsLegal}
 use Rattle.cl_runs.specs.Moments.{Reads, Writes}
 use Rattle.cl_runs.proofs.MomentFacts.{writes_once}
 use Rattle.cl_runs.proofs.RunArrivals.{released_within}
-use Rattle.cl_comm.specs.AccessMoments.{is_timed}
 use Rattle.cl_comm.proofs.AccessTimes.{reads_come_late, readers_run, readers_write_by_their_finish, writes_come_before_the_next_read}
 use Rattle.cl_bound.specs.Hops.{group_timing, saves}
 use Rattle.cl_bound.proofs.HigherFinished.{finished_before}

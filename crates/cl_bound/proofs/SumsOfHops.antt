@@ -1,4 +1,5 @@
--- How great and how small sums of hops are: the bounds of a chain are positive, and bounded by its longest distance or write.
+-- How great and how small sums of hops are: the bounds of a chain are positive, and bounded by its longest distance or
+-- write.
 use Rattle.std.proofs.Common.{◌≡◌, ℕ, ℤ, pos, negsuc, suc, ◌+◌, ◌*◌, ◌<◌, ◌≤◌, List, [], ◌∷◌, length, refl, arith}
 use Rattle.std.specs.Prelude.{◌+ℤ◌, ◌≤ℤ◌, nat_abs, All}
 use Rattle.std.proofs.lemmas.Int.{ints}

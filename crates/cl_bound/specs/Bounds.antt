@@ -1,4 +1,4 @@
--- The bounds on the reaction, the age and the reduced age of a chain. Source: this project's profile.
+-- The bounds on the reaction, the age and the reduced age of a chain.
 use Rattle.std.specs.Prelude.{◌≡◌, ℕ, ℤ, pos, ◌+ℤ◌, ◌-ℤ◌, nat_abs, List, [], ◌∷◌, map}
 use Rattle.cl_model.specs.declared.group.Group.{Group}
 use Rattle.cl_runs.specs.TaskTiming.{System}

@@ -1,9 +1,9 @@
--- Hops: how much later the job of a group arrives than that of the group before it. Source: this project's profile.
+-- Hops: how much later the job of a group arrives than that of the group before it.
 use Rattle.std.specs.Prelude.{ℕ, ℤ, pos, ◌+ℤ◌, ◌-ℤ◌, Bool, ◌==◌, ◌&&◌, not, nat_lt, if◌then◌else◌, List, [], ◌∷◌}
 use Rattle.cl_model.specs.declared.group.Group.{Group}
 use Rattle.cl_model.specs.Timing.{greatest_distance, greatest_jitter}
+use Rattle.cl_model.specs.Kinds.{is_timed}
 use Rattle.cl_runs.specs.TaskTiming.{System, timing_at}
-use Rattle.cl_comm.specs.AccessMoments.{is_timed}
 use Rattle.cl_comm.specs.Windows.{window_at}
 use Rattle.cl_bound.specs.declared.group_timing.GroupTiming.{GroupTiming}
 
@@ -23,14 +23,14 @@ group_timing system responses group =
       write = (window_at timing group.last (responses group.task)).whi;
     }
 
--- whether a hop saves the writer's time: the writer has a higher priority on the reader's core, and neither is timed, so
--- that the reader can't read while a job of the writer is pending
+-- whether a hop saves the writer's time: the writer has a higher priority on the reader's core, and neither is timed,
+-- so that the reader can't read while a job of the writer is pending
 abbrev pub saves : (writer reader : GroupTiming) → Bool
 saves writer reader =
     (writer.core == reader.core) && (nat_lt reader.priority writer.priority && (not writer.is_timed && not reader.is_timed))
 
--- a hop from a writer to a reader, over the distance between arrivals of the one that the direction says: where both are
--- of one task, where the hop saves, and every other
+-- a hop from a writer to a reader, over the distance between arrivals of the one that the direction says: where both
+-- are of one task, where the hop saves, and every other
 abbrev pub hop : (distance : ℕ) → (writer reader : GroupTiming) → ℤ
 hop distance writer reader =
     if writer.task == reader.task then pos distance

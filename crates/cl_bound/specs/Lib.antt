@@ -1,6 +1,7 @@
 pub mod Answers
 pub mod Hops
 pub mod Bounds
+pub mod NoGreater
 pub mod SettledChains
 pub mod Promises
 pub mod Inner

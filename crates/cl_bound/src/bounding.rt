@@ -1,11 +1,12 @@
 //! The bounds of a chain, and of a part of one. Times are in ticks.
-ghost use Rattle.std.specs.Prelude.{◌≡◌, ◌+◌, ◌<◌, ◌≤◌, length, All};
+ghost use Rattle.std.specs.Prelude.{◌≡◌, ◌+◌, ◌^◌, ◌<◌, ◌≤◌, length, All};
 ghost use Rattle.cl_model.specs.declared.limits.TheConstants.{MOST_STEPS};
 ghost use Rattle.cl_model.specs.Groups.{groups_at, IsGroupOf};
 ghost use Rattle.cl_runs.specs.SystemOf.{system_of};
 ghost use Rattle.cl_bound.specs.Answers.{answers_of, NoneIsLate};
 ghost use Rattle.cl_bound.specs.Bounds.{AreBoundsOf, settled_timings, bounds_of};
 ghost use Rattle.cl_bound.specs.Promises.{AreSafe};
+ghost use Rattle.cl_bound.specs.Inner.Sums.{IsIntegerWithin, sums_of};
 
 use crate::answer::TaskAnswer;
 use crate::bounds::Bounds;
@@ -14,6 +15,29 @@ use crate::sums::Sums;
 use cl_model::{Group, List, ValidModel};
 use cl_time::Steps;
 use std::sync::ledger::Ledger;
+
+/// The sums of the hops from a first group along the groups after it.
+fn sums_along(
+    model: &ValidModel,
+    first: GroupTiming,
+    groups: &[Group],
+    settled: &List<TaskAnswer>,
+) -> Sums
+    requires few { length groups.now ≤ MOST_STEPS }
+    requires of_tasks { All (IsGroupOf model.now) groups.now }
+    requires answers { settled.now ≡ answers_of (system_of model.now) }
+    requires not_late { NoneIsLate settled.now groups.now }
+    ensures sums { result ≡ sums_of first (settled_timings (system_of model.now) groups.now) }
+    ensures forward { IsIntegerWithin (2 ^ 100) result.forward }
+    ensures backward { IsIntegerWithin (2 ^ 100) result.backward }
+{
+    let mut sums = Sums::new(first);
+    for group in groups {
+        let next = GroupTiming::of(model, settled, *group);
+        sums = sums.with(next);
+    }
+    sums
+}
 
 /// The bounds of groups of a valid model that follow each other, a chain of it or a part of one, from the answer for
 /// each of its tasks, where none of the groups' tasks is late. They are the sums over signed numbers that define them,
@@ -39,19 +63,10 @@ pub fn bound_of_groups<L: Ledger>(
 {
     steps.tick();
     let first = GroupTiming::of(model, settled, groups[0]);
-    let mut sums = Sums::new(first);
-    for group in &groups[1..] {
-        let next = GroupTiming::of(model, settled, *group);
-        sums = sums.with(next);
-    }
-    sums.bounds(&first)
+    sums_along(model, first, &groups[1..], settled).bounds(&first)
 }
 
-/// The bounds of a chain of a valid model, from the answer for each of its tasks, where none of the chain's tasks is
-/// late. They are the sums over signed numbers that define them, and at least the reaction, the age and the reduced age
-/// of each complete chain in each legal run, of any length.
-///
-/// It counts one step, takes no memory, and is total. It looks at each group of the chain once.
+/// The bounds of a chain of a valid model, given by its number: `bound_of_groups` of its groups.
 pub fn bound<L: Ledger>(
     model: &ValidModel,
     chain: u32,

@@ -3,19 +3,19 @@ ghost use Rattle.std.specs.Prelude.{◌≡◌, ◌^◌, ◌<◌, false, length, 
 ghost use Rattle.cl_model.specs.Groups.{IsGroupOf};
 ghost use Rattle.cl_model.specs.ByNumber.{task_at};
 ghost use Rattle.cl_model.specs.Validity.{IsValid};
+ghost use Rattle.cl_model.specs.Kinds.{is_timed};
 ghost use Rattle.cl_runs.specs.SystemOf.{system_of};
 ghost use Rattle.cl_runs.specs.TaskTiming.{timing_at};
-ghost use Rattle.cl_comm.specs.AccessMoments.{is_timed};
 ghost use Rattle.cl_comm.specs.Windows.{window_at};
 ghost use Rattle.cl_resp.specs.Response.{IsSettled};
 ghost use Rattle.cl_bound.specs.Answers.{answers_of, answer_at, is_late};
 ghost use Rattle.cl_bound.specs.Bounds.{settled_timing};
 ghost use Rattle.cl_bound.specs.Hops.{saves, hop, forward_hop, backward_hop};
-ghost use Rattle.cl_bound.specs.Inner.Sums.{IsWithin};
+ghost use Rattle.cl_bound.specs.Inner.Sums.{IsIntegerWithin};
 
 use crate::answer::TaskAnswer;
 use cl_comm::{Access, AnyAccess, Window, spot_of};
-use cl_model::{AccessKind, Group, List, ValidModel};
+use cl_model::{Group, List, ValidModel};
 use cl_stim::{AnyStimulus, Arrivals};
 
 /// What the bounds know of a group.
@@ -36,13 +36,6 @@ pub(crate) struct GroupTiming {
     pub(crate) write: u64,
 }
 
-/// Whether tasks of that kind of access are timed.
-fn is_timed(access: AccessKind) -> bool
-    ensures { result ≡ is_timed access }
-{
-    matches!(access, AccessKind::Timed)
-}
-
 /// The window of a runnable of a settled task with this response.
 fn access_window(model: &ValidModel, task: u32, place: u32, response: u64) -> Window
     requires is_task { task < length model.now.tasks }
@@ -50,7 +43,7 @@ fn access_window(model: &ValidModel, task: u32, place: u32, response: u64) -> Wi
     requires settled { IsSettled (system_of model.now) task response }
     ensures { result ≡ window_at (timing_at (system_of model.now) task) place response }
 {
-    let access = model.plain().tasks.as_slice()[task as usize].access;
+    let access = model.task(task).access;
     AnyAccess::of(access).window(spot_of(model, task, place), response)
 }
 
@@ -64,14 +57,14 @@ impl GroupTiming {
         ensures timing { result ≡ settled_timing (system_of model.now) group }
         ensures valid { IsValid model.now }
     {
-        let task = &model.plain().tasks.as_slice()[group.task as usize];
+        let task = model.task(group.task);
         let stimulus = AnyStimulus::of(model.stimulus_of(group.task));
         let response = settled.as_slice()[group.task as usize].response();
         GroupTiming {
             task: group.task,
             core: model.core_of(group.task),
             priority: task.priority,
-            is_timed: is_timed(task.access),
+            is_timed: task.access.is_timed(),
             jitter: stimulus.jitter(),
             distance: stimulus.greatest_gap(),
             read: access_window(model, group.task, group.first, response).rlo,
@@ -92,7 +85,7 @@ impl GroupTiming {
     /// The hop from this writer to a reader, over one distance between arrivals.
     fn hop(&self, reader: &GroupTiming, distance: u64) -> i128
         ensures hop { result ≡ hop distance self.now reader.now }
-        ensures near { IsWithin (2 ^ 65) result }
+        ensures near { IsIntegerWithin (2 ^ 65) result }
     {
         if self.task == reader.task {
             return i128::from(distance);
@@ -108,7 +101,7 @@ impl GroupTiming {
     /// The hop in the forward direction.
     pub(crate) fn forward_hop(&self, reader: &GroupTiming) -> i128
         ensures hop { result ≡ forward_hop self.now reader.now }
-        ensures near { IsWithin (2 ^ 65) result }
+        ensures near { IsIntegerWithin (2 ^ 65) result }
     {
         self.hop(reader, reader.distance)
     }
@@ -116,7 +109,7 @@ impl GroupTiming {
     /// The hop in the backward direction.
     pub(crate) fn backward_hop(&self, reader: &GroupTiming) -> i128
         ensures hop { result ≡ backward_hop self.now reader.now }
-        ensures near { IsWithin (2 ^ 65) result }
+        ensures near { IsIntegerWithin (2 ^ 65) result }
     {
         self.hop(reader, self.distance)
     }
@@ -124,7 +117,7 @@ impl GroupTiming {
     /// Its greatest distance between arrivals, signed.
     pub(crate) fn distance(&self) -> i128
         ensures number { result ≡ pos self.now.distance }
-        ensures near { IsWithin (2 ^ 64) result }
+        ensures near { IsIntegerWithin (2 ^ 64) result }
     {
         i128::from(self.distance)
     }
@@ -132,7 +125,7 @@ impl GroupTiming {
     /// When it reads at the earliest, signed.
     pub(crate) fn read(&self) -> i128
         ensures number { result ≡ pos self.now.read }
-        ensures near { IsWithin (2 ^ 64) result }
+        ensures near { IsIntegerWithin (2 ^ 64) result }
     {
         i128::from(self.read)
     }
@@ -140,7 +133,7 @@ impl GroupTiming {
     /// When it writes at the latest, signed.
     pub(crate) fn write(&self) -> i128
         ensures number { result ≡ pos self.now.write }
-        ensures near { IsWithin (2 ^ 64) result }
+        ensures near { IsIntegerWithin (2 ^ 64) result }
     {
         i128::from(self.write)
     }

@@ -1,6 +1,6 @@
 //! Sums of hops, one group after the other. Times are in ticks.
-ghost use Rattle.std.specs.Prelude.{◌≡◌, ℕ, ◌+◌, ◌*◌, ◌^◌, [], pos};
-ghost use Rattle.cl_bound.specs.Inner.Sums.{IsWithin, IsBound, sums_with, sums_of, reaction_in, age_in, reduced_in};
+ghost use Rattle.std.specs.Prelude.{◌≡◌, ℕ, ◌+◌, ◌*◌, ◌^◌, []};
+ghost use Rattle.cl_bound.specs.Inner.Sums.{IsIntegerWithin, sums_with, sums_of, reaction_in, age_in, reduced_in, HaveBounds, AreBoundsIn};
 
 use crate::bounds::Bounds;
 use crate::group_timing::GroupTiming;
@@ -27,11 +27,11 @@ impl Sums {
 
     /// Those with one more group.
     pub(crate) fn with(self, next: GroupTiming) -> Sums
-        requires forward { IsWithin (2 ^ 100) self.forward }
-        requires backward { IsWithin (2 ^ 100) self.backward }
+        requires forward { IsIntegerWithin (2 ^ 100) self.forward }
+        requires backward { IsIntegerWithin (2 ^ 100) self.backward }
         ensures sums { result ≡ sums_with self next }
-        ensures forward_near { (hops : ℕ) → IsWithin (hops * 2 ^ 65) self.forward → IsWithin ((hops + 1) * 2 ^ 65) result.forward }
-        ensures backward_near { (hops : ℕ) → IsWithin (hops * 2 ^ 65) self.backward → IsWithin ((hops + 1) * 2 ^ 65) result.backward }
+        ensures forward_near { (hops : ℕ) → IsIntegerWithin (hops * 2 ^ 65) self.forward → IsIntegerWithin ((hops + 1) * 2 ^ 65) result.forward }
+        ensures backward_near { (hops : ℕ) → IsIntegerWithin (hops * 2 ^ 65) self.backward → IsIntegerWithin ((hops + 1) * 2 ^ 65) result.backward }
     {
         Sums {
             last: next,
@@ -42,7 +42,7 @@ impl Sums {
 
     /// From the read of the job before the first to the write of the last.
     fn reaction(&self, first: &GroupTiming) -> i128
-        requires { IsWithin (2 ^ 100) self.now.forward }
+        requires { IsIntegerWithin (2 ^ 100) self.now.forward }
         ensures { result ≡ reaction_in first.now self.now }
     {
         first.distance() - first.read() + self.forward + self.last.write()
@@ -50,16 +50,16 @@ impl Sums {
 
     /// From the read of the first job to the write of the last.
     fn reduced(&self, first: &GroupTiming) -> i128
-        requires { IsWithin (2 ^ 100) self.now.backward }
+        requires { IsIntegerWithin (2 ^ 100) self.now.backward }
         ensures sum { result ≡ reduced_in first.now self.now }
-        ensures near { IsWithin (2 ^ 101) result }
+        ensures near { IsIntegerWithin (2 ^ 101) result }
     {
         self.last.write() - first.read() + self.backward
     }
 
     /// From the read of the first job to the write of the job after the last.
     fn age(&self, first: &GroupTiming) -> i128
-        requires { IsWithin (2 ^ 100) self.now.backward }
+        requires { IsIntegerWithin (2 ^ 100) self.now.backward }
         ensures { result ≡ age_in first.now self.now }
     {
         self.last.distance() + self.reduced(first)
@@ -67,14 +67,10 @@ impl Sums {
 
     /// The bounds of the chain, from its first group.
     pub(crate) fn bounds(&self, first: &GroupTiming) -> Bounds
-        requires forward { IsWithin (2 ^ 100) self.now.forward }
-        requires backward { IsWithin (2 ^ 100) self.now.backward }
-        requires reaction { IsBound (reaction_in first.now self.now) }
-        requires age { IsBound (age_in first.now self.now) }
-        requires reduced { IsBound (reduced_in first.now self.now) }
-        ensures reaction { pos result.reaction ≡ reaction_in first.now self.now }
-        ensures age { pos result.age ≡ age_in first.now self.now }
-        ensures reduced { pos result.reduced ≡ reduced_in first.now self.now }
+        requires forward { IsIntegerWithin (2 ^ 100) self.now.forward }
+        requires backward { IsIntegerWithin (2 ^ 100) self.now.backward }
+        requires bounds { HaveBounds first.now self.now }
+        ensures { AreBoundsIn first.now self.now result }
     {
         Bounds::of_sums(self.reaction(first), self.age(first), self.reduced(first))
     }

@@ -1,5 +1,5 @@
-//! The public calls of single crates, but for those that take a valid model, each once on its happy path and at its limits:
-//! tests alone.
+//! The public calls of single crates, but for those that take a text of a model, each once on its happy path and at its
+//! limits: tests alone.
 #![tactic(auto)]
 
 #[cfg(test)]

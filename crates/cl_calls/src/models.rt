@@ -1,6 +1,5 @@
-//! Names, lists, models and places.
-use cl_model::{Code, Key, List, Name, Part, Place, Refusal, SystemModel};
-use cl_read::read_model;
+//! Names, lists and places.
+use cl_model::{Code, Key, List, Name, Part, Place, Refusal};
 use std::alloc::{AllocError, Global};
 use std::test::Fail;
 
@@ -69,50 +68,6 @@ fn keeps_items_in_order(rt: HostRuntime) -> Result<(), Fail> {
     assert_eq!(rt;
         text.as_str(),
         "2 false Some(\"a\") None List { items: [\"b\", \"a\"] }"
-    );
-    Ok(())
-}
-
-/// A model with one item of each table. The names in it aren't known, so it isn't valid.
-const ONE_OF_EACH: &str = r#"format = "chainlat"
-version = 1
-core = [{ name = "c0" }]
-stimulus = [{ name = "s", kind = "sporadic", least = 5, greatest = 8 }]
-label = [{ name = "x" }]
-chain = [{ name = "ab", runnables = ["a", "b"], labels = ["x"] }]
-requirement = [{ name = "r", chain = "ab", kind = "age", most = 46 }]
-
-[[task]]
-name = "A"
-core = "c0"
-stimulus = "s"
-priority = 2
-access = "timed"
-deadline = 4
-runnable = [{ name = "a", least = 2, greatest = 3, whole = true, reads = ["x"], writes = ["y", "z"] }]
-"#;
-
-/// A copy as it prints, which is equal to the model.
-fn copied(alloc: Global, model: &SystemModel) -> Result<String, Fail> {
-    let copy = model.copy(alloc)?;
-    if copy != *model {
-        return Err(Fail::from("a copy is equal"));
-    }
-    Ok(format!(in alloc; "{copy:?}")?)
-}
-
-/// The same, of the model that a text means.
-fn copied_of(alloc: Global, text: &str) -> Result<String, Fail> {
-    let model = read_model(alloc, text.as_bytes())?;
-    copied(alloc, &model)
-}
-
-#[test]
-fn copies_whole_models(rt: HostRuntime) -> Result<(), Fail> {
-    let copy = copied_of(rt.alloc(), ONE_OF_EACH)?;
-    assert!(rt;
-        copy.as_str()
-            .contains("writes: List { items: [\"y\", \"z\"] }")
     );
     Ok(())
 }

@@ -10,16 +10,19 @@ use Rattle.cl_model.specs.Groups.{group_at}
 use Rattle.cl_runs.specs.declared.job.Job.{Job}
 use Rattle.cl_runs.specs.Table.{no_job, job_at}
 use Rattle.cl_runs.specs.TaskTiming.{System, Timing, timing_at}
-use Rattle.cl_runs.specs.SystemOf.{range_of, system_of}
+use Rattle.cl_runs.specs.SystemOf.{system_of}
 use Rattle.cl_runs.specs.Run.{Run, jobs_of}
 use Rattle.cl_runs.specs.Moments.{Starts, Finishes, JobFinishes, WritesAtDeadline, ReadsBy, WritesBy, Reads, Writes}
-use Rattle.cl_runs.proofs.ModelSystem.{timing_is}
+use Rattle.cl_runs.proofs.ModelSystem.{timing_is, range_count_is}
 use Rattle.cl_runs.proofs.StartsFinishes.{starts_once, finishes_once}
 use Rattle.cl_runs.proofs.MomentFacts.{writes_once}
 use Rattle.cl_check.specs.declared.job_moments.Moment.{Moment}
 use Rattle.cl_check.specs.JobMoments.{IsMomentOf, no_moment, AreMoments}
 use Rattle.cl_check.proofs.MomentsFound.{each_pushed}
 use Rattle.cl_chain.specs.declared.group_moments.GroupMoments.{GroupMoments}
+use Rattle.cl_chain.specs.declared.group_moments.End.{End}
+use Rattle.cl_chain.specs.declared.group_moments.End.TheVariants.{Start, Finish}
+use Rattle.cl_chain.specs.Inner.Ends.{end_of, EndsAt}
 use Rattle.cl_chain.specs.Inner.GroupTables.{moment_at, AreMomentsAt, no_table, reads_in, writes_in, HasFinishedBy, IsTimedWrite, AreTimedWrites}
 use Rattle.cl_chain.proofs.MomentLists.{all_moments, same_moments}
 
@@ -34,15 +37,21 @@ mapped_moments IsAt f xs d once each within = all_moments IsAt (map f xs) once
     (λ job t here. omega (arith, within job t here, length-map xs f))
 
 module _ (system : System) (run : Run) (task place : ℕ) where
-  pub starts_listed : (found : List Moment) → AreMoments system run task place found
+  starts_listed : (found : List Moment) → AreMoments system run task place found
       → AreMomentsAt (λ job t. Starts system run task job place t) (map (λ (m : Moment). m.start) found)
   starts_listed found are = mapped_moments (λ job t. Starts system run task job place t) (λ (m : Moment). m.start) found no_moment
       (λ job s t. starts_once system run task job place s t) are.starts (λ job t starts. omega (arith, starts.in_table, are.one_a_job))
 
-  pub finishes_listed : (found : List Moment) → AreMoments system run task place found
+  finishes_listed : (found : List Moment) → AreMoments system run task place found
       → AreMomentsAt (λ job t. Finishes system run task job place t) (map (λ (m : Moment). m.finish) found)
   finishes_listed found are = mapped_moments (λ job t. Finishes system run task job place t) (λ (m : Moment). m.finish) found no_moment
       (λ job s t. finishes_once system run task job place s t) are.finishes (λ job t finishes. omega (arith, finishes.in_table, are.one_a_job))
+
+  -- either
+  pub ends_listed : (end : End) (found : List Moment) → AreMoments system run task place found
+      → AreMomentsAt (λ job t. EndsAt end system run task job place t) (map (end_of end) found)
+  ends_listed Start found are = starts_listed found are
+  ends_listed Finish found are = finishes_listed found are
 
   module _ (is_runnable : place < length (timing_at system task).ranges) where
     pub explicit_reads : (timing_at system task).access ≡ Explicit → (moments : List (Option ℕ))
@@ -175,7 +184,7 @@ module _ (model : SystemModel) (run : Run) (task place : ℕ) (is : task < lengt
   kind_is kind same = ap (λ (t : Timing). t.access) (timing_is model task is) ∙ sym is_access ∙ same
 
   pub places_are : length (timing_at (system_of model) task).ranges ≡ length (task_at model task).runnables
-  places_are = ap (λ (t : Timing). length t.ranges) (timing_is model task is) ∙ length-map (task_at model task).runnables range_of
+  places_are = range_count_is model task is
 
   place_is : place < length (timing_at (system_of model) task).ranges
   place_is = omega (arith, is_runnable, places_are)

@@ -3,6 +3,7 @@ use Rattle.std.proofs.Common.{◌≡◌, ℕ, zero, suc, ◌+◌, ◌-◌, ◌<�
 use Rattle.std.specs.Prelude.{slice_index}
 use Rattle.std.proofs.lemmas.List.{ext_get_or}
 use Rattle.cl_runs.specs.Chains.{JobChain, first_job, last_job}
+use Rattle.cl_runs.proofs.ChainsUnique.{chain_same}
 use Rattle.cl_chain.specs.declared.group_moments.GroupMoments.{GroupMoments}
 use Rattle.cl_chain.specs.Inner.GroupTables.{moment_at, AreMomentsAt, reads_in, writes_in}
 use Rattle.cl_chain.specs.Inner.Hops.{IsWrite, IsOfNext, IsBeforeNext}
@@ -13,9 +14,6 @@ use Rattle.cl_chain.proofs.MomentLists.{same_some}
 use Rattle.cl_chain.proofs.HopFacts.{write_once}
 use Rattle.cl_chain.proofs.ForwardFacts.{forward_same, forward_written, tail_jobs, jobs_tail}
 use Rattle.cl_chain.proofs.BackwardFacts.{backward_same, all_linked, IsHeadOf, head_jobs, jobs_head}
-
-chain_same : (one other : JobChain) → one.from ≡ other.from → one.to ≡ other.to → one.jobs ≡ other.jobs → one ≡ other
-chain_same one other from to jobs = λ i. record { from = from i; to = to i; jobs = jobs i }
 
 -- ---- forward
 

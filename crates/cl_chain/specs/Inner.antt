@@ -1,4 +1,5 @@
 -- What only private clauses cite.
+pub mod Ends
 pub mod GroupTables
 pub mod Hops
 pub mod ChainsOver

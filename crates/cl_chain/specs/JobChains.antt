@@ -6,13 +6,13 @@ use Rattle.cl_chain.specs.declared.job_chain.JobChain.{JobChain}
 use Rattle.cl_chain.specs.declared.job_chain.Measured.{Measured}
 
 -- an answer as a job chain of the definitions
-abbrev pub chain_of : JobChain → chains.JobChain
-chain_of chain = record { from = chain.from; to = chain.to; jobs = chain.jobs }
+abbrev pub job_chain_of : JobChain → chains.JobChain
+job_chain_of chain = record { from = chain.from; to = chain.to; jobs = chain.jobs }
 
 -- the same where there may be none
 abbrev pub option_of : Option JobChain → Option chains.JobChain
 option_of None = None
-option_of (Some chain) = Some (chain_of chain)
+option_of (Some chain) = Some (job_chain_of chain)
 
 -- an answer as the measured chains of the definitions
 abbrev pub measured_of : Measured → measured.Measured

@@ -33,8 +33,6 @@ pub fn forward(
     ensures { IfOk result (λ found.
         IsChainOf (IsForwardChain (run_moments (system_of model.now) run.now) (groups_at model.now chain)) first_job job (option_of found)) }
 {
-    let _some = model.group_count(chain);
-    let _valid = model.plain();
     let groups = moments_of_groups(alloc, model, run, chain)?;
     forward_over(alloc, groups.as_slice(), job)
 }
@@ -56,8 +54,6 @@ pub fn backward(
     ensures { IfOk result (λ found.
         IsChainOf (IsAgeChain (run_moments (system_of model.now) run.now) (groups_at model.now chain)) last_job job (option_of found)) }
 {
-    let _some = model.group_count(chain);
-    let _valid = model.plain();
     let groups = moments_of_groups(alloc, model, run, chain)?;
     age_over(alloc, groups.as_slice(), job)
 }

@@ -2,15 +2,16 @@
 ghost use Rattle.std.specs.Prelude.{◌≡◌, ◌<◌, length, map, Some, IfOk};
 ghost use Rattle.cl_model.specs.ByNumber.{task_at};
 ghost use Rattle.cl_model.specs.Groups.{groups_at};
-ghost use Rattle.cl_runs.specs.Run.{jobs_of};
+ghost use Rattle.cl_model.specs.Validity.{IsValid};
 ghost use Rattle.cl_runs.specs.SystemOf.{system_of};
 ghost use Rattle.cl_runs.specs.Legal.{IsLegal};
-ghost use Rattle.cl_runs.specs.Moments.{Starts, Finishes, Reads, Writes};
+ghost use Rattle.cl_runs.specs.Moments.{Reads, Writes};
 ghost use Rattle.cl_check.specs.JobMoments.{IsMomentOf};
+ghost use Rattle.cl_chain.specs.Inner.Ends.{end_of, EndsAt};
 ghost use Rattle.cl_chain.specs.Inner.GroupTables.{AreMomentsAt, AreTables, IsTimedWrite, AreTimedWrites};
 
 use crate::hops::moment_at;
-use cl_check::moments;
+use cl_check::{Moment, moments};
 use cl_model::{AccessKind, List, ValidModel};
 use cl_run_data::RunData;
 use cl_runs::Job;
@@ -24,48 +25,44 @@ pub(crate) struct GroupMoments {
     pub(crate) writes: List<Option<u64>>,
 }
 
-/// When a runnable of each job starts.
-fn starts_of(
-    alloc: Global,
-    model: &ValidModel,
-    run: &RunData,
-    task: u32,
-    place: u32,
-) -> Result<List<Option<u64>>, NoMemory>
-    requires is_task { task < length model.now.tasks }
-    requires is_runnable { place < length (task_at model.now task).runnables }
-    requires legal { IsLegal (system_of model.now) run.now }
-    ensures { IfOk result (λ starts.
-        AreMomentsAt (λ job t. Starts (system_of model.now) run.now task job place t) starts) }
-{
-    let found = moments(alloc, model, run, task, place)?;
-    let mut starts = List::new(alloc);
-    for moment in found.as_slice() {
-        starts.push(moment.start)?;
-    }
-    Ok(starts)
+/// One end of the execution of a runnable.
+#[derive(Clone, Copy)]
+pub(crate) enum End {
+    Start,
+    Finish,
 }
 
-/// When a runnable of each job finishes.
-fn finishes_of(
+/// The moment of one end.
+fn end_of(end: End, moment: Moment) -> Option<u64>
+    ensures { result ≡ end_of end moment }
+{
+    match end {
+        End::Start => moment.start,
+        End::Finish => moment.finish,
+    }
+}
+
+/// When a runnable of each job starts, or finishes.
+fn ends_of(
     alloc: Global,
     model: &ValidModel,
     run: &RunData,
     task: u32,
     place: u32,
+    end: End,
 ) -> Result<List<Option<u64>>, NoMemory>
     requires is_task { task < length model.now.tasks }
     requires is_runnable { place < length (task_at model.now task).runnables }
     requires legal { IsLegal (system_of model.now) run.now }
-    ensures { IfOk result (λ finishes.
-        AreMomentsAt (λ job t. Finishes (system_of model.now) run.now task job place t) finishes) }
+    ensures { IfOk result (λ ends.
+        AreMomentsAt (λ job t. EndsAt end (system_of model.now) run.now task job place t) ends) }
 {
     let found = moments(alloc, model, run, task, place)?;
-    let mut finishes = List::new(alloc);
+    let mut ends = List::new(alloc);
     for moment in found.as_slice() {
-        finishes.push(moment.finish)?;
+        ends.push(end_of(end, *moment))?;
     }
-    Ok(finishes)
+    Ok(ends)
 }
 
 /// When each job arrives.
@@ -110,22 +107,13 @@ fn timed_writes(
     Ok(writes)
 }
 
-/// The jobs of a task.
-fn jobs_of(run: &RunData, task: u32) -> &[Job]
-    requires { task < length run.now.table.jobs }
-    ensures { result.now ≡ jobs_of run.now task }
-{
-    run.table().jobs.as_slice()[task as usize].as_slice()
-}
-
 /// The access kind and the number of runnables of a task.
 fn access_of(model: &ValidModel, task: u32) -> (AccessKind, u32)
     requires { task < length model.now.tasks }
     ensures kind { result.0 ≡ (task_at model.now task).access }
     ensures runnables { result.1 ≡ length (task_at model.now task).runnables }
 {
-    let _valid = model.plain();
-    let task = &model.plain().tasks.as_slice()[task as usize];
+    let task = model.task(task);
     (task.access, task.runnables.len() as u32)
 }
 
@@ -144,9 +132,9 @@ fn reads_of(
         AreMomentsAt (λ job t. Reads (system_of model.now) run.now task job place t) reads) }
 {
     match access_of(model, task).0 {
-        AccessKind::Explicit => starts_of(alloc, model, run, task, place),
-        AccessKind::Implicit => starts_of(alloc, model, run, task, 0),
-        AccessKind::Timed => arrivals_of(alloc, jobs_of(run, task)),
+        AccessKind::Explicit => ends_of(alloc, model, run, task, place, End::Start),
+        AccessKind::Implicit => ends_of(alloc, model, run, task, 0, End::Start),
+        AccessKind::Timed => arrivals_of(alloc, run.table().jobs_of(task)),
     }
 }
 
@@ -166,17 +154,17 @@ fn writes_of(
 {
     let (access, runnables) = access_of(model, task);
     match access {
-        AccessKind::Explicit => finishes_of(alloc, model, run, task, place),
-        AccessKind::Implicit => finishes_of(alloc, model, run, task, runnables - 1),
+        AccessKind::Explicit => ends_of(alloc, model, run, task, place, End::Finish),
+        AccessKind::Implicit => ends_of(alloc, model, run, task, runnables - 1, End::Finish),
         AccessKind::Timed => {
-            let finishes = finishes_of(alloc, model, run, task, runnables - 1)?;
+            let finishes = ends_of(alloc, model, run, task, runnables - 1, End::Finish)?;
             let deadline = model.deadline_of(task);
-            let ticks = run.table().ticks;
+            let table = run.table();
             timed_writes(
                 alloc,
-                jobs_of(run, task),
+                table.jobs_of(task),
                 deadline,
-                ticks,
+                table.ticks,
                 finishes.as_slice(),
             )
         }
@@ -192,8 +180,12 @@ pub(crate) fn moments_of_groups(
 ) -> Result<List<GroupMoments>, NoMemory>
     requires is_chain { chain < length model.now.chains }
     requires legal { IsLegal (system_of model.now) run.now }
-    ensures { IfOk result (λ tables. AreTables (system_of model.now) run.now (groups_at model.now chain) tables) }
+    ensures tables { IfOk result (AreTables (system_of model.now) run.now (groups_at model.now chain)) }
+    ensures some { 0 < length (groups_at model.now chain) }
+    ensures valid { IsValid model.now }
 {
+    let chains = model.chains();
+    prove!(chain < chains);
     let mut tables = List::new(alloc);
     for place in 0..model.group_count(chain) {
         let group = model.group(chain, place);

@@ -239,8 +239,6 @@ pub fn measure(
     ensures { IfOk result (λ measured.
         IsMeasured (run_moments (system_of model.now) run.now) (groups_at model.now chain) (measured_of measured)) }
 {
-    let _some = model.group_count(chain);
-    let _valid = model.plain();
     let groups = moments_of_groups(alloc, model, run, chain)?;
     measured_over(alloc, groups.as_slice())
 }

@@ -10,30 +10,30 @@ use Rattle.cl_runs.specs.Run.{Run, IsInForm}
 use Rattle.cl_runs.specs.Legal.{IsLegal}
 use Rattle.cl_check.specs.declared.run_fault.RunFault.{RunFault}
 use Rattle.cl_check.specs.declared.run_fault.RunFault.TheVariants.{Illegal, NoMemory}
-use Rattle.cl_check.specs.Legality.{first, table_faults, IsKept, BreaksCore, BreaksSchedule, IsFirstBroken, IsFaultOf}
+use Rattle.cl_check.specs.Legality.{first_fault, table_faults, IsScheduleKept, BreaksCore, BreaksSchedule, IsFirstBroken, IsRunFaultOf}
 use Rattle.cl_check.specs.Inner.Following.{ChecksRun}
 use Rattle.cl_check.proofs.LawfulFaults.{faultless_lawful, lawful_faultless}
 
 -- the tasks of one more core
 pub kept_more : (system : System) (run : Run) (n next : ℕ) → next ≡ n + 1
-    → ((other t : ℕ) → other < n → t < run.table.ticks → IsKept system run other t)
-    → ((t : ℕ) → t < run.table.ticks → IsKept system run n t)
-    → (other t : ℕ) → other < next → t < run.table.ticks → IsKept system run other t
+    → ((other t : ℕ) → other < n → t < run.table.ticks → IsScheduleKept system run other t)
+    → ((t : ℕ) → t < run.table.ticks → IsScheduleKept system run n t)
+    → (other t : ℕ) → other < next → t < run.table.ticks → IsScheduleKept system run other t
 kept_more system run n next is before here other t h below = elim (cases_eq other n) [
-  | inl same ↦ subst (λ c. IsKept system run c t) (sym same) (here t below)
+  | inl same ↦ subst (λ c. IsScheduleKept system run c t) (sym same) (here t below)
   | inr apart ↦ before other t (omega (arith, h, is, apart)) below
 ]
 
 -- the first core that breaks the schedule
 pub breaks_first : (system : System) (run : Run) (core : ℕ) (fault : RunFault) → core < system.cores
-    → ((other t : ℕ) → other < core → t < run.table.ticks → IsKept system run other t)
+    → ((other t : ℕ) → other < core → t < run.table.ticks → IsScheduleKept system run other t)
     → (fault ≡ NoMemory) ⊎ BreaksCore system run core fault → (fault ≡ NoMemory) ⊎ BreaksSchedule system run fault
 breaks_first system run core fault is before (inl none) = inl none
 breaks_first system run core fault is before (inr breaks) = inr (record { core = core; is_core = is; breaks = breaks; before = before })
 
 -- ---- the first broken rule
 
-pub fault_of : (system : System) (run : Run) (fault : RunFault) → (fault ≡ NoMemory) ⊎ IsFirstBroken system run fault → IsFaultOf system run fault
+pub fault_of : (system : System) (run : Run) (fault : RunFault) → (fault ≡ NoMemory) ⊎ IsFirstBroken system run fault → IsRunFaultOf system run fault
 fault_of system run (Illegal rule place tick) (inl none) = cc
 fault_of system run (Illegal rule place tick) (inr broken) = broken
 fault_of system run NoMemory either = tt
@@ -44,12 +44,12 @@ broken_schedule system run fault none (inl no_memory) = inl no_memory
 broken_schedule system run fault none (inr breaks) = inr (inr (none, breaks))
 
 pub broken_table : (system : System) (run : Run) (table : JobTable) (fault : RunFault) → table ≡ run.table
-    → first (table_faults system table) ≡ Some fault → (fault ≡ NoMemory) ⊎ IsFirstBroken system run fault
-broken_table system run table fault is found = inr (inl (ap (λ (t : JobTable). first (table_faults system t)) (sym is) ∙ found))
+    → first_fault (table_faults system table) ≡ Some fault → (fault ≡ NoMemory) ⊎ IsFirstBroken system run fault
+broken_table system run table fault is found = inr (inl (ap (λ (t : JobTable). first_fault (table_faults system t)) (sym is) ∙ found))
 
 module _ (system : System) (run : Run) (fault : RunFault) (in_form : IsInForm system run) where
-  some_first : first (table_faults system run.table) ≡ Some fault → table_faults system run.table ≡ [] → ⊥
-  some_first found none = let e = sym found ∙ ap first none in cc
+  some_first : first_fault (table_faults system run.table) ≡ Some fault → table_faults system run.table ≡ [] → ⊥
+  some_first found none = let e = sym found ∙ ap first_fault none in cc
 
   broken_illegal : IsFirstBroken system run fault → IsLegal system run → ⊥
   broken_illegal (inl found) legal = some_first found (lawful_faultless system run.table in_form.tasks legal.lawful)
@@ -62,7 +62,7 @@ module _ (system : System) (run : Run) (fault : RunFault) (in_form : IsInForm sy
   illegal (inr broken) some legal = broken_illegal broken legal
 
 pub checked_legal : (system : System) (run : Run) → IsInForm system run → table_faults system run.table ≡ []
-    → ((core t : ℕ) → core < system.cores → t < run.table.ticks → IsKept system run core t) → IsLegal system run
+    → ((core t : ℕ) → core < system.cores → t < run.table.ticks → IsScheduleKept system run core t) → IsLegal system run
 checked_legal system run in_form none kept = record {
   in_form = in_form;
   lawful = faultless_lawful system run.table in_form.tasks none;
@@ -76,7 +76,7 @@ module _ {X : Type 0} (system : System) (run : Run) (in_form : IsInForm system r
   ok_legal (Ok done) legal = legal
   ok_legal (Err fault) broken = tt
 
-  pub err_first : (answer : Result X RunFault) → ChecksRun system run answer → IfErr answer (IsFaultOf system run)
+  pub err_first : (answer : Result X RunFault) → ChecksRun system run answer → IfErr answer (IsRunFaultOf system run)
   err_first (Ok done) legal = tt
   err_first (Err fault) broken = fault_of system run fault broken
 

@@ -1,5 +1,5 @@
 -- Following a run on a core: where it does what the core does next, it keeps the schedule, and else it breaks it there.
-use Rattle.std.proofs.Common.{◌≡◌, ◌≢◌, ℕ, zero, suc, ◌-◌, ◌<◌, ◌≤◌, inl, inr, Option, None, Bool, true, false, eqb, List, [], ◌∷◌, ◌++◌, replicate, length, get_or, take, refl, sym, ap, ◌∙◌, subst, arith, length-append}
+use Rattle.std.proofs.Common.{◌≡◌, ◌≢◌, ℕ, zero, suc, ◌+◌, ◌-◌, ◌<◌, ◌≤◌, inl, inr, Option, None, Bool, true, false, eqb, List, [], ◌∷◌, ◌++◌, replicate, length, get_or, take, refl, sym, ap, ◌∙◌, subst, arith, length-append}
 use Rattle.std.specs.Prelude.{not}
 use Rattle.std.specs.Option.{option_eq}
 use Rattle.std.proofs.lemmas.Bool.{cases_lt}
@@ -14,11 +14,11 @@ use Rattle.cl_run_data.specs.Inner.StretchPlaces.{end_from}
 use Rattle.cl_run_data.proofs.StretchFacts.{length-entries, end_at_last, ends_rise, who_same, who_other}
 use Rattle.cl_run_data.proofs.StretchEntries.{entry_of_tick, lasts_some}
 use Rattle.cl_sched.specs.declared.core_progress.CoreProgress.{CoreProgress}
-use Rattle.cl_sched.specs.CoreProgress.{ticks_of, IsReached}
+use Rattle.cl_sched.specs.CoreProgress.{ticks_of, IsScheduledUntil, IsReached}
 use Rattle.cl_sched.proofs.FullCores.{alike}
 use Rattle.cl_check.specs.declared.run_fault.Rule.TheVariants.{Schedule}
 use Rattle.cl_check.specs.declared.run_fault.RunFault.TheVariants.{Illegal}
-use Rattle.cl_check.specs.Legality.{IsKept, BreaksCore}
+use Rattle.cl_check.specs.Legality.{IsScheduleKept, BreaksCore}
 use Rattle.cl_check.specs.Inner.Following.{IsFollowed, Lasts}
 
 -- first entries and further equal ones are the first entries up to there
@@ -51,10 +51,18 @@ taken entries a t who after within same = same_lists (take a entries ++ replicat
 module _ (system : System) (sound : IsSound system) (run : Run) (core : ℕ) (ticks : length (core_entries run core) ≡ run.table.ticks)
     (reached : CoreProgress) (followed : IsFollowed system run core reached) (stretch : Stretch) (lasts : Lasts run core reached.tick stretch)
     (who : Option ℕ) (until : ℕ) (some : reached.tick < until) (within : until ≤ stretch.end)
-    (scheduled : (t : ℕ) → reached.tick ≤ t → t < until
-    → IsScheduled system run.table (ticks_of (take reached.tick (core_entries run core) ++ replicate (t - reached.tick) who)) t core who) where
+    (scheduled : IsScheduledUntil system run.table core (take reached.tick (core_entries run core)) until who) where
   abbrev entries : List (Option ℕ)
   entries = core_entries run core
+
+  at_tick : (t : ℕ) → reached.tick ≤ t → t < until
+      → IsScheduled system run.table (ticks_of (take reached.tick entries ++ replicate (t - reached.tick) who)) t core who
+  at_tick t after before =
+      let long : length (take reached.tick entries) ≡ reached.tick
+      = length-take-le reached.tick entries (omega (arith, lasts.ahead, lasts.within, ticks)) in
+      let is : length (take reached.tick entries) + (t - reached.tick) ≡ t = omega (arith, after, long) in
+      subst (λ u. IsScheduled system run.table (ticks_of (take reached.tick entries ++ replicate (t - reached.tick) who)) u core who) is
+      (scheduled (t - reached.tick) (omega (arith, is, before)))
 
   -- what is scheduled after the first entries is what is scheduled in the run
   in_run : (t : ℕ) (e : Option ℕ) → IsScheduled system run.table (ticks_of (take t entries)) t core e
@@ -68,11 +76,11 @@ module _ (system : System) (sound : IsSound system) (run : Run) (core : ℕ) (ti
     up_to t after before = taken entries reached.tick t who after (omega (arith, before, within, lasts.within, ticks))
         (λ u first last. lasts.entries u first (omega (arith, last, before, within)) ∙ sym same)
 
-    kept_there : (t : ℕ) → reached.tick ≤ t → t < until → IsKept system run core t
+    kept_there : (t : ℕ) → reached.tick ≤ t → t < until → IsScheduleKept system run core t
     kept_there t after before = subst (λ e. IsScheduled system run.table (λ task. executed system run task t) t core e)
         (same ∙ sym (lasts.entries t after (omega (arith, before, within))))
         (in_run t who (subst (λ (l : List (Option ℕ)). IsScheduled system run.table (ticks_of l) t core who) (up_to t after (omega (arith, before)))
-        (scheduled t after before)))
+        (at_tick t after before)))
 
     pub followed_further : (moved : CoreProgress) → moved.tick ≡ until
         → IsReached system run.table core (take reached.tick entries ++ replicate (until - reached.tick) who) moved
@@ -107,7 +115,7 @@ module _ (system : System) (sound : IsSound system) (run : Run) (core : ℕ) (ti
       is_tick = omega (arith, some, within, lasts.within);
       broken = λ kept. other (scheduled_once system sound run.table (λ task. executed system run task reached.tick) reached.tick core who (entry_at run core reached.tick)
           (in_run reached.tick who (subst (λ (l : List (Option ℕ)). IsScheduled system run.table (ticks_of l) reached.tick core who) now
-          (scheduled reached.tick (omega arith) some))) kept
+          (at_tick reached.tick (omega arith) some))) kept
           ∙ lasts.entries reached.tick (omega arith) (omega (arith, some, within)));
       earlier = followed.kept;
     };

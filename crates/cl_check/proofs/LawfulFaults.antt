@@ -4,6 +4,7 @@ use Rattle.std.specs.List.{AllZip, range_with_len, flat_map}
 use Rattle.std.proofs.lemmas.Bool.{cases_eq, leb-true, ltb-true, le-leb, lt-ltb}
 use Rattle.cl_model.specs.declared.stimulus.StimulusKind.{StimulusKind}
 use Rattle.cl_model.specs.Timing.{greatest_jitter}
+use Rattle.cl_model.proofs.ListFacts.{both_true, both_pass}
 use Rattle.cl_runs.specs.Arrivals.{IsArrival, AreArrivalsFrom}
 use Rattle.cl_runs.specs.declared.job.Job.{Job}
 use Rattle.cl_runs.specs.declared.job.JobTable.{JobTable}
@@ -11,23 +12,16 @@ use Rattle.cl_runs.specs.Pattern.{least_gap, greatest_gap}
 use Rattle.cl_runs.specs.Table.{LiesIn, table_jobs, IsLawful}
 use Rattle.cl_runs.specs.TaskTiming.{TimeRange, System, timing_at}
 use Rattle.cl_check.specs.declared.run_fault.RunFault.{RunFault}
-use Rattle.cl_check.specs.Legality.{unless, are_in_range, arrival_faults, release_faults, time_faults, job_faults, faults_from, faults_of_task, table_faults}
+use Rattle.cl_check.specs.Legality.{fault_unless, are_in_range, arrival_faults, release_faults, time_faults, job_faults, faults_from, faults_of_task, table_faults}
 
 -- ---- tests
 
-and_true : (a b : Bool) → (a && b) ≡ true → (a ≡ true) × (b ≡ true)
-and_true true b is = (refl, is)
-and_true false b is = cc
-
-both_true : (a b : Bool) → a ≡ true → b ≡ true → (a && b) ≡ true
-both_true a b is_a is_b = ap (λ x. x && b) is_a ∙ is_b
-
-passed : (test : Bool) (fault : RunFault) → unless test fault ≡ [] → test ≡ true
+passed : (test : Bool) (fault : RunFault) → fault_unless test fault ≡ [] → test ≡ true
 passed true fault none = refl
 passed false fault none = cc
 
-no_fault : (test : Bool) (fault : RunFault) → test ≡ true → unless test fault ≡ []
-no_fault test fault is = ap (λ b. unless b fault) is
+no_fault : (test : Bool) (fault : RunFault) → test ≡ true → fault_unless test fault ≡ []
+no_fault test fault is = ap (λ b. fault_unless b fault) is
 
 neither : (one other : List RunFault) → one ++ other ≡ [] → (one ≡ []) × (other ≡ [])
 neither [] other none = (refl, none)
@@ -43,8 +37,8 @@ times_lie [] [] is = _
 times_lie [] (time ∷ times) is = cc
 times_lie (range ∷ ranges) [] is = cc
 times_lie (range ∷ ranges) (time ∷ times) is =
-    let both = and_true (nat_le range.least time && nat_le time range.greatest) (are_in_range ranges times) is in
-    let here = and_true (nat_le range.least time) (nat_le time range.greatest) both.0 in
+    let both = both_pass (nat_le range.least time && nat_le time range.greatest) (are_in_range ranges times) is in
+    let here = both_pass (nat_le range.least time) (nat_le time range.greatest) both.0 in
     ((leb-true range.least time here.0, leb-true time range.greatest here.1), times_lie ranges times both.1)
 
 lying_times : (ranges : List TimeRange) (times : List ℕ) → AllZip LiesIn ranges times → are_in_range ranges times ≡ true
@@ -66,9 +60,9 @@ module _ (pattern : StimulusKind) (ranges : List TimeRange) (ticks task low high
   fine_job none =
       let parts = neither (arrival_faults ticks task low high job) (release_faults pattern task job ++ time_faults ranges task job) none in
       let rest = neither (release_faults pattern task job) (time_faults ranges task job) parts.1 in
-      let arrives = and_true (nat_le low job.arrival && nat_le job.arrival high) (nat_lt job.arrival ticks) (passed _ _ parts.0) in
-      let due = and_true (nat_le low job.arrival) (nat_le job.arrival high) arrives.0 in
-      let released = and_true (nat_le job.arrival job.release) (nat_le job.release (job.arrival + greatest_jitter pattern)) (passed _ _ rest.0) in (
+      let arrives = both_pass (nat_le low job.arrival && nat_le job.arrival high) (nat_lt job.arrival ticks) (passed _ _ parts.0) in
+      let due = both_pass (nat_le low job.arrival) (nat_le job.arrival high) arrives.0 in
+      let released = both_pass (nat_le job.arrival job.release) (nat_le job.release (job.arrival + greatest_jitter pattern)) (passed _ _ rest.0) in (
         record {
           not_early = leb-true low job.arrival due.0;
           not_late = leb-true job.arrival high due.1;

@@ -2,14 +2,14 @@
 use Rattle.std.proofs.Common.{◌≡◌, ℕ, suc, ◌-◌, ◌<◌, ◌≤◌, inl, inr, Option, Some, None, List, length, get_or, sym, ap, ◌∙◌, subst, arith}
 use Rattle.std.specs.Prelude.{slice_index, All}
 use Rattle.std.proofs.lemmas.Bool.{cases_lt}
-use Rattle.std.proofs.lemmas.List.{get_or_default, length-map}
+use Rattle.std.proofs.lemmas.List.{get_or_default}
 use Rattle.cl_model.specs.declared.model.SystemModel.{SystemModel}
 use Rattle.cl_model.specs.ByNumber.{core_of, task_at}
 use Rattle.cl_model.specs.Validity.{IsValid}
 use Rattle.cl_runs.specs.declared.job.Job.{Job}
 use Rattle.cl_runs.specs.Table.{no_job, job_at}
 use Rattle.cl_runs.specs.TaskTiming.{System, Timing, timing_at, IsSound}
-use Rattle.cl_runs.specs.SystemOf.{range_of, system_of}
+use Rattle.cl_runs.specs.SystemOf.{system_of}
 use Rattle.cl_runs.specs.Run.{Run, jobs_of, core_entries, executed}
 use Rattle.cl_runs.specs.Legal.{IsLegal}
 use Rattle.cl_runs.specs.Work.{work_before, work_through}
@@ -17,7 +17,7 @@ use Rattle.cl_runs.specs.Moments.{Starts, Finishes}
 use Rattle.cl_runs.proofs.Climbing.{climb_grows}
 use Rattle.cl_runs.proofs.Executed.{executed_zero, executed_climbs, executed_grew}
 use Rattle.cl_runs.proofs.LegalFacts.{core_ticks, job_places, time_positive}
-use Rattle.cl_runs.proofs.ModelSystem.{timing_is, count_is, system_sound}
+use Rattle.cl_runs.proofs.ModelSystem.{timing_is, count_is, range_count_is, system_sound}
 use Rattle.cl_run_data.specs.declared.stretches.Stretch.{Stretch}
 use Rattle.cl_run_data.specs.Stretches.{entries_from, AreStretchesOf}
 use Rattle.cl_check.specs.declared.job_moments.Moment.{Moment}
@@ -131,12 +131,7 @@ module _ (model : SystemModel) (valid : IsValid model) (run : Run) (legal : IsLe
 
   module _ (place : ℕ) (is_runnable : place < length (task_at model task).runnables) where
     place_is : place < length (timing_at (system_of model) task).ranges
-    place_is = omega (
-      arith,
-      is_runnable,
-      ap (λ (timing : Timing). length timing.ranges) (timing_is model task is),
-      length-map (task_at model task).runnables range_of,
-    )
+    place_is = omega (arith, is_runnable, range_count_is model task is)
 
     -- each job takes a time for the runnable, of a tick at least
     pub each_has_place : All (λ (job : Job). place < length job.times) (jobs_of run task)

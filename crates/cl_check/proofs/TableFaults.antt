@@ -11,7 +11,7 @@ use Rattle.cl_runs.specs.Pattern.{least_gap, greatest_gap}
 use Rattle.cl_runs.specs.SystemOf.{range_of}
 use Rattle.cl_runs.specs.TaskTiming.{TimeRange, no_range}
 use Rattle.cl_check.specs.declared.run_fault.RunFault.{RunFault}
-use Rattle.cl_check.specs.Legality.{are_in_range, first, job_faults, faults_from}
+use Rattle.cl_check.specs.Legality.{are_in_range, first_fault, job_faults, faults_from}
 
 -- ---- the execution times of a job
 
@@ -68,7 +68,7 @@ module _ (runnables : List RunnableDef) (times : List ℕ) (i : ℕ) (runnable :
 
 -- ---- one list after another
 
-pub first_of_both : (one other : List RunFault) (fault : RunFault) → first one ≡ Some fault → first (one ++ other) ≡ Some fault
+pub first_of_both : (one other : List RunFault) (fault : RunFault) → first_fault one ≡ Some fault → first_fault (one ++ other) ≡ Some fault
 first_of_both [] other fault is = cc
 first_of_both (head ∷ one) other fault is = is
 
@@ -86,8 +86,8 @@ module _ (pattern : StimulusKind) (ranges : List TimeRange) (ticks task k low hi
       ++ faults_from pattern ranges ticks task (suc k) (job.arrival + least_gap pattern k) (job.arrival + greatest_gap pattern k) (drop (suc k) jobs)
   job_first = ap (faults_from pattern ranges ticks task k low high) (drop-cons jobs k job there ∙ ap (λ j. j ∷ drop (suc k) jobs) (sym is))
 
-  pub faulty_job : (fault : RunFault) → first (job_faults pattern ranges ticks task low high job) ≡ Some fault → first faults ≡ Some fault
-  faulty_job fault found = ap first job_first ∙ first_of_both _ _ fault found
+  pub faulty_job : (fault : RunFault) → first_fault (job_faults pattern ranges ticks task low high job) ≡ Some fault → first_fault faults ≡ Some fault
+  faulty_job fault found = ap first_fault job_first ∙ first_of_both _ _ fault found
 
   pub fine_job : (n next_low next_high : ℕ) → n ≡ suc k → next_low ≡ job.arrival + least_gap pattern k → next_high ≡ job.arrival + greatest_gap pattern k
       → job_faults pattern ranges ticks task low high job ≡ []
@@ -113,9 +113,9 @@ module _ (faults_of : ℕ → List RunFault) where
       let more : n - a ≡ suc (n - (a + 1)) = omega (arith, h) in
       ap (λ m. flat_map faults_of (range_with_len a m)) more
 
-  pub faulty_task : (a n : ℕ) (fault : RunFault) → a < n → first (faults_of a) ≡ Some fault
-      → first (flat_map faults_of (range_with_len a (n - a))) ≡ Some fault
-  faulty_task a n fault h found = ap first (one_task a n h) ∙ first_of_both _ _ fault found
+  pub faulty_task : (a n : ℕ) (fault : RunFault) → a < n → first_fault (faults_of a) ≡ Some fault
+      → first_fault (flat_map faults_of (range_with_len a (n - a))) ≡ Some fault
+  faulty_task a n fault h found = ap first_fault (one_task a n h) ∙ first_of_both _ _ fault found
 
   pub fine_task : (a n : ℕ) → a < n → faults_of a ≡ []
       → flat_map faults_of (range_with_len a (n - a)) ≡ flat_map faults_of (range_with_len (a + 1) (n - (a + 1)))

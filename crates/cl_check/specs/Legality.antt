@@ -1,6 +1,5 @@
 -- The rules that a legal run keeps, in the order in which they are checked, and the first one that a run breaks. Times
 -- are in ticks.
--- source: this project's profile
 use Rattle.std.specs.Prelude.{◌≡◌, ℕ, suc, ◌+◌, ◌<◌, ◌⊎◌, Bool, true, false, ◌&&◌, nat_le, nat_lt, cond, List, [], ◌∷◌, ◌++◌, length, Option, Some, None}
 use Rattle.std.specs.List.{range_with_len, flat_map}
 use Rattle.cl_model.specs.declared.stimulus.StimulusKind.{StimulusKind}
@@ -17,13 +16,13 @@ use Rattle.cl_check.specs.declared.run_fault.RunFault.{RunFault}
 use Rattle.cl_check.specs.declared.run_fault.RunFault.TheVariants.{Illegal, NoMemory}
 
 -- a fault, unless the test passes
-abbrev pub unless : Bool → RunFault → List RunFault
-unless test fault = cond test [] (fault ∷ [])
+abbrev pub fault_unless : Bool → RunFault → List RunFault
+fault_unless test fault = cond test [] (fault ∷ [])
 
 -- the first fault of a list, if there is one
-abbrev pub first : List RunFault → Option RunFault
-first [] = None
-first (fault ∷ others) = Some fault
+abbrev pub first_fault : List RunFault → Option RunFault
+first_fault [] = None
+first_fault (fault ∷ others) = Some fault
 
 -- ---- the jobs of a task, by the task's number
 
@@ -38,18 +37,18 @@ are_in_range (range ∷ ranges) (time ∷ times) =
 -- a job arrives in [low, high], and in the first `ticks` ticks
 abbrev pub arrival_faults : (ticks task low high : ℕ) → Job → List RunFault
 arrival_faults ticks task low high job =
-    unless ((nat_le low job.arrival && nat_le job.arrival high) && nat_lt job.arrival ticks)
+    fault_unless ((nat_le low job.arrival && nat_le job.arrival high) && nat_lt job.arrival ticks)
     (Illegal Arrival task job.arrival)
 
 -- it is released at its arrival, or at most the jitter later
 abbrev pub release_faults : StimulusKind → (task : ℕ) → Job → List RunFault
 release_faults pattern task job =
-    unless (nat_le job.arrival job.release && nat_le job.release (job.arrival + greatest_jitter pattern))
+    fault_unless (nat_le job.arrival job.release && nat_le job.release (job.arrival + greatest_jitter pattern))
     (Illegal Release task job.arrival)
 
 -- each of its execution times lies in the range of its runnable
 abbrev pub time_faults : List TimeRange → (task : ℕ) → Job → List RunFault
-time_faults ranges task job = unless (are_in_range ranges job.times) (Illegal Time task job.arrival)
+time_faults ranges task job = fault_unless (are_in_range ranges job.times) (Illegal Time task job.arrival)
 
 -- all faults of a job that is due in [low, high]
 abbrev pub job_faults : StimulusKind → List TimeRange → (ticks task low high : ℕ) → Job → List RunFault
@@ -59,7 +58,7 @@ job_faults pattern ranges ticks task low high job =
 -- all faults of the jobs of a task from number k on, where the next one is due in [low, high]: those of each job in
 -- turn, and after the last one that a further job is missing, at the latest tick at which it is due
 abbrev pub faults_from : StimulusKind → List TimeRange → (ticks task k low high : ℕ) → List Job → List RunFault
-faults_from pattern ranges ticks task k low high [] = unless (nat_le ticks high) (Illegal Missing task high)
+faults_from pattern ranges ticks task k low high [] = fault_unless (nat_le ticks high) (Illegal Missing task high)
 faults_from pattern ranges ticks task k low high (job ∷ jobs) = job_faults pattern ranges ticks task low high job
     ++ faults_from pattern ranges ticks task (suc k) (job.arrival + least_gap pattern k)
     (job.arrival + greatest_gap pattern k) jobs
@@ -81,14 +80,14 @@ table_faults system table = flat_map (faults_of_task system table) (range_with_l
 -- ---- the schedule
 
 -- in a tick a core executes what is scheduled
-abbrev pub IsKept : System → Run → (core tick : ℕ) → Type 0
-IsKept system run core tick = IsScheduled system run.table (λ task. executed system run task tick) tick core (entry_at run core tick)
+abbrev pub IsScheduleKept : System → Run → (core tick : ℕ) → Type 0
+IsScheduleKept system run core tick = IsScheduled system run.table (λ task. executed system run task tick) tick core (entry_at run core tick)
 
 -- a tick is the first in which a core doesn't execute what is scheduled
 pub record IsFirstOnCore (system : System) (run : Run) (core tick : ℕ) : Type 0 where
   pub is_tick : tick < run.table.ticks
-  pub broken : IsKept system run core tick → ⊥
-  pub earlier : (t : ℕ) → t < tick → IsKept system run core t
+  pub broken : IsScheduleKept system run core tick → ⊥
+  pub earlier : (t : ℕ) → t < tick → IsScheduleKept system run core t
 
 -- a fault is that of a core, at the first tick in which it doesn't execute what is scheduled
 pub record BreaksCore (system : System) (run : Run) (core : ℕ) (fault : RunFault) : Type 0 where
@@ -101,16 +100,16 @@ pub record BreaksSchedule (system : System) (run : Run) (fault : RunFault) : Typ
   pub core : ℕ
   pub is_core : core < system.cores
   pub breaks : BreaksCore system run core fault
-  pub before : (other t : ℕ) → other < core → t < run.table.ticks → IsKept system run other t
+  pub before : (other t : ℕ) → other < core → t < run.table.ticks → IsScheduleKept system run other t
 
 -- ---- a run
 
 -- the first broken rule of a run: the first fault of its table, or, where the table has none, the first of its schedule
 abbrev pub IsFirstBroken : System → Run → RunFault → Type 0
-IsFirstBroken system run fault = (first (table_faults system run.table) ≡ Some fault)
+IsFirstBroken system run fault = (first_fault (table_faults system run.table) ≡ Some fault)
     ⊎ ((table_faults system run.table ≡ []) × BreaksSchedule system run fault)
 
 -- the fault is the first broken rule, or want of memory
-abbrev pub IsFaultOf : System → Run → RunFault → Type 0
-IsFaultOf system run (Illegal rule place tick) = IsFirstBroken system run (Illegal rule place tick)
-IsFaultOf system run NoMemory = Unit {0}
+abbrev pub IsRunFaultOf : System → Run → RunFault → Type 0
+IsRunFaultOf system run (Illegal rule place tick) = IsFirstBroken system run (Illegal rule place tick)
+IsRunFaultOf system run NoMemory = Unit {0}

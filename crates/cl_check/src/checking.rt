@@ -1,11 +1,12 @@
 //! Whether a run is legal. Times are in ticks.
 ghost use Rattle.std.specs.Prelude.{◌≢◌, IfOk, IfErr};
+ghost use Rattle.cl_model.specs.Validity.{IsValid};
 ghost use Rattle.cl_runs.specs.Run.{IsInForm};
 ghost use Rattle.cl_runs.specs.SystemOf.{system_of};
 ghost use Rattle.cl_runs.specs.Table.{IsLawful};
 ghost use Rattle.cl_runs.specs.Legal.{IsLegal};
 ghost use Rattle.cl_sched.specs.Continuing.{HasContinuations};
-ghost use Rattle.cl_check.specs.Legality.{IsFaultOf};
+ghost use Rattle.cl_check.specs.Legality.{IsRunFaultOf};
 ghost use Rattle.cl_check.specs.Inner.Following.{ChecksCores, ChecksRun};
 
 use crate::run_fault::RunFault;
@@ -30,7 +31,8 @@ fn check_cores(alloc: Global, model: &ValidModel, run: &RunData) -> Result<(), R
 /// The run is legal, or the first broken rule.
 fn check_rules(alloc: Global, model: &ValidModel, run: &RunData) -> Result<(), RunFault>
     requires { IsInForm (system_of model.now) run.now }
-    ensures { ChecksRun (system_of model.now) run.now result }
+    ensures rules { ChecksRun (system_of model.now) run.now result }
+    ensures valid { IsValid model.now }
 {
     check_table(model, run.table())?;
     check_cores(alloc, model, run)?;
@@ -41,19 +43,17 @@ fn check_rules(alloc: Global, model: &ValidModel, run: &RunData) -> Result<(), R
 /// core executes in each tick what is scheduled. The rules are checked in order: for each task, in file order, each job
 /// by `Arrival`, `Release` and `Time`, and then `Missing`; then for each core in order `Schedule`.
 ///
-/// The run is in form. The answer is `Illegal` exactly where the run isn't legal: the first broken rule, with the number
-/// of its task or core, and with a tick: that of the job's arrival, the latest tick at which a missing job is due, or
-/// the first tick in which the core doesn't execute what is scheduled. `NoMemory` is the only other error. The run stays
-/// as it was. It takes a time that doesn't depend on the number of ticks.
+/// The run is in form. The answer is `Illegal` exactly where the run isn't legal: the first broken rule, with the
+/// number of its task or core, and with a tick: that of the job's arrival, the latest tick at which a missing job is
+/// due, or the first tick in which the core doesn't execute what is scheduled. `NoMemory` is the only other error. The
+/// run stays as it was. It takes a time that doesn't depend on the number of ticks.
 pub fn check_run(alloc: Global, model: &ValidModel, run: &RunData) -> Result<(), RunFault>
     requires { IsInForm (system_of model.now) run.now }
     ensures legal { IfOk result (λ _. IsLegal (system_of model.now) run.now) }
-    ensures first { IfErr result (IsFaultOf (system_of model.now) run.now) }
+    ensures first { IfErr result (IsRunFaultOf (system_of model.now) run.now) }
     ensures illegal { IfErr result (λ fault. fault ≢ RunFault.NoMemory
         → IsLegal (system_of model.now) run.now → ⊥) }
     ensures continuation { IfOk result (λ _. HasContinuations (system_of model.now) run.now) }
 {
-    // read for what it says: the model is valid
-    let _plain = model.plain();
     check_rules(alloc, model, run)
 }

@@ -2,7 +2,6 @@
 ghost use Rattle.std.specs.Prelude.{◌≡◌, ◌+◌, ◌-◌, ◌^◌, ◌<◌, ◌≤◌, length, sum, min, slice_index, All, IfOk};
 ghost use Rattle.cl_model.specs.ByNumber.{task_at};
 ghost use Rattle.cl_runs.specs.declared.job.Job.{Job};
-ghost use Rattle.cl_runs.specs.Run.{jobs_of};
 ghost use Rattle.cl_runs.specs.SystemOf.{system_of};
 ghost use Rattle.cl_runs.specs.Legal.{IsLegal};
 ghost use Rattle.cl_run_data.specs.Stretches.{entries_from, AreLongest};
@@ -84,14 +83,6 @@ fn moments_in(
     Ok(moments)
 }
 
-/// The jobs of a task.
-fn jobs_of(run: &RunData, task: u32) -> &[Job]
-    requires { task < length run.now.table.jobs }
-    ensures { result.now ≡ jobs_of run.now task }
-{
-    run.table().jobs.as_slice()[task as usize].as_slice()
-}
-
 /// When a runnable of a task starts and finishes: an entry for each job, in the order of the jobs.
 ///
 /// The run is legal for the model. An entry has no start exactly where the runnable doesn't start below the end of the
@@ -109,9 +100,11 @@ pub fn moments(
     requires legal { IsLegal (system_of model.now) run.now }
     ensures { IfOk result (AreMoments (system_of model.now) run.now task place) }
 {
+    let runnables = model.task(task).runnables.len();
+    prove!((place as usize) < runnables);
+    let table = run.table();
     // read for its range: the core's entries are as many as the ticks
-    let _ticks = run.table().ticks;
-    let _valid = model.plain();
+    let _ticks = table.ticks;
     let stretches = run.stretches(model.core_of(task));
-    moments_in(alloc, stretches, jobs_of(run, task), task, place as usize)
+    moments_in(alloc, stretches, table.jobs_of(task), task, place as usize)
 }

@@ -2,6 +2,7 @@
 ghost use Rattle.std.specs.Prelude.{◌≡◌, ◌<◌, length};
 ghost use Rattle.cl_runs.specs.Run.{IsInForm};
 ghost use Rattle.cl_runs.specs.SystemOf.{system_of};
+ghost use Rattle.cl_runs.specs.TaskTiming.{IsSound};
 ghost use Rattle.cl_runs.specs.Table.{IsLawful};
 ghost use Rattle.cl_check.specs.Inner.Following.{IsFollowed, Lasts, Follows, ChecksCore};
 
@@ -21,14 +22,13 @@ fn follow(
     reached: &mut CoreProgress,
 ) -> Result<(), RunFault>
     requires core { core < length model.now.cores }
+    requires sound { IsSound (system_of model.now) }
     requires in_form { IsInForm (system_of model.now) run.now }
     requires lawful { IsLawful (system_of model.now) run.now.table }
     requires followed { IsFollowed (system_of model.now) run.now core reached.old }
     requires lasts { Lasts run.now core reached.old.tick stretch }
     ensures { Follows (system_of model.now) run.now core stretch.end result reached.new }
 {
-    // read for what it says: the model is valid
-    let _plain = model.plain();
     'events: while reached.tick < stretch.end {
         let next = reached.next(stretch.end);
         if next.who != stretch.who {
@@ -51,6 +51,7 @@ fn follow_all(
     reached: &mut CoreProgress,
 ) -> Result<(), RunFault>
     requires core { core < length model.now.cores }
+    requires sound { IsSound (system_of model.now) }
     requires in_form { IsInForm (system_of model.now) run.now }
     requires lawful { IsLawful (system_of model.now) run.now.table }
     requires followed { IsFollowed (system_of model.now) run.now core reached.old }
@@ -71,6 +72,7 @@ pub fn check_core(
     core: u32,
 ) -> Result<(), RunFault>
     requires core { core < length model.now.cores }
+    requires sound { IsSound (system_of model.now) }
     requires in_form { IsInForm (system_of model.now) run.now }
     requires lawful { IsLawful (system_of model.now) run.now.table }
     ensures { ChecksCore (system_of model.now) run.now core result }

@@ -1,5 +1,6 @@
 //! Whether a job table is lawful. Times are in ticks.
 ghost use Rattle.std.specs.Prelude.{◌≡◌, ◌<◌, ◌++◌, length, map};
+ghost use Rattle.cl_model.specs.Validity.{IsValid};
 ghost use Rattle.cl_runs.specs.Pattern.{IsPattern};
 ghost use Rattle.cl_runs.specs.SystemOf.{range_of, system_of};
 ghost use Rattle.cl_check.specs.Legality.{are_in_range, arrival_faults, release_faults, job_faults, task_faults, faults_of_task, table_faults};
@@ -107,17 +108,16 @@ fn check_task(model: &ValidModel, table: &JobTable, task: u32) -> Result<(), Run
     requires jobs { task < length table.now.jobs }
     ensures { Finds result (faults_of_task (system_of model.now) table.now task) }
 {
-    let runnables = model.plain().tasks.as_slice()[task as usize]
-        .runnables
-        .as_slice();
-    let jobs = table.jobs.as_slice()[task as usize].as_slice();
+    let runnables = model.task(task).runnables.as_slice();
+    let jobs = table.jobs_of(task);
     check_jobs(model.stimulus_of(task), runnables, table.ticks, task, jobs)
 }
 
 /// The table is lawful, or its first fault.
 pub fn check_table(model: &ValidModel, table: &JobTable) -> Result<(), RunFault>
     requires { length table.now.jobs ≡ length model.now.tasks }
-    ensures { Finds result (table_faults (system_of model.now) table.now) }
+    ensures finds { Finds result (table_faults (system_of model.now) table.now) }
+    ensures valid { IsValid model.now }
 {
     for task in 0..model.tasks() {
         check_task(model, table, task)?;

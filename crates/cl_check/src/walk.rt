@@ -65,8 +65,8 @@ impl Walk {
         self.place += 1;
     }
 
-    /// The tick in which the task runs after `work` executed ticks, if there is one. The walk goes on to its stretch, or
-    /// to the end.
+    /// The tick in which the task runs after `work` executed ticks, if there is one. The walk goes on to its stretch,
+    /// or to the end.
     pub(crate) fn seek(&mut self, stretches: &[Stretch], task: u32, work: u64) -> Option<u64>
         requires longest { AreLongest 0 stretches.now }
         requires stands { StandsIn stretches.now task self.old }

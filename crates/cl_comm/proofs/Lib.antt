@@ -1,2 +1,3 @@
 pub use Rattle.cl_comm.specs.Inner.AccessTimes
 pub mod Spots
+pub mod Responses

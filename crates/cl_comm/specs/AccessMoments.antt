@@ -1,7 +1,7 @@
--- The read and write moments of the tasks of one kind of access, and which kind is timed.
-use Rattle.std.specs.Prelude.{◌≡◌, ℕ, Bool, true, false, not}
+-- The read and write moments of the tasks of one kind of access, and whether they run as they read.
+use Rattle.std.specs.Prelude.{◌≡◌, ℕ, Bool, not}
 use Rattle.cl_model.specs.declared.task.AccessKind.{AccessKind}
-use Rattle.cl_model.specs.declared.task.AccessKind.TheVariants.{Explicit, Implicit, Timed}
+use Rattle.cl_model.specs.Kinds.{is_timed}
 use Rattle.cl_runs.specs.TaskTiming.{System, timing_at}
 use Rattle.cl_runs.specs.Run.{Run}
 use Rattle.cl_runs.specs.Moments.{Reads, Writes}
@@ -15,12 +15,6 @@ pub record ReadsAs (kind : AccessKind) (system : System) (run : Run) (i k p t : 
 pub record WritesAs (kind : AccessKind) (system : System) (run : Run) (i k p t : ℕ) : Type 0 where
   pub is_kind : (timing_at system i).access ≡ kind
   pub writes : Writes system run i k p t
-
--- whether a kind of access is timed: its tasks read and write at the arrival and the deadline of their jobs
-abbrev pub is_timed : AccessKind → Bool
-is_timed Explicit = false
-is_timed Implicit = false
-is_timed Timed = true
 
 -- whether the tasks of a kind of access run in the tick in which they read: those that aren't timed do
 abbrev pub runs_on_reads : AccessKind → Bool

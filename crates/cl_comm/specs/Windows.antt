@@ -1,4 +1,4 @@
--- The window of a runnable: when it reads and writes, counted from the arrival of its job. Source: this project's profile.
+-- The window of a runnable: when it reads and writes, counted from the arrival of its job.
 use Rattle.std.specs.Prelude.{ℕ, suc, ◌+◌, ◌-◌, List, take, drop, sum_by}
 use Rattle.cl_model.specs.declared.task.AccessKind.{AccessKind}
 use Rattle.cl_model.specs.declared.task.AccessKind.TheVariants.{Explicit, Implicit, Timed}

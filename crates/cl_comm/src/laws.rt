@@ -1,5 +1,5 @@
 //! When the runnables of jobs read and write, against their windows: in every legal run of every sound system.
-ghost use Rattle.std.specs.Prelude.{ℕ, ◌+◌, ◌<◌, ◌≤◌, ◌≢◌, length};
+ghost use Rattle.std.specs.Prelude.{ℕ, ◌+◌, ◌<◌, ◌≤◌, ◌≡◌, ◌≢◌, length};
 ghost use Rattle.cl_model.specs.declared.task.AccessKind.{AccessKind};
 ghost use Rattle.cl_model.specs.declared.task.AccessKind.TheVariants.{Timed};
 ghost use Rattle.cl_runs.specs.TaskTiming.{System, timing_at, IsSound};
@@ -54,6 +54,16 @@ pub fn windows_end_by_the_deadline()
     ensures { (access : AccessKind) (spot : Spot) (response : ℕ)
         → spot.before + spot.own + spot.after ≤ response → response ≤ spot.deadline
         → (window_of access spot response).whi ≤ spot.deadline }
+{}
+
+/// Only the end of a window depends on the response, and never falls as that grows.
+pub fn windows_grow_with_responses()
+    ensures reads { (access : AccessKind) (spot : Spot) (response other : ℕ)
+        → (window_of access spot response).rlo ≡ (window_of access spot other).rlo }
+    ensures writes { (access : AccessKind) (spot : Spot) (response other : ℕ)
+        → (window_of access spot response).wlo ≡ (window_of access spot other).wlo }
+    ensures ends { (access : AccessKind) (spot : Spot) (less more : ℕ) → less ≤ more
+        → (window_of access spot less).whi ≤ (window_of access spot more).whi }
 {}
 
 /// A response within which some job finishes holds the least times of its runnables.

@@ -39,9 +39,7 @@ fn runnables_of(model: &ValidModel, task: u32) -> &[RunnableDef]
     ensures runnables { result.now ≡ (task_at model.now task).runnables }
     ensures fits { sum_by (λ (runnable : RunnableDef). runnable.least) result.now < 2 ^ 64 }
 {
-    model.plain().tasks.as_slice()[task as usize]
-        .runnables
-        .as_slice()
+    model.task(task).runnables.as_slice()
 }
 
 /// The sum of the least times of runnables.

@@ -28,7 +28,7 @@ use Rattle.cl_analyse.specs.declared.findings.ChainAnswer.{ChainAnswer}
 use Rattle.cl_analyse.specs.declared.findings.ChainAnswer.TheVariants.{Bounds, Late}
 use Rattle.cl_analyse.specs.ChainAnswers.{chain_answer, chain_answer_of, chain_answers_of, chain_answer_at}
 use Rattle.cl_analyse.proofs.FirstLate.{settled_groups}
-use Rattle.cl_analyse.proofs.SafeFindings.{answer_of_chain, chain_settled}
+use Rattle.cl_analyse.proofs.SafeFindings.{answer_of_chain, chain_settled, late_where}
 use Rattle.cl_cut.specs.Values.{part, IsValue}
 use Rattle.cl_cut.specs.Cuts.{IsBestCut}
 use Rattle.cl_cut.specs.CutAnswers.{late_task_of, IsSafeReaction, IsNoWorse}
@@ -67,10 +67,6 @@ module _ (system : System) (sound : IsSound system) where
       omega (arith, attained.length, (settled_safe system sound groups settled run legal).reaction (chain_of exact.reaction) attained.is_chain)
 
 -- ---- the best cut of a chain of a model
-
-late_where : (first : Option ℕ) (own : Lengths) (task : ℕ) → chain_answer first own ≡ Late task → first ≡ Some task
-late_where None own task is = absurd cc
-late_where (Some other) own task is = cc
 
 none_where : (first : Option ℕ) (own bounds : Lengths) → chain_answer first own ≡ Bounds bounds → first ≡ None
 none_where None own bounds is = refl

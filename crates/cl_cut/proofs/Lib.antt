@@ -1,5 +1,4 @@
 pub mod Parts
-pub mod SplitChains
 pub mod SafeCuts
 pub mod Dictionary
 pub mod CutCosts

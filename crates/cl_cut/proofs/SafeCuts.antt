@@ -1,5 +1,5 @@
--- The cost of each cut of a settled chain is safe. A complete forward chain is split into a front and a rear part: the job
--- before the first of the rear part has read before the last of the front part has written.
+-- The cost of each cut of a settled chain is safe. A complete forward chain is split into a front and a rear part: the
+-- job before the first of the rear part has read before the last of the front part has written.
 use Rattle.std.proofs.Common.{◌≡◌, ℕ, suc, ◌+◌, ◌-◌, ◌<◌, ◌≤◌, true, false, inl, inr, List, [], ◌∷◌, length, take, drop, refl, sym, ap, ◌∙◌, subst, sum, arith}
 use Rattle.std.specs.Prelude.{All, slice_index}
 use Rattle.std.proofs.lemmas.Bool.{cases_lt}
@@ -13,6 +13,7 @@ use Rattle.cl_runs.specs.Legal.{IsLegal}
 use Rattle.cl_runs.specs.Chains.{JobChain, chain_length, last_group, IsForwardChain}
 use Rattle.cl_runs.specs.MomentOrder.{HaveReadBeforeWriting}
 use Rattle.cl_runs.specs.RunChains.{run_moments}
+use Rattle.cl_runs.proofs.ChainParts.{part_complete}
 use Rattle.cl_runs.proofs.ChainsOrdered.{forward_ordered}
 use Rattle.cl_runs.proofs.MomentFacts.{has_read, earlier_read}
 use Rattle.cl_runs.proofs.OrderedMoments.{run_in_order}
@@ -27,7 +28,6 @@ use Rattle.cl_cut.specs.Values.{part, IsValue}
 use Rattle.cl_cut.specs.Cuts.{piece_groups, IsCutFrom, IsCut, IsCost}
 use Rattle.cl_cut.specs.CutAnswers.{IsSafeReaction}
 use Rattle.cl_cut.proofs.Parts.{All-part, part_rest}
-use Rattle.cl_cut.proofs.SplitChains.{part_complete}
 
 -- ---- settled chains
 
@@ -179,7 +179,8 @@ module _ (system : System) (sound : IsSound system) where
           (subst (λ (own : List Group). IsForwardChain (run_moments system run) own chain)
           (ap (λ n. drop n groups) (sym same) ∙ sym (part_rest groups f)) complete)
 
-      -- the length of a chain of a rear part is at most the sum of the values of its pieces, less one tick for each further one
+      -- the length of a chain of a rear part is at most the sum of the values of its pieces, less one tick for each
+      -- further one
       pub within_sum : (pieces values : List ℕ) (first : ℕ) → IsCutFrom groups first pieces → length values ≡ length pieces
           → ((k : ℕ) → k < length pieces → IsValue system (piece_groups groups pieces k) (slice_index values k))
           → (chain : JobChain) → IsForwardChain (run_moments system run) (drop first groups) chain

@@ -35,7 +35,8 @@ abbrev pub IsSafeReaction : System → List Group → (most : ℕ) → Type 0
 IsSafeReaction system groups most = (run : Run) → IsLegal system run
     → (chain : JobChain) → IsForwardChain (run_moments system run) groups chain → chain_length chain ≤ most
 
--- at most the bound on the reaction of the uncut chain, and at most its exact reaction where it has one within the limit
+-- at most the bound on the reaction of the uncut chain, and at most its exact reaction where it has one within the
+-- limit
 pub record IsNoWorse (system : System) (groups : List Group) (cost : ℕ) : Type 0 where
   pub bound : cost ≤ (bounds_of system groups).reaction
   pub exact : (exact : Witnesses) → are_timed_periodic system groups ≡ true → IsWithinLimit system groups

@@ -1,5 +1,5 @@
--- Cuts of a chain into consecutive pieces, and the best of them. A cut is given by the number of the first group of each
--- piece. Times are in ticks. Source: this project's profile.
+-- Cuts of a chain into consecutive pieces, and the best of them. A cut is given by the number of the first group of
+-- each piece. Times are in ticks.
 use Rattle.std.specs.Prelude.{◌≡◌, ℕ, suc, ◌+◌, ◌-◌, ◌<◌, ◌≤◌, List, length, slice_index, slice_index_or, sum}
 use Rattle.std.specs.Ordering.{nat_cmp}
 use Rattle.std.specs.Cmp.Lexicographic.{slice_cmp}
@@ -16,7 +16,8 @@ end_of_piece groups pieces k = slice_index_or pieces (suc k) (length groups)
 abbrev pub piece_groups : List Group → (pieces : List ℕ) → (k : ℕ) → List Group
 piece_groups groups pieces k = part groups (slice_index pieces k) (end_of_piece groups pieces k)
 
--- one or more consecutive pieces, none of them empty, of which the first begins with a group and the last ends with the last
+-- one or more consecutive pieces, none of them empty, of which the first begins with a group and the last ends with the
+-- last
 pub record IsCutFrom (groups : List Group) (first : ℕ) (pieces : List ℕ) : Type 0 where
   pub some : 0 < length pieces
   pub begins : slice_index pieces 0 ≡ first
@@ -37,7 +38,8 @@ pub record IsCost (system : System) (groups : List Group) (pieces : List ℕ) (c
 abbrev pub IsNotAfter : (pieces others : List ℕ) → Type 0
 IsNotAfter pieces others = slice_cmp nat_cmp pieces others ≡ Greater → ⊥
 
--- a cut of the groups from one on of the least cost and, among those, the least list of first groups in dictionary order
+-- a cut of the groups from one on of the least cost and, among those, the least list of first groups in dictionary
+-- order
 pub record IsBestCutFrom (system : System) (groups : List Group) (first : ℕ) (pieces : List ℕ) (cost : ℕ) : Type 0 where
   pub is_cut : IsCutFrom groups first pieces
   pub costs : IsCost system groups pieces cost

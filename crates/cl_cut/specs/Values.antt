@@ -1,5 +1,5 @@
--- What a part of a chain is worth: its exact reaction where it has one, else the bound on its reaction. Times are in ticks.
--- Source: this project's profile.
+-- What a part of a chain is worth: its exact reaction where it has one, else the bound on its reaction. Times are in
+-- ticks.
 use Rattle.std.specs.Prelude.{◌≡◌, ◌⊎◌, ℕ, ◌-◌, true, List, take, drop}
 use Rattle.cl_model.specs.declared.group.Group.{Group}
 use Rattle.cl_runs.specs.TaskTiming.{System}
@@ -8,7 +8,7 @@ use Rattle.cl_exact.specs.TimedPeriodic.{are_timed_periodic}
 use Rattle.cl_exact.specs.Hyperperiod.{IsWithinLimit}
 use Rattle.cl_exact.specs.ExactLengths.{Witnesses, AreExactLengths}
 
--- the items of a list from one number to before another
+-- the items of a list from the one at place `first` to the one before place `next`
 unfoldable pub part : {X : Type 0} → List X → (first next : ℕ) → List X
 part items first next = take (next - first) (drop first items)
 

@@ -1,6 +1,7 @@
 //! The best cuts of chains. Times are in ticks.
 ghost use Rattle.std.specs.Prelude.{◌≡◌, ◌-◌, ◌<◌, ◌≤◌, length, IfOk};
 ghost use Rattle.cl_model.specs.declared.model.SystemModel.{SystemModel};
+ghost use Rattle.cl_model.specs.Validity.{IsValid};
 ghost use Rattle.cl_runs.specs.SystemOf.{system_of};
 ghost use Rattle.cl_bound.specs.Answers.{answers_of};
 ghost use Rattle.cl_analyse.specs.ChainAnswers.{chain_answers_of};
@@ -39,6 +40,7 @@ fn rear_from<L: Ledger>(
     settled: &List<TaskAnswer>,
     steps: &mut Steps<L>,
 ) -> Result<Rear, NoMemory>
+    requires valid { IsValid model.now }
     requires groups { AreSettledGroups model.now groups.now }
     requires fewer { length rears.now < length groups.now }
     requires costs { CostSome rears.now }
@@ -48,8 +50,6 @@ fn rear_from<L: Ledger>(
     ensures best { IfOk result (λ rear.
         IsBestCutFrom (system_of model.now) groups.now (length groups.now - 1 - length rears.now) rear.pieces rear.cost) }
 {
-    // read for what it says: the model is valid
-    let _plain = model.plain();
     let first = groups.len() - 1 - rears.len();
     let values = values_from(alloc, model, groups, first, settled, steps)?;
     best_from(alloc, first as u32, values.as_slice(), rears)
@@ -63,6 +63,7 @@ fn best_of<L: Ledger>(
     settled: &List<TaskAnswer>,
     steps: &mut Steps<L>,
 ) -> Result<Rear, NoMemory>
+    requires valid { IsValid model.now }
     requires some { 0 < length groups.now }
     requires groups { AreSettledGroups model.now groups.now }
     requires answers { settled.now ≡ answers_of (system_of model.now) }
@@ -79,17 +80,17 @@ fn best_of<L: Ledger>(
     Ok(best)
 }
 
-/// The best cut of a chain of a valid model, from what is found of the model: of all cuts into consecutive pieces the one of
-/// the least cost and, among equals, the one whose list of first groups is the least. A cut costs the sum of the values of
-/// its pieces less one tick for each piece after the first; a piece is worth its exact reaction where its tasks are all
-/// timed and periodic and its hyperperiod is within its own limit, else the bound on its reaction.
+/// The best cut of a chain of a valid model, from what is found of the model: of all cuts into consecutive pieces the
+/// one of the least cost and, among equals, the one whose list of first groups is the least. A cut costs the sum of the
+/// values of its pieces less one tick for each piece after the first; a piece is worth its exact reaction where its
+/// tasks are all timed and periodic and its hyperperiod is within its own limit, else the bound on its reaction.
 ///
 /// The cost is at least the reaction of each complete forward chain in each legal run, of any length. It is at most the
 /// bound on the reaction of the chain, and at most its exact reaction where it has one.
 ///
-/// `Late` comes exactly where a task of the chain is late, and names the first such task along its steps. `NoMemory` comes
-/// where there is no memory for the values of the pieces or for the answer; it leaves nothing. It looks at each pair of a
-/// first and a last group once, and copies nothing of the model.
+/// `Late` comes exactly where a task of the chain is late, and names the first such task along its steps. `NoMemory`
+/// comes where there is no memory for the values of the pieces or for the answer; it leaves nothing. It looks at each
+/// pair of a first and a last group once, and copies nothing of the model.
 pub fn best_cut<L: Ledger>(
     alloc: Global,
     model: &ValidModel,
@@ -103,8 +104,8 @@ pub fn best_cut<L: Ledger>(
     ensures safe { IfOk result (IsSafeAnswer model.now chain) }
     ensures no_worse { IfOk result (IsNoWorseAnswer model.now chain) }
 {
-    // read for what it says: the model is valid
-    let _plain = model.plain();
+    let chains = model.chains();
+    prove!(chain < chains);
     match late_task(findings.chains.as_slice(), chain) {
         Some(task) => Ok(CutAnswer::Late { task }),
         None => {
@@ -118,10 +119,11 @@ pub fn best_cut<L: Ledger>(
     }
 }
 
-/// The best cuts of all chains of a valid model, in file order, from what is found of the model: each is what `best_cut`
-/// answers for that chain, with all that it promises.
+/// The best cuts of all chains of a valid model, in file order, from what is found of the model: each is what
+/// `best_cut` answers for that chain, with all that it promises.
 ///
-/// `NoMemory` comes where there is no memory for the values of the pieces of a chain or for the answers; it leaves nothing.
+/// `NoMemory` comes where there is no memory for the values of the pieces of a chain or for the answers; it leaves
+/// nothing.
 pub fn best_cuts<L: Ledger>(
     alloc: Global,
     model: &ValidModel,
@@ -133,8 +135,6 @@ pub fn best_cuts<L: Ledger>(
     ensures safe { IfOk result (AreSafeAnswers model.now) }
     ensures no_worse { IfOk result (AreNoWorseAnswers model.now) }
 {
-    // read for what it says: the model is valid
-    let _plain = model.plain();
     let mut answers = List::new(alloc);
     for chain in 0..model.chains() {
         answers.push(best_cut(alloc, model, findings, chain, steps)?)?;

@@ -9,11 +9,11 @@ ghost use Rattle.cl_runs.specs.TaskTiming.{System, IsSound};
 ghost use Rattle.cl_bound.specs.SettledChains.{IsSettledChain};
 ghost use Rattle.cl_cut.specs.Cuts.{IsCut, IsCost, IsBestCut, HasBestCut};
 ghost use Rattle.cl_cut.specs.declared.answer.CutAnswer.{CutAnswer};
-ghost use Rattle.cl_cut.specs.CutAnswers.{late_task_of, IsSafeReaction, AreCutAnswers};
+ghost use Rattle.cl_cut.specs.CutAnswers.{late_task_of, IsSafeReaction, AreCutAnswers, AreSafeAnswers, AreNoWorseAnswers};
 
-/// The cost of each cut of a settled chain is at least the reaction of each of its complete forward chains in each legal
-/// run, of any length: where a chain is split into a front and a rear part, the job before the first of the rear has read
-/// before the last of the front has written.
+/// The cost of each cut of a settled chain is at least the reaction of each of its complete forward chains in each
+/// legal run, of any length: where a chain is split into a front and a rear part, the job before the first of the rear
+/// has read before the last of the front has written.
 pub fn cuts_are_safe()
     ensures { (system : System) → IsSound system → (groups : List Group) → IsSettledChain system groups
         → (pieces : List ℕ) (cost : ℕ) → IsCut groups pieces → IsCost system groups pieces cost
@@ -39,4 +39,14 @@ pub fn cut_answers_are_unique()
     ensures some { (model : SystemModel) → IsValid model → (answers : List CutAnswer) × AreCutAnswers model answers }
     ensures one { (model : SystemModel) (one other : List CutAnswer) → AreCutAnswers model one
         → AreCutAnswers model other → one ≡ other }
+{}
+
+/// Whatever has the answers for the cuts of a valid model has safe ones: each cost is at least the reaction of each
+/// complete forward chain of each legal run, of any length. It is at most the bound on the reaction of the uncut chain,
+/// and at most its exact reaction where it has one within the limit.
+pub fn cut_answers_are_safe()
+    ensures safe { (model : SystemModel) → IsValid model → (answers : List CutAnswer) → AreCutAnswers model answers
+        → AreSafeAnswers model answers }
+    ensures no_worse { (model : SystemModel) → IsValid model → (answers : List CutAnswer) → AreCutAnswers model answers
+        → AreNoWorseAnswers model answers }
 {}

@@ -23,8 +23,9 @@ struct Front {
     cost: u64,
 }
 
-/// The first piece of a best cut, from the values of the pieces that begin where it does and the best cuts of the rear parts
-/// behind them. Of equals it is the one with no piece behind it, or else the shortest: its list of first groups is the least.
+/// The first piece of a best cut, from the values of the pieces that begin where it does and the best cuts of the rear
+/// parts behind them. Of equals it is the one with no piece behind it, or else the shortest: its list of first groups
+/// is the least.
 fn best_front(values: &[u64], rears: &[Rear]) -> Front
     requires as_many { length values.now ≡ length rears.now + 1 }
     requires values { AreSome values.now }

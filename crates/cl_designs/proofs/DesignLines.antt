@@ -1,7 +1,6 @@
--- The lines of a text: one more of them, and what each prints.
-use Rattle.std.proofs.Common.{◌≡◌, ℕ, zero, suc, ◌+◌, ◌<◌, Option, List, [], ◌∷◌, ◌++◌, length, get_or, sym, ap, ◌∙◌, subst, arith}
-use Rattle.std.specs.List.{flat_map, range_with_len}
-use Rattle.std.proofs.lemmas.List.{flat_map_more, get_or_default}
+-- What the lines of a text print.
+use Rattle.std.proofs.Common.{◌≡◌, ℕ, ◌<◌, Option, List, length, get_or, ap, ◌∙◌, subst}
+use Rattle.std.proofs.lemmas.List.{get_or_default}
 use Rattle.cl_model.specs.declared.model.SystemModel.{SystemModel}
 use Rattle.cl_model.specs.ByNumber.{chain_at}
 use Rattle.cl_model.specs.Groups.{groups_of}
@@ -13,24 +12,6 @@ use Rattle.cl_analyse.proofs.SafeFindings.{answer_of_chain, named_task_within}
 use Rattle.cl_cut.specs.declared.answer.CutAnswer.{CutAnswer}
 use Rattle.cl_cut.specs.declared.answer.CutAnswer.TheVariants.{Late}
 use Rattle.cl_cut.specs.CutAnswers.{cut_answer_at, IsCutAnswer, AreCutAnswers}
-
--- one more number
-range_more : (a n : ℕ) → range_with_len a (suc n) ≡ range_with_len a n ++ (a + n) ∷ []
-range_more a zero = ap (λ m. m ∷ []) (omega arith)
-range_more a (suc n) =
-    let next : a + 1 + n ≡ a + suc n = omega arith in
-    ap (λ ms. a ∷ ms) (range_more (a + 1) n ∙ ap (λ m. range_with_len (a + 1) n ++ m ∷ []) next)
-
--- the line of one more number stands behind those before it
-pub line_more : (line : ℕ → List ℕ) (text before after : List ℕ) (n : ℕ) → before ≡ text ++ flat_map line (range_with_len 0 n) → after ≡ before ++ line n
-    → after ≡ text ++ flat_map line (range_with_len 0 (n + 1))
-line_more line text before after n was is =
-    let last : n ≡ 0 + n = omega arith in
-    let next : suc n ≡ n + 1 = omega arith in
-    is ∙ ap (λ t. t ++ line n) was ∙ flat_map_more line text (range_with_len 0 n) n
-    ∙ ap (λ m. text ++ flat_map line (range_with_len 0 n ++ m ∷ [])) last
-    ∙ ap (λ ms. text ++ flat_map line ms) (sym (range_more 0 n))
-    ∙ ap (λ m. text ++ flat_map line (range_with_len 0 m)) next
 
 -- ---- cuts
 

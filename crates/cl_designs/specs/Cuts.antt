@@ -1,5 +1,4 @@
--- The text of the best cuts of a model: a title, and a line for each chain. Times are in ticks. Source: this project's
--- profile.
+-- The text of the best cuts of a model: a title, and a line for each chain. Times are in ticks.
 use Rattle.std.specs.Prelude.{◌≡◌, ℕ, List, ◌++◌, length, codes, decimal}
 use Rattle.std.specs.List.{flat_map, range_with_len}
 use Rattle.cl_text.specs.Line.{line}

@@ -1,4 +1,4 @@
--- The text of the headroom of a model: a title, and the percentage where there is one. Source: this project's profile.
+-- The text of the headroom of a model: a title, and the percentage where there is one.
 use Rattle.std.specs.Prelude.{◌≡◌, ℕ, List, ◌++◌, codes, decimal, Option, Some, None}
 use Rattle.cl_text.specs.Line.{line}
 use Rattle.cl_model.specs.declared.model.SystemModel.{SystemModel}

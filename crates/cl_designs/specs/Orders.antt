@@ -1,5 +1,4 @@
--- The text of the best orders of a model: a title, and a line for each task, or one for a core that has none. Source: this
--- project's profile.
+-- The text of the best orders of a model: a title, and a line for each task, or one for a core that has none.
 use Rattle.std.specs.Prelude.{◌≡◌, ℕ, List, [], ◌++◌, length, slice_index, slice_index_or, codes, decimal}
 use Rattle.std.specs.List.{flat_map, range_with_len}
 use Rattle.cl_text.specs.Line.{line}

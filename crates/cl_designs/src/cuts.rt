@@ -8,18 +8,18 @@ ghost use Rattle.cl_designs.specs.Cuts.{piece_words, pieces_words, bound_words, 
 use cl_analyse::analyse;
 use cl_cut::{CutAnswer, best_cuts};
 use cl_model::ValidModel;
-use cl_report::{put_chain_name, put_task_name};
+use cl_report::{put_name, put_task_name};
 use cl_text::Text;
 use cl_time::{NoMemory, Steps};
 use std::alloc::Global;
 use std::sync::ledger::Ledger;
 
-/// The best cut of each chain, as text: a title, and a line for each chain in file order. The line has the cost of the cut
-/// in ticks, which bounds the reaction of the chain, and the number of the first group of each piece, counted from 0; or
-/// the name of the first late task along the steps of the chain.
+/// The best cut of each chain, as text: a title, and a line for each chain in file order. The line has the cost of the
+/// cut in ticks, which bounds the reaction of the chain, and the number of the first group of each piece, counted from
+/// 0; or the name of the first late task along the steps of the chain.
 ///
-/// It analyses the model first, and counts the steps of that and of each cut. `NoMemory` comes where there is no memory
-/// for what is found, for the cuts or for the text; it leaves nothing.
+/// It analyses the model first. `NoMemory` comes where there is no memory for what is found, for the cuts or for the
+/// text; it leaves nothing.
 pub fn cut_text<L: Ledger>(
     alloc: Global,
     model: &ValidModel,
@@ -66,10 +66,8 @@ fn put_chain(
     requires within { chain < length model.now.chains }
     ensures { OnOk result (text.new ≡ text.old ++ cut_line model.now answers.now chain) }
 {
-    // read for what it says: the model is valid
-    let _plain = model.plain();
     text.put(b"cut ")?;
-    put_chain_name(text, model, chain)?;
+    put_name(text, &model.chain(chain).name)?;
     put_cut(text, model, &answers[chain as usize])?;
     text.put(b"\n")
 }

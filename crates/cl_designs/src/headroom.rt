@@ -10,11 +10,11 @@ use std::alloc::Global;
 use std::sync::ledger::Ledger;
 
 /// How far the greatest execution times may grow, as text: a title, and a line with the greatest percentage, from 1 to
-/// 1,000, by which they may be scaled so that the model stays in range, no task is late and each requirement is met. The
-/// line is `none` where 1 percent doesn't keep that.
+/// 1,000, by which they may be scaled so that the model stays in range, no task is late and each requirement is met.
+/// The line is `none` where 1 percent doesn't keep that.
 ///
-/// It analyses ten copies of the model or so, and counts their steps. `NoMemory` comes where there is no memory for a copy,
-/// for what is found of it or for the text; it leaves nothing.
+/// It analyses ten copies of the model or so. `NoMemory` comes where there is no memory for a copy, for what is found
+/// of it or for the text; it leaves nothing.
 pub fn headroom_text<L: Ledger>(
     alloc: Global,
     model: &ValidModel,

@@ -1,5 +1,5 @@
-//! What is found of better designs, as text: the best cuts of the chains, the best orders of the priorities, and how far
-//! execution times may grow.
+//! What is found of better designs, as text: the best cuts of the chains, the best orders of the priorities, and how
+//! far execution times may grow.
 #![tactic(auto)]
 
 mod cuts;

@@ -13,11 +13,10 @@ use std::alloc::Global;
 use std::sync::ledger::Ledger;
 
 /// The best order of the priorities on every core, as text: a title, and a line with the priority of each task in file
-/// order, where priorities count from 1 upward on each core and a greater number is a higher priority. Where no order of
-/// some core passes there is one line in place of these, with the name of the first such core in file order.
+/// order, where priorities count from 1 upward on each core and a greater number is a higher priority. Where no order
+/// of some core passes there is one line in place of these, with the name of the first such core in file order.
 ///
-/// It counts a step for each task that is tried at a place. `NoMemory` comes where there is no memory for the orders or
-/// for the text; it leaves nothing.
+/// `NoMemory` comes where there is no memory for the orders or for the text; it leaves nothing.
 pub fn order_text<L: Ledger>(
     alloc: Global,
     model: &ValidModel,
@@ -85,7 +84,7 @@ fn put_core_name(text: &mut Text, model: &ValidModel, core: u32) -> Result<(), N
     requires { core < length model.now.cores }
     ensures { OnOk result (text.new ≡ text.old ++ core_name model.now core) }
 {
-    put_name(text, &model.plain().cores.as_slice()[core as usize].name)
+    put_name(text, &model.core(core).name)
 }
 
 /// Puts the line of a core that no order passes on.

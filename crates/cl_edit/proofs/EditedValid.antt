@@ -6,6 +6,7 @@ use Rattle.cl_model.specs.declared.refusal.Refusal.{Refusal}
 use Rattle.cl_model.specs.Refusals.{answer}
 use Rattle.cl_model.specs.Validity.{refusals_of, IsValid}
 use Rattle.cl_edit.specs.declared.edit.Edit.{Edit}
+use Rattle.cl_edit.specs.declared.edit.Edit.TheVariants.{Report}
 use Rattle.cl_edit.specs.Edited.{edit_checks, with_edit, edited}
 use Rattle.cl_edit.specs.Ranges.{IsEditInRange}
 use Rattle.cl_edit.proofs.RangeFacts.{edits_keep_range}
@@ -30,3 +31,8 @@ edited_valid model edit changed valid in_range is =
     let answered = none_of_answer (with_edit model edit) changed (edit_checks model edit ++ refusals_of (with_edit model edit)) is in
     let none = first_none (edit_checks model edit) (refusals_of (with_edit model edit)) answered.0 in
     subst IsValid answered.1 (record { in_range = edits_keep_range model edit valid.in_range in_range none.0; accepted = none.1 })
+
+-- a report keeps a valid model
+pub report_keeps : (model : SystemModel) → IsValid model → edited model Report ≡ Ok model
+unfolding edited edit_checks with_edit
+report_keeps model valid = ap (λ refusals. answer refusals model) valid.accepted

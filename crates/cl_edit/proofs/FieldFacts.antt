@@ -1,5 +1,5 @@
 -- What a single word is read as, and which words say a value.
-use Rattle.std.proofs.Common.{◌≡◌, ◌≢◌, ℕ, ◌^◌, ◌<◌, ◌≤◌, Bool, true, false, Option, Some, None, List, [], ◌∷◌, ◌++◌, length, length-append, refl, ap, ◌∙◌, subst, get_or, arith}
+use Rattle.std.proofs.Common.{◌≡◌, ◌≢◌, ℕ, ◌^◌, ◌<◌, ◌≤◌, Bool, true, false, Option, Some, None, List, [], ◌∷◌, ◌++◌, length, length-append, refl, sym, ap, ◌∙◌, subst, get_or, arith}
 use Rattle.std.specs.Prelude.{decimal, codes, nat_le, ◌&&◌, cond, if◌then◌else◌, IfSome}
 use Rattle.std.specs.Str.{bytes_eq}
 use Rattle.std.specs.Str.Parse.{digits_value}
@@ -20,7 +20,10 @@ use Rattle.cl_model.specs.declared.task.AccessKind.{AccessKind}
 use Rattle.cl_model.specs.declared.task.AccessKind.TheVariants.{Explicit, Implicit, Timed}
 use Rattle.cl_model.specs.Ranges.{IsTime, IsBurstCount}
 use Rattle.cl_model.specs.Name.{is_name_byte, is_name, IsName}
-use Rattle.cl_edit.specs.Lines.{flag_word, access_word, deadline_word}
+use Rattle.cl_model.specs.Kinds.{access_word}
+use Rattle.cl_model.specs.Reading.Checks.{meaning_of}
+use Rattle.cl_model.proofs.ListFacts.{both_pass}
+use Rattle.cl_edit.specs.Lines.{flag_word, deadline_word}
 use Rattle.cl_edit.specs.Inner.Parts.{parts}
 use Rattle.cl_edit.specs.Inner.Fields.{name_in, number_in, time_in, flag_in, access_in, deadline_in, names_in}
 
@@ -42,11 +45,6 @@ some_same x y is = cc
 
 pub of_word : (word other : List ℕ) → bytes_eq word other ≡ true → word ≡ other
 of_word word other same = (bytes_eq-Decides word other).0 same
-
-pub both : (a b : Bool) → (a && b) ≡ true → (a ≡ true) × (b ≡ true)
-both true true is = (refl, refl)
-both true false is = absurd (cc)
-both false b is = absurd (cc)
 
 -- three tests that all pass
 all_three : (a b c : Bool) → (a && b && c) ≡ true → (a ≡ true) × (b ≡ true) × (c ≡ true)
@@ -138,7 +136,7 @@ graphic_byte byte is = grind (arith, nat_tests)
 
 graphic_bytes : (name : List ℕ) → list_all is_name_byte name ≡ true → list_all is_graphic name ≡ true
 graphic_bytes [] is = refl
-graphic_bytes (byte ∷ name) is = rw (graphic_byte byte (both (is_name_byte byte) (list_all is_name_byte name) is).0, graphic_bytes name (both (is_name_byte byte) (list_all is_name_byte name) is).1) refl
+graphic_bytes (byte ∷ name) is = rw (graphic_byte byte (both_pass (is_name_byte byte) (list_all is_name_byte name) is).0, graphic_bytes name (both_pass (is_name_byte byte) (list_all is_name_byte name) is).1) refl
 
 pub name_field : IsField name_in (λ name. name) IsName
 name_field = record {
@@ -187,12 +185,14 @@ flag_field = record { said = flag_said; back = flag_back; graphic = flag_graphic
 
 access_said : (word : List ℕ) (access : AccessKind) → access_in word ≡ Some access → (word ≡ access_word access) × Unit {0}
 access_said word access is =
-    choose (bytes_eq word (codes "explicit")) (Some Explicit) (if bytes_eq word (codes "implicit") then Some Implicit else if bytes_eq word (codes "timed") then Some Timed else None)
+    choose (bytes_eq (codes "explicit") word) (Some Explicit) (meaning_of ((codes "implicit", Implicit) ∷ (codes "timed", Timed) ∷ []) word)
     (Some access) ((word ≡ access_word access) × Unit {0}) is
-    (λ here yes. (of_word word (codes "explicit") here ∙ ap access_word (some_same Explicit access yes), tt))
-    (λ other. choose (bytes_eq word (codes "implicit")) (Some Implicit) (if bytes_eq word (codes "timed") then Some Timed else None) (Some access) ((word ≡ access_word access) × Unit {0}) other
-    (λ here yes. (of_word word (codes "implicit") here ∙ ap access_word (some_same Implicit access yes), tt))
-    (λ last. let said = chosen (bytes_eq word (codes "timed")) Timed access last in (of_word word (codes "timed") said.0 ∙ ap access_word said.1, tt)))
+    (λ here yes. (sym (of_word (codes "explicit") word here) ∙ ap access_word (some_same Explicit access yes), tt))
+    (λ other. choose (bytes_eq (codes "implicit") word) (Some Implicit) (meaning_of ((codes "timed", Timed) ∷ []) word)
+    (Some access) ((word ≡ access_word access) × Unit {0}) other
+    (λ here yes. (sym (of_word (codes "implicit") word here) ∙ ap access_word (some_same Implicit access yes), tt))
+    (λ last. let said = chosen (bytes_eq (codes "timed") word) Timed access last in
+    (sym (of_word (codes "timed") word said.0) ∙ ap access_word said.1, tt)))
 
 access_back : (access : AccessKind) → Unit {0} → access_in (access_word access) ≡ Some access
 access_back Explicit _ = refl

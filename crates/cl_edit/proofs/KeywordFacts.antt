@@ -1,16 +1,12 @@
 -- Keywords of lines, and what the words of a line are read as.
-use Rattle.std.proofs.Common.{◌≡◌, ◌≢◌, ℕ, true, false, Some, None, List, [], ◌∷◌, refl, ap, ◌∙◌}
+use Rattle.std.proofs.Common.{◌≡◌, ◌≢◌, ℕ, false, Some, None, List, [], ◌∷◌, refl, ap, ◌∙◌}
 use Rattle.std.specs.Prelude.{Err, codes}
 use Rattle.std.specs.Str.{bytes_eq}
-use Rattle.std.proofs.lemmas.Slice.Eq.{bytes_eq-Decides}
 use Rattle.cl_edit.specs.declared.edit.Edit.{Edit}
 use Rattle.cl_edit.specs.declared.fault.Unread.{Unread}
 use Rattle.cl_edit.specs.declared.fault.Unread.TheVariants.{Bad, NoMemory}
-use Rattle.cl_edit.specs.Inner.Parts.{parts, then_read, if_done, Reads, ReadsUpTo}
+use Rattle.cl_edit.specs.Inner.Parts.{parts, then_read, if_done, ReadsPart, ReadsUpTo}
 use Rattle.cl_edit.specs.Inner.LineReads.{fields_in, words_in, edit_in}
-
-pub of_keyword : (word keyword : List ℕ) → bytes_eq word keyword ≡ true → word ≡ keyword
-of_keyword word keyword same = (bytes_eq-Decides word keyword).0 same
 
 -- a word that is no keyword
 pub other_keyword : (word : List ℕ) (words : List (List ℕ))
@@ -56,6 +52,6 @@ pub no_word_left : (line keyword : List ℕ) (words left : List (List ℕ)) (edi
 no_word_left line keyword words left edit are read none = line_read line keyword words are ∙ ap (λ o. then_read o if_done) read ∙ ap (if_done edit) none
 
 pub unread_line : (line keyword : List ℕ) (words left : List (List ℕ)) (fault : Unread) → parts 0x20 line ≡ keyword ∷ words
-    → ReadsUpTo {X = Edit} (Err fault) left (fields_in keyword words) → Reads {X = Edit} (Err fault) (edit_in line)
+    → ReadsUpTo {X = Edit} (Err fault) left (fields_in keyword words) → ReadsPart {X = Edit} (Err fault) (edit_in line)
 unread_line line keyword words left Bad are bad = line_read line keyword words are ∙ ap (λ o. then_read o if_done) bad
 unread_line line keyword words left NoMemory are bad = tt

@@ -13,6 +13,8 @@ pub mod TaskLines
 pub mod LineMeanings
 pub mod LineEnds
 pub mod Listings
+pub mod NextEdits
+pub mod BadEdits
 pub mod OneAnswer
 pub mod SomeAnswer
 pub mod EditedValid

@@ -16,7 +16,8 @@ use Rattle.cl_edit.specs.Inner.LineReads.{fields_in, words_in, edit_in}
 use Rattle.cl_edit.proofs.PartFacts.{Lacks, joined_parts, parts_joined}
 use Rattle.cl_edit.proofs.FieldFacts.{name_field, time_field, ticks_field, priority_field, count_field, flag_field, access_field, deadline_field, choose, of_word, some_same}
 use Rattle.cl_edit.proofs.NamesFacts.{names_field, lacks_of}
-use Rattle.cl_edit.proofs.SimpleLines.{Says, so_says, answer_of, range_said, range_back, whole_said, whole_back, period_said, period_back, offset_said, offset_back, jitter_said, jitter_back, distances_said, distances_back, burst_said, burst_back, deadline_said, deadline_back, swap_said, swap_back, move_said, move_back, access_said, access_back, drop_task_said, drop_task_back, drop_chain_said, drop_chain_back, chain_said, chain_back}
+use Rattle.cl_edit.proofs.SimpleLines.{Says, so_says, answer_of, range_said, whole_said, period_said, offset_said, jitter_said, distances_said, burst_said, deadline_said, swap_said, move_said, access_said, drop_task_said, drop_chain_said, chain_said}
+use Rattle.cl_edit.proofs.SimpleLines.{range_back, whole_back, period_back, offset_back, jitter_back, distances_back, burst_back, deadline_back, swap_back, move_back, access_back, drop_task_back, drop_chain_back, chain_back}
 use Rattle.cl_edit.proofs.TaskLines.{then_some, are_new, runnables_graphic, task_said, task_back}
 
 -- ---- the words of an edit are read as that edit
@@ -53,7 +54,17 @@ edit_graphic (Deadline task deadline) good = rw (name_field.graphic task good.na
 edit_graphic (Swap one other) good = rw (name_field.graphic one good.named.0, name_field.graphic other good.named.1) refl
 edit_graphic (Move task core priority) good = rw (name_field.graphic task good.named.0, name_field.graphic core good.named.1, priority_field.graphic priority (omega arith, good.in_range)) refl
 edit_graphic (Kind task access) good = rw (name_field.graphic task good.named, access_field.graphic access tt) refl
-edit_graphic (AddTask task) good = rw (name_field.graphic task.name good.named.name, name_field.graphic task.core good.named.core, name_field.graphic task.stimulus good.named.stimulus, priority_field.graphic task.priority (omega arith, good.in_range.priority), access_field.graphic task.access tt, deadline_field.graphic task.deadline good.in_range.deadline, runnables_graphic task.runnables (are_new task good)) refl
+edit_graphic (AddTask task) good =
+    rw (
+      name_field.graphic task.name good.named.name,
+      name_field.graphic task.core good.named.core,
+      name_field.graphic task.stimulus good.named.stimulus,
+      priority_field.graphic task.priority (omega arith, good.in_range.priority),
+      access_field.graphic task.access tt,
+      deadline_field.graphic task.deadline good.in_range.deadline,
+      runnables_graphic task.runnables (are_new task good),
+    )
+    refl
 edit_graphic (DropTask task) good = rw (name_field.graphic task good.named) refl
 edit_graphic (AddChain chain) good = rw (name_field.graphic chain.name good.named.name, (names_field MOST_STEPS).graphic chain.runnables (good.in_range.runnables, good.named.runnables), (names_field MOST_HOPS).graphic chain.labels (good.in_range.labels, good.named.labels)) refl
 edit_graphic (DropChain chain) good = rw (name_field.graphic chain good.named) refl

@@ -1,5 +1,5 @@
 -- Lists of edits that grow by one, and the texts that begin with their lines.
-use Rattle.std.proofs.Common.{◌≡◌, ◌≢◌, ℕ, ◌+◌, ◌<◌, ◌≤◌, Bool, true, false, List, [], ◌∷◌, ◌++◌, length, length-append, append_assoc, inl, inr, refl, sym, ap, ◌∙◌, subst, arith}
+use Rattle.std.proofs.Common.{◌≡◌, ℕ, ◌+◌, ◌<◌, ◌≤◌, Bool, true, false, List, [], ◌∷◌, ◌++◌, length, length-append, append_assoc, refl, sym, ap, ◌∙◌, subst, arith}
 use mir.Val.{bool_byte}
 use Rattle.std.specs.Prelude.{All, cond}
 use Rattle.std.specs.List.{count_by}
@@ -10,8 +10,8 @@ use Rattle.std.proofs.lemmas.List.Sums.{sum_by-append}
 use Rattle.std.proofs.Math.Seq.{get_or-append_seam}
 use Rattle.cl_edit.specs.declared.limits.TheConstants.{MOST_REPORTS}
 use Rattle.cl_edit.specs.declared.edit.Edit.{Edit}
-use Rattle.cl_edit.specs.Lines.{edit_line, title_line, lines_of}
-use Rattle.cl_edit.specs.Reading.{IsLineEdit, is_report, MayBeListed, AreEditsOf, IsBadLine}
+use Rattle.cl_edit.specs.Lines.{edit_line, title_line, edit_lines}
+use Rattle.cl_edit.specs.Reading.{IsLineEdit, is_report, MayBeListed, AreEditsOf}
 use Rattle.cl_edit.specs.Inner.LineReads.{MayFollow}
 use Rattle.cl_edit.proofs.LineEnds.{line_words, line_then}
 
@@ -61,33 +61,18 @@ listed_last edits edit listed = record {
 
 -- ---- texts that begin with lines
 
-pub one_line_more : (text left rest : List ℕ) (edits : List Edit) (edit : Edit) → text ≡ title_line ++ lines_of edits ++ left → left ≡ edit_line edit ++ rest
-    → text ≡ title_line ++ lines_of (edits ++ edit ∷ []) ++ rest
+pub one_line_more : (text left rest : List ℕ) (edits : List Edit) (edit : Edit) → text ≡ title_line ++ edit_lines edits ++ left → left ≡ edit_line edit ++ rest
+    → text ≡ title_line ++ edit_lines (edits ++ edit ∷ []) ++ rest
 one_line_more text left rest edits edit is line =
-    let more : lines_of (edits ++ edit ∷ []) ≡ lines_of edits ++ edit_line edit = flat_map-append edit_line edits (edit ∷ []) ∙ ap (λ l. lines_of edits ++ l) (append-nil (edit_line edit)) in
-    is ∙ ap (λ l. title_line ++ lines_of edits ++ l) line ∙ sym (append_assoc (title_line ++ lines_of edits) (edit_line edit) rest)
-    ∙ ap (λ l. l ++ rest) (append_assoc title_line (lines_of edits) (edit_line edit)) ∙ ap (λ l. title_line ++ l ++ rest) (sym more)
+    let more : edit_lines (edits ++ edit ∷ []) ≡ edit_lines edits ++ edit_line edit = flat_map-append edit_line edits (edit ∷ []) ∙ ap (λ l. edit_lines edits ++ l) (append-nil (edit_line edit)) in
+    is ∙ ap (λ l. title_line ++ edit_lines edits ++ l) line ∙ sym (append_assoc (title_line ++ edit_lines edits) (edit_line edit) rest)
+    ∙ ap (λ l. l ++ rest) (append_assoc title_line (edit_lines edits) (edit_line edit)) ∙ ap (λ l. title_line ++ l ++ rest) (sym more)
 
-pub all_lines : (text left : List ℕ) (edits : List Edit) → MayBeListed edits → text ≡ title_line ++ lines_of edits ++ left → left ≡ [] → AreEditsOf text edits
+pub all_lines : (text left : List ℕ) (edits : List Edit) → MayBeListed edits → text ≡ title_line ++ edit_lines edits ++ left → left ≡ [] → AreEditsOf text edits
 all_lines text left edits listed is none = record {
   listed = listed;
-  written = is ∙ ap (λ l. title_line ++ lines_of edits ++ l) none ∙ append-nil (title_line ++ lines_of edits);
+  written = is ∙ ap (λ l. title_line ++ edit_lines edits ++ l) none ∙ append-nil (title_line ++ edit_lines edits);
 }
-
-pub bad_line : (text left : List ℕ) (edits : List Edit) → MayBeListed edits → text ≡ title_line ++ lines_of edits ++ left → left ≢ []
-    → ((edit : Edit) (rest : List ℕ) → MayFollow (length edits) (reports_in edits) edit → left ≢ edit_line edit ++ rest) → IsBadLine text (length edits + 2)
-bad_line text left edits listed is some none_stands = inr (record {
-  edits = edits;
-  rest = left;
-  listed = listed;
-  parts = is;
-  some_left = some;
-  bad = λ edit after more. none_stands edit after (listed_last edits edit more);
-  counted = refl;
-})
-
-pub no_title : (text : List ℕ) → ((rest : List ℕ) → text ≢ title_line ++ rest) → IsBadLine text 1
-no_title text none = inl (none, refl)
 
 -- a line takes a byte
 pub line_shortens : (left rest : List ℕ) (edit : Edit) → left ≡ edit_line edit ++ rest → length rest < length left

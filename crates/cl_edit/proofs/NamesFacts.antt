@@ -9,11 +9,12 @@ use Rattle.std.proofs.lemmas.List.Folds.{list_all-append}
 use Rattle.std.proofs.lemmas.List.Sums.{AllPass-from_list_all, list_all-from_AllPass}
 use Rattle.cl_text.specs.Line.{is_graphic}
 use Rattle.cl_model.specs.Name.{is_name_byte, is_name, IsName}
+use Rattle.cl_model.proofs.ListFacts.{both_pass}
 use Rattle.cl_edit.specs.Lines.{names_word}
 use Rattle.cl_edit.specs.Inner.Parts.{parts}
 use Rattle.cl_edit.specs.Inner.Fields.{names_in}
 use Rattle.cl_edit.proofs.PartFacts.{Lacks, some_part, joined_parts, parts_joined}
-use Rattle.cl_edit.proofs.FieldFacts.{IsField, name_field, name_bytes, choose, chosen, both, some_same, of_word, le_of, names_read}
+use Rattle.cl_edit.proofs.FieldFacts.{IsField, name_field, name_bytes, choose, chosen, some_same, of_word, le_of, names_read}
 
 -- what passes a test that a byte fails lacks the byte
 pub lacks_of : (c : ℕ) (p : ℕ → Bool) (word : List ℕ) → p c ≡ false → list_all p word ≡ true → Lacks c word
@@ -26,9 +27,9 @@ lacks_of c p word fails passes = λ k d within. false_from_ne_true _ (λ same.
 -- words, joined, are of graphic bytes
 pub graphic_joined : (s : ℕ) (words : List (List ℕ)) → is_graphic s ≡ true → list_all (list_all is_graphic) words ≡ true → list_all is_graphic (join_with_byte s words) ≡ true
 graphic_joined s [] graphic all = refl
-graphic_joined s (word ∷ []) graphic all = (both (list_all is_graphic word) true all).0
+graphic_joined s (word ∷ []) graphic all = (both_pass (list_all is_graphic word) true all).0
 graphic_joined s (word ∷ next ∷ words) graphic all =
-    let two = both (list_all is_graphic word) (list_all (list_all is_graphic) (next ∷ words)) all in
+    let two = both_pass (list_all is_graphic word) (list_all (list_all is_graphic) (next ∷ words)) all in
     list_all-append is_graphic word (s ∷ join_with_byte s (next ∷ words)) ∙ rw (two.0, graphic, graphic_joined s (next ∷ words) graphic two.1) refl
 
 -- ---- names
@@ -45,7 +46,7 @@ names_said most word names is =
     (λ here yes. subst (λ ns. (word ≡ names_word ns) × ((length ns ≤ most) × All IsName ns)) (some_same [] names yes) (of_word word (codes "*") here, (omega arith, All-nil IsName)))
     (λ other.
     let said = chosen (nat_le (length split) most && list_all is_name split) split names other in
-    let tests = both (nat_le (length split) most) (list_all is_name split) said.0 in
+    let tests = both_pass (nat_le (length split) most) (list_all is_name split) said.0 in
     subst (λ ns. (word ≡ names_word ns) × ((length ns ≤ most) × All IsName ns)) said.1
     (sym (joined_parts 0x2C word) ∙ sym (word_of_names split (some_part 0x2C word)), (le_of (length split) most tests.0, AllPass-from_list_all is_name split tests.1)))
 

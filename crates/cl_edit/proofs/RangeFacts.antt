@@ -2,7 +2,7 @@
 use Rattle.std.proofs.Common.{◌≡◌, ℕ, zero, suc, ◌<◌, ◌≤◌, List, [], ◌∷◌, ◌++◌, length, sym, subst, arith, get_or, set}
 use Rattle.std.specs.Prelude.{All, nat_lt, remove}
 use Rattle.std.proofs.lemmas.List.{length-set, length-append}
-use Rattle.std.proofs.lemmas.List.Elements.{All-append}
+use Rattle.std.proofs.lemmas.List.Elements.{All-nil, All-cons, All-tail, All-append}
 use Rattle.std.proofs.lemmas.Bool.Decides.{nat_tests}
 use Rattle.cl_model.specs.declared.limits.TheConstants.{MOST_TICKS, MOST_PRIORITY, MOST_STIMULI, MOST_TASKS, MOST_RUNNABLES, MOST_CHAINS}
 use Rattle.cl_model.specs.declared.refusal.Code.TheVariants.{M10}
@@ -28,27 +28,17 @@ use Rattle.cl_edit.specs.Edited.{edit_checks, with_edit, task_number, chain_numb
 
 -- ---- lists
 
-none_all : {X : Type 0} (P : X → Type 0) → All P []
-none_all P = λ k d h. absurd (omega arith)
-
-cons_all : {X : Type 0} (P : X → Type 0) (x : X) (xs : List X) → P x → All P xs → (k : ℕ) (d : X) → k < suc (length xs) → P (get_or (x ∷ xs) k d)
-cons_all P x xs p ps zero d h = p
-cons_all P x xs p ps (suc k) d h = ps k d (omega arith)
-
-tail_all : {X : Type 0} (P : X → Type 0) (x : X) (xs : List X) → All P (x ∷ xs) → All P xs
-tail_all P x xs h = λ k d lt. h (suc k) d (omega arith)
-
 -- what holds of each item holds after one is changed in a way that keeps it
 changed_all : {X : Type 0} (P : X → Type 0) (f : X → X) → ((x : X) → P x → P (f x)) → (xs : List X) (i : ℕ) (d : X) → All P xs → All P (set xs i (f (get_or xs i d)))
 changed_all P f keep [] i d h = h
-changed_all P f keep (x ∷ xs) zero d h = cons_all P (f x) xs (keep x (h zero x (omega arith))) (tail_all P x xs h)
-changed_all P f keep (x ∷ xs) (suc i) d h = cons_all P x (set xs i (f (get_or xs i d))) (h zero x (omega arith)) (changed_all P f keep xs i d (tail_all P x xs h))
+changed_all P f keep (x ∷ xs) zero d h = All-cons P (f x) xs (keep x (h zero x (omega arith))) (All-tail P x xs h)
+changed_all P f keep (x ∷ xs) (suc i) d h = All-cons P x (set xs i (f (get_or xs i d))) (h zero x (omega arith)) (changed_all P f keep xs i d (All-tail P x xs h))
 
 removed_all : {X : Type 0} (P : X → Type 0) (xs : List X) (i : ℕ) → All P xs → All P (remove xs i)
 removed_all P [] zero h = h
 removed_all P [] (suc i) h = h
-removed_all P (x ∷ xs) zero h = tail_all P x xs h
-removed_all P (x ∷ xs) (suc i) h = cons_all P x (remove xs i) (h zero x (omega arith)) (removed_all P xs i (tail_all P x xs h))
+removed_all P (x ∷ xs) zero h = All-tail P x xs h
+removed_all P (x ∷ xs) (suc i) h = All-cons P x (remove xs i) (h zero x (omega arith)) (removed_all P xs i (All-tail P x xs h))
 
 removed_length : {X : Type 0} (xs : List X) (i : ℕ) → length (remove xs i) ≤ length xs
 removed_length [] zero = omega arith
@@ -120,7 +110,7 @@ priority_in_range : (tasks : List TaskDef) (i : ℕ) → All IsTaskInRange tasks
 unfolding no_task
 priority_in_range [] i h = omega arith
 priority_in_range (t ∷ tasks) zero h = (h zero t (omega arith)).priority
-priority_in_range (t ∷ tasks) (suc i) h = priority_in_range tasks i (tail_all IsTaskInRange t tasks h)
+priority_in_range (t ∷ tasks) (suc i) h = priority_in_range tasks i (All-tail IsTaskInRange t tasks h)
 
 -- ---- kinds
 
@@ -182,14 +172,14 @@ edits_keep_range model (Kind task access) h good e =
     task_in_range model (task_number model task) (λ t. record t { access = access }) (λ t k. record { priority = k.priority; deadline = k.deadline; count = k.count; runnables = k.runnables }) h
 edits_keep_range model (AddTask task) h good e =
     let space : length model.tasks < MOST_TASKS = room (length model.tasks) MOST_TASKS (section_place part.Task) e in
-    tasks_in_range model (model.tasks ++ task ∷ []) (omega (arith, length-append model.tasks (task ∷ []))) (All-append IsTaskInRange model.tasks (task ∷ []) h.tasks (cons_all IsTaskInRange task [] good (none_all IsTaskInRange))) h
+    tasks_in_range model (model.tasks ++ task ∷ []) (omega (arith, length-append model.tasks (task ∷ []))) (All-append IsTaskInRange model.tasks (task ∷ []) h.tasks (All-cons IsTaskInRange task [] good (All-nil IsTaskInRange))) h
 edits_keep_range model (DropTask task) h good e =
     let fewer : length (remove model.tasks (task_number model task)) ≤ length model.tasks = removed_length model.tasks (task_number model task) in
     let few : length model.tasks ≤ MOST_TASKS = h.counts.tasks in
     tasks_in_range model (remove model.tasks (task_number model task)) (omega arith) (removed_all IsTaskInRange model.tasks (task_number model task) h.tasks) h
 edits_keep_range model (AddChain chain) h good e =
     let space : length model.chains < MOST_CHAINS = room (length model.chains) MOST_CHAINS (section_place part.Chain) e in
-    chains_in_range model (model.chains ++ chain ∷ []) (omega (arith, length-append model.chains (chain ∷ []))) (All-append IsChainInRange model.chains (chain ∷ []) h.chains (cons_all IsChainInRange chain [] good (none_all IsChainInRange))) h
+    chains_in_range model (model.chains ++ chain ∷ []) (omega (arith, length-append model.chains (chain ∷ []))) (All-append IsChainInRange model.chains (chain ∷ []) h.chains (All-cons IsChainInRange chain [] good (All-nil IsChainInRange))) h
 edits_keep_range model (DropChain chain) h good e =
     let fewer : length (remove model.chains (chain_number model chain)) ≤ length model.chains = removed_length model.chains (chain_number model chain) in
     let few : length model.chains ≤ MOST_CHAINS = h.counts.chains in

@@ -5,7 +5,7 @@ use Rattle.std.specs.Option.{option_map}
 use Rattle.cl_model.specs.declared.task.RunnableDef.{RunnableDef}
 use Rattle.cl_edit.specs.declared.fault.Unread.{Unread}
 use Rattle.cl_edit.specs.declared.fault.Unread.TheVariants.{Bad, NoMemory}
-use Rattle.cl_edit.specs.Inner.Parts.{then_read, Reads, ReadsUpTo}
+use Rattle.cl_edit.specs.Inner.Parts.{then_read, ReadsPart, ReadsUpTo}
 use Rattle.cl_edit.specs.Inner.LineReads.{runnable_in, runnables_in}
 
 -- runnables that were read, before those that are read of the words that are left
@@ -77,6 +77,6 @@ one_more_read most words rs left r behind are short some read =
 
 -- what a runnable that isn't read leaves
 pub unread_runnable : (most : ℕ) (words : List (List ℕ)) (rs : List RunnableDef) (left behind : List (List ℕ)) (fault : Unread) → AreReadUpTo most words rs left → left ≢ []
-    → ReadsUpTo {X = RunnableDef} (Err fault) behind (runnable_in left) → Reads {X = List RunnableDef} (Err fault) (runnables_in most words)
+    → ReadsUpTo {X = RunnableDef} (Err fault) behind (runnable_in left) → ReadsPart {X = List RunnableDef} (Err fault) (runnables_in most words)
 unread_runnable most words rs left behind Bad are some bad = bad_runnable most words rs left are some bad
 unread_runnable most words rs left behind NoMemory are some bad = tt

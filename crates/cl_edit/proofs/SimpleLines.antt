@@ -1,15 +1,17 @@
 -- Lines of fixed length: each is read as an edit exactly where its words are those of the edit.
-use Rattle.std.proofs.Common.{◌≡◌, Option, Some, List, ℕ, Bool, [], ◌∷◌, ◌++◌, ap, ◌∙◌, subst, arith}
+use Rattle.std.proofs.Common.{◌≡◌, Option, Some, List, ℕ, Bool, [], ◌∷◌, ◌++◌, refl, sym, ap, ◌∙◌, subst, arith}
 use Rattle.std.specs.Prelude.{codes, decimal}
 use Rattle.cl_model.specs.declared.limits.TheConstants.{MOST_STEPS, MOST_HOPS}
 use Rattle.cl_model.specs.declared.task.AccessKind.{AccessKind}
 use Rattle.cl_model.specs.declared.chain.ChainDef.{ChainDef}
+use Rattle.cl_model.specs.Name.{IsName}
+use Rattle.cl_model.specs.Kinds.{access_word}
 use Rattle.cl_edit.specs.declared.edit.Edit.{Edit}
 use Rattle.cl_edit.specs.declared.edit.Edit.TheVariants.{Range, Whole, Period, Offset, Jitter, Distances, Burst, Deadline, Swap, Move, Kind, DropTask, AddChain, DropChain}
-use Rattle.cl_edit.specs.Lines.{flag_word, access_word, deadline_word, names_word, edit_words}
+use Rattle.cl_edit.specs.Lines.{flag_word, deadline_word, names_word, edit_words}
 use Rattle.cl_edit.specs.Reading.{IsLineEdit}
-use Rattle.cl_edit.specs.Inner.LineReads.{range_in, whole_in, period_in, offset_in, jitter_in, distances_in, burst_in, deadline_line_in, swap_in, move_in, access_line_in, drop_task_in, drop_chain_in, chain_in}
-use Rattle.cl_edit.proofs.FieldFacts.{name_field, time_field, ticks_field, priority_field, count_field, flag_field, access_field, deadline_field}
+use Rattle.cl_edit.specs.Inner.LineReads.{name_line, word_line, two_word_line, range_in, whole_in, period_in, offset_in, jitter_in, distances_in, burst_in, deadline_line_in, swap_in, move_in, access_line_in, drop_task_in, drop_chain_in, chain_in}
+use Rattle.cl_edit.proofs.FieldFacts.{IsField, name_field, time_field, ticks_field, priority_field, count_field, flag_field, access_field, deadline_field}
 use Rattle.cl_edit.proofs.NamesFacts.{names_field}
 use Rattle.cl_edit.proofs.WordsFacts.{took, gave}
 
@@ -28,64 +30,74 @@ so_says words one here edit left is says =
     let same : first ≡ second = cc in
     subst (λ (p : Edit × List (List ℕ)). Says words p.0 p.1) same says
 
-pub range_said : (words : List (List ℕ)) (edit : Edit) (left : List (List ℕ)) → range_in words ≡ Some (edit, left) → Says (codes "range" ∷ words) edit left
-range_said words edit left is =
+-- ---- lines of a name and of up to two words behind it
+
+name_said : (code : List ℕ) (make : List ℕ → Edit) → ((name : List ℕ) → IsName name → IsLineEdit (make name))
+    → ((name : List ℕ) → edit_words (make name) ≡ code ∷ name ∷ [])
+    → (words : List (List ℕ)) (edit : Edit) (left : List (List ℕ)) → name_line make words ≡ Some (edit, left) → Says (code ∷ words) edit left
+name_said code make good are words edit left is =
     let a = took name_field words _ _ is in
-    let b = took time_field a.1 _ _ a.4 in
-    let c = took time_field b.1 _ _ b.4 in
-    so_says _ (Range a.0 b.0 c.0) c.1 edit left c.4
-    (record { in_range = (b.3, c.3); named = a.3; sayable = tt }, ap (λ w. codes "range" ∷ w) (a.2 ∙ ap (λ w. a.0 ∷ w) (b.2 ∙ ap (λ w. decimal b.0 ∷ w) c.2)))
+    so_says _ (make a.0) a.1 edit left a.4 (good a.0 a.3, ap (λ w. code ∷ w) a.2 ∙ ap (λ ws. ws ++ a.1) (sym (are a.0)))
+
+word_said : {X : Type 0} {read : List ℕ → Option X} {write : X → List ℕ} {Good : X → Type 0} → IsField read write Good
+    → (code : List ℕ) (make : List ℕ → X → Edit) → ((name : List ℕ) (x : X) → IsName name → Good x → IsLineEdit (make name x))
+    → ((name : List ℕ) (x : X) → edit_words (make name x) ≡ code ∷ name ∷ write x ∷ [])
+    → (words : List (List ℕ)) (edit : Edit) (left : List (List ℕ)) → word_line read make words ≡ Some (edit, left) → Says (code ∷ words) edit left
+word_said field code make good are words edit left is =
+    let a = took name_field words _ _ is in
+    let b = took field a.1 _ _ a.4 in
+    so_says _ (make a.0 b.0) b.1 edit left b.4
+    (good a.0 b.0 a.3 b.3, ap (λ w. code ∷ w) (a.2 ∙ ap (λ w. a.0 ∷ w) b.2) ∙ ap (λ ws. ws ++ b.1) (sym (are a.0 b.0)))
+
+two_words_said : {X Y : Type 0} {read : List ℕ → Option X} {write : X → List ℕ} {Good : X → Type 0} {read_next : List ℕ → Option Y} {write_next : Y → List ℕ}
+    {GoodNext : Y → Type 0} → IsField read write Good → IsField read_next write_next GoodNext
+    → (code : List ℕ) (make : List ℕ → X → Y → Edit) → ((name : List ℕ) (x : X) (y : Y) → IsName name → Good x → GoodNext y → IsLineEdit (make name x y))
+    → ((name : List ℕ) (x : X) (y : Y) → edit_words (make name x y) ≡ code ∷ name ∷ write x ∷ write_next y ∷ [])
+    → (words : List (List ℕ)) (edit : Edit) (left : List (List ℕ)) → two_word_line read read_next make words ≡ Some (edit, left)
+    → Says (code ∷ words) edit left
+two_words_said {write = write} field field_next code make good are words edit left is =
+    let a = took name_field words _ _ is in
+    let b = took field a.1 _ _ a.4 in
+    let c = took field_next b.1 _ _ b.4 in
+    so_says _ (make a.0 b.0 c.0) c.1 edit left c.4 (
+      good a.0 b.0 c.0 a.3 b.3 c.3,
+      ap (λ w. code ∷ w) (a.2 ∙ ap (λ w. a.0 ∷ w) (b.2 ∙ ap (λ w. write b.0 ∷ w) c.2)) ∙ ap (λ ws. ws ++ c.1) (sym (are a.0 b.0 c.0)),
+    )
+
+-- ---- each line
+
+pub range_said : (words : List (List ℕ)) (edit : Edit) (left : List (List ℕ)) → range_in words ≡ Some (edit, left) → Says (codes "range" ∷ words) edit left
+range_said = two_words_said time_field time_field (codes "range") Range (λ name x y named good good_next. record { in_range = (good, good_next); named = named; sayable = tt }) (λ name x y. refl)
 
 pub range_back : (runnable : List ℕ) (least : ℕ) (greatest : ℕ) → IsLineEdit (Range runnable least greatest) → range_in (runnable ∷ decimal least ∷ decimal greatest ∷ []) ≡ Some (Range runnable least greatest, [])
 range_back runnable least greatest good = gave name_field runnable _ _ good.named ∙ gave time_field least _ _ good.in_range.0 ∙ gave time_field greatest _ _ good.in_range.1
 
 pub whole_said : (words : List (List ℕ)) (edit : Edit) (left : List (List ℕ)) → whole_in words ≡ Some (edit, left) → Says (codes "whole" ∷ words) edit left
-whole_said words edit left is =
-    let a = took name_field words _ _ is in
-    let b = took flag_field a.1 _ _ a.4 in
-    so_says _ (Whole a.0 b.0) b.1 edit left b.4
-    (record { in_range = tt; named = a.3; sayable = tt }, ap (λ w. codes "whole" ∷ w) (a.2 ∙ ap (λ w. a.0 ∷ w) b.2))
+whole_said = word_said flag_field (codes "whole") Whole (λ name x named good. record { in_range = tt; named = named; sayable = tt }) (λ name x. refl)
 
 pub whole_back : (runnable : List ℕ) (whole : Bool) → IsLineEdit (Whole runnable whole) → whole_in (runnable ∷ flag_word whole ∷ []) ≡ Some (Whole runnable whole, [])
 whole_back runnable whole good = gave name_field runnable _ _ good.named ∙ gave flag_field whole _ _ tt
 
 pub period_said : (words : List (List ℕ)) (edit : Edit) (left : List (List ℕ)) → period_in words ≡ Some (edit, left) → Says (codes "period" ∷ words) edit left
-period_said words edit left is =
-    let a = took name_field words _ _ is in
-    let b = took time_field a.1 _ _ a.4 in
-    so_says _ (Period a.0 b.0) b.1 edit left b.4
-    (record { in_range = b.3; named = a.3; sayable = tt }, ap (λ w. codes "period" ∷ w) (a.2 ∙ ap (λ w. a.0 ∷ w) b.2))
+period_said = word_said time_field (codes "period") Period (λ name x named good. record { in_range = good; named = named; sayable = tt }) (λ name x. refl)
 
 pub period_back : (stimulus : List ℕ) (period : ℕ) → IsLineEdit (Period stimulus period) → period_in (stimulus ∷ decimal period ∷ []) ≡ Some (Period stimulus period, [])
 period_back stimulus period good = gave name_field stimulus _ _ good.named ∙ gave time_field period _ _ good.in_range
 
 pub offset_said : (words : List (List ℕ)) (edit : Edit) (left : List (List ℕ)) → offset_in words ≡ Some (edit, left) → Says (codes "offset" ∷ words) edit left
-offset_said words edit left is =
-    let a = took name_field words _ _ is in
-    let b = took ticks_field a.1 _ _ a.4 in
-    so_says _ (Offset a.0 b.0) b.1 edit left b.4
-    (record { in_range = b.3.1; named = a.3; sayable = tt }, ap (λ w. codes "offset" ∷ w) (a.2 ∙ ap (λ w. a.0 ∷ w) b.2))
+offset_said = word_said ticks_field (codes "offset") Offset (λ name x named good. record { in_range = good.1; named = named; sayable = tt }) (λ name x. refl)
 
 pub offset_back : (stimulus : List ℕ) (offset : ℕ) → IsLineEdit (Offset stimulus offset) → offset_in (stimulus ∷ decimal offset ∷ []) ≡ Some (Offset stimulus offset, [])
 offset_back stimulus offset good = gave name_field stimulus _ _ good.named ∙ gave ticks_field offset _ _ (omega arith, good.in_range)
 
 pub jitter_said : (words : List (List ℕ)) (edit : Edit) (left : List (List ℕ)) → jitter_in words ≡ Some (edit, left) → Says (codes "jitter" ∷ words) edit left
-jitter_said words edit left is =
-    let a = took name_field words _ _ is in
-    let b = took ticks_field a.1 _ _ a.4 in
-    so_says _ (Jitter a.0 b.0) b.1 edit left b.4
-    (record { in_range = b.3.1; named = a.3; sayable = tt }, ap (λ w. codes "jitter" ∷ w) (a.2 ∙ ap (λ w. a.0 ∷ w) b.2))
+jitter_said = word_said ticks_field (codes "jitter") Jitter (λ name x named good. record { in_range = good.1; named = named; sayable = tt }) (λ name x. refl)
 
 pub jitter_back : (stimulus : List ℕ) (jitter : ℕ) → IsLineEdit (Jitter stimulus jitter) → jitter_in (stimulus ∷ decimal jitter ∷ []) ≡ Some (Jitter stimulus jitter, [])
 jitter_back stimulus jitter good = gave name_field stimulus _ _ good.named ∙ gave ticks_field jitter _ _ (omega arith, good.in_range)
 
 pub distances_said : (words : List (List ℕ)) (edit : Edit) (left : List (List ℕ)) → distances_in words ≡ Some (edit, left) → Says (codes "distances" ∷ words) edit left
-distances_said words edit left is =
-    let a = took name_field words _ _ is in
-    let b = took time_field a.1 _ _ a.4 in
-    let c = took time_field b.1 _ _ b.4 in
-    so_says _ (Distances a.0 b.0 c.0) c.1 edit left c.4
-    (record { in_range = (b.3, c.3); named = a.3; sayable = tt }, ap (λ w. codes "distances" ∷ w) (a.2 ∙ ap (λ w. a.0 ∷ w) (b.2 ∙ ap (λ w. decimal b.0 ∷ w) c.2)))
+distances_said = two_words_said time_field time_field (codes "distances") Distances (λ name x y named good good_next. record { in_range = (good, good_next); named = named; sayable = tt }) (λ name x y. refl)
 
 pub distances_back : (stimulus : List ℕ) (least : ℕ) (greatest : ℕ) → IsLineEdit (Distances stimulus least greatest) → distances_in (stimulus ∷ decimal least ∷ decimal greatest ∷ []) ≡ Some (Distances stimulus least greatest, [])
 distances_back stimulus least greatest good = gave name_field stimulus _ _ good.named ∙ gave time_field least _ _ good.in_range.0 ∙ gave time_field greatest _ _ good.in_range.1
@@ -103,75 +115,54 @@ pub burst_back : (stimulus : List ℕ) (period : ℕ) (count : ℕ) (distance : 
 burst_back stimulus period count distance good = gave name_field stimulus _ _ good.named ∙ gave time_field period _ _ good.in_range.0 ∙ gave count_field count _ _ good.in_range.1 ∙ gave time_field distance _ _ good.in_range.2
 
 pub deadline_said : (words : List (List ℕ)) (edit : Edit) (left : List (List ℕ)) → deadline_line_in words ≡ Some (edit, left) → Says (codes "deadline" ∷ words) edit left
-deadline_said words edit left is =
-    let a = took name_field words _ _ is in
-    let b = took deadline_field a.1 _ _ a.4 in
-    so_says _ (Deadline a.0 b.0) b.1 edit left b.4
-    (record { in_range = b.3; named = a.3; sayable = tt }, ap (λ w. codes "deadline" ∷ w) (a.2 ∙ ap (λ w. a.0 ∷ w) b.2))
+deadline_said = word_said deadline_field (codes "deadline") Deadline (λ name x named good. record { in_range = good; named = named; sayable = tt }) (λ name x. refl)
 
 pub deadline_back : (task : List ℕ) (deadline : Option ℕ) → IsLineEdit (Deadline task deadline) → deadline_line_in (task ∷ deadline_word deadline ∷ []) ≡ Some (Deadline task deadline, [])
 deadline_back task deadline good = gave name_field task _ _ good.named ∙ gave deadline_field deadline _ _ good.in_range
 
 pub swap_said : (words : List (List ℕ)) (edit : Edit) (left : List (List ℕ)) → swap_in words ≡ Some (edit, left) → Says (codes "swap" ∷ words) edit left
-swap_said words edit left is =
-    let a = took name_field words _ _ is in
-    let b = took name_field a.1 _ _ a.4 in
-    so_says _ (Swap a.0 b.0) b.1 edit left b.4
-    (record { in_range = tt; named = (a.3, b.3); sayable = tt }, ap (λ w. codes "swap" ∷ w) (a.2 ∙ ap (λ w. a.0 ∷ w) b.2))
+swap_said = word_said name_field (codes "swap") Swap (λ name x named good. record { in_range = tt; named = (named, good); sayable = tt }) (λ name x. refl)
 
 pub swap_back : (one : List ℕ) (other : List ℕ) → IsLineEdit (Swap one other) → swap_in (one ∷ other ∷ []) ≡ Some (Swap one other, [])
 swap_back one other good = gave name_field one _ _ good.named.0 ∙ gave name_field other _ _ good.named.1
 
 pub move_said : (words : List (List ℕ)) (edit : Edit) (left : List (List ℕ)) → move_in words ≡ Some (edit, left) → Says (codes "move" ∷ words) edit left
-move_said words edit left is =
-    let a = took name_field words _ _ is in
-    let b = took name_field a.1 _ _ a.4 in
-    let c = took priority_field b.1 _ _ b.4 in
-    so_says _ (Move a.0 b.0 c.0) c.1 edit left c.4
-    (record { in_range = c.3.1; named = (a.3, b.3); sayable = tt }, ap (λ w. codes "move" ∷ w) (a.2 ∙ ap (λ w. a.0 ∷ w) (b.2 ∙ ap (λ w. b.0 ∷ w) c.2)))
+move_said = two_words_said name_field priority_field (codes "move") Move (λ name x y named good good_next. record { in_range = good_next.1; named = (named, good); sayable = tt }) (λ name x y. refl)
 
 pub move_back : (task : List ℕ) (core : List ℕ) (priority : ℕ) → IsLineEdit (Move task core priority) → move_in (task ∷ core ∷ decimal priority ∷ []) ≡ Some (Move task core priority, [])
 move_back task core priority good = gave name_field task _ _ good.named.0 ∙ gave name_field core _ _ good.named.1 ∙ gave priority_field priority _ _ (omega arith, good.in_range)
 
 pub access_said : (words : List (List ℕ)) (edit : Edit) (left : List (List ℕ)) → access_line_in words ≡ Some (edit, left) → Says (codes "access" ∷ words) edit left
-access_said words edit left is =
-    let a = took name_field words _ _ is in
-    let b = took access_field a.1 _ _ a.4 in
-    so_says _ (Kind a.0 b.0) b.1 edit left b.4
-    (record { in_range = tt; named = a.3; sayable = tt }, ap (λ w. codes "access" ∷ w) (a.2 ∙ ap (λ w. a.0 ∷ w) b.2))
+access_said = word_said access_field (codes "access") Kind (λ name x named good. record { in_range = tt; named = named; sayable = tt }) (λ name x. refl)
 
 pub access_back : (task : List ℕ) (access : AccessKind) → IsLineEdit (Kind task access) → access_line_in (task ∷ access_word access ∷ []) ≡ Some (Kind task access, [])
 access_back task access good = gave name_field task _ _ good.named ∙ gave access_field access _ _ tt
 
 pub drop_task_said : (words : List (List ℕ)) (edit : Edit) (left : List (List ℕ)) → drop_task_in words ≡ Some (edit, left) → Says (codes "drop-task" ∷ words) edit left
-drop_task_said words edit left is =
-    let a = took name_field words _ _ is in
-    so_says _ (DropTask a.0) a.1 edit left a.4
-    (record { in_range = tt; named = a.3; sayable = tt }, ap (λ w. codes "drop-task" ∷ w) a.2)
+drop_task_said = name_said (codes "drop-task") DropTask (λ name named. record { in_range = tt; named = named; sayable = tt }) (λ name. refl)
 
 pub drop_task_back : (task : List ℕ) → IsLineEdit (DropTask task) → drop_task_in (task ∷ []) ≡ Some (DropTask task, [])
 drop_task_back task good = gave name_field task _ _ good.named
 
 pub drop_chain_said : (words : List (List ℕ)) (edit : Edit) (left : List (List ℕ)) → drop_chain_in words ≡ Some (edit, left) → Says (codes "drop-chain" ∷ words) edit left
-drop_chain_said words edit left is =
-    let a = took name_field words _ _ is in
-    so_says _ (DropChain a.0) a.1 edit left a.4
-    (record { in_range = tt; named = a.3; sayable = tt }, ap (λ w. codes "drop-chain" ∷ w) a.2)
+drop_chain_said = name_said (codes "drop-chain") DropChain (λ name named. record { in_range = tt; named = named; sayable = tt }) (λ name. refl)
 
 pub drop_chain_back : (chain : List ℕ) → IsLineEdit (DropChain chain) → drop_chain_in (chain ∷ []) ≡ Some (DropChain chain, [])
 drop_chain_back chain good = gave name_field chain _ _ good.named
 
 -- ---- the line of a new chain
 
+abbrev new_chain : (name : List ℕ) → (runnables labels : List (List ℕ)) → Edit
+new_chain name runnables labels = AddChain (record { name = name; runnables = runnables; labels = labels })
+
 pub chain_said : (words : List (List ℕ)) (edit : Edit) (left : List (List ℕ)) → chain_in words ≡ Some (edit, left) → Says (codes "chain" ∷ words) edit left
-chain_said words edit left is =
-    let a = took name_field words _ _ is in
-    let b = took (names_field MOST_STEPS) a.1 _ _ a.4 in
-    let c = took (names_field MOST_HOPS) b.1 _ _ b.4 in
-    so_says _ (AddChain (record { name = a.0; runnables = b.0; labels = c.0 })) c.1 edit left c.4 (
-      record { in_range = record { runnables = b.3.0; labels = c.3.0 }; named = record { name = a.3; runnables = b.3.1; labels = c.3.1 }; sayable = tt },
-      ap (λ w. codes "chain" ∷ w) (a.2 ∙ ap (λ w. a.0 ∷ w) (b.2 ∙ ap (λ w. names_word b.0 ∷ w) c.2)),
-    )
+chain_said = two_words_said (names_field MOST_STEPS) (names_field MOST_HOPS) (codes "chain") new_chain
+    (λ name runnables labels named good good_next. record {
+      in_range = record { runnables = good.0; labels = good_next.0 };
+      named = record { name = named; runnables = good.1; labels = good_next.1 };
+      sayable = tt;
+    })
+    (λ name runnables labels. refl)
 
 pub chain_back : (chain : ChainDef) → IsLineEdit (AddChain chain) → chain_in (chain.name ∷ names_word chain.runnables ∷ names_word chain.labels ∷ []) ≡ Some (AddChain chain, [])
 chain_back chain good =

@@ -11,9 +11,10 @@ use Rattle.cl_model.specs.declared.task.TaskDef.{TaskDef}
 use Rattle.cl_model.specs.Name.{IsName}
 use Rattle.cl_model.specs.Ranges.{IsTime, IsRunnableInRange}
 use Rattle.cl_model.specs.AreNamed.{IsRunnableNamed}
+use Rattle.cl_model.specs.Kinds.{access_word}
 use Rattle.cl_edit.specs.declared.edit.Edit.{Edit}
 use Rattle.cl_edit.specs.declared.edit.Edit.TheVariants.{AddTask}
-use Rattle.cl_edit.specs.Lines.{access_word, deadline_word, names_word, runnable_words, task_words}
+use Rattle.cl_edit.specs.Lines.{deadline_word, names_word, runnable_words, task_edit_words}
 use Rattle.cl_edit.specs.Reading.{IsLineEdit}
 use Rattle.cl_edit.specs.Inner.Parts.{with_left, then_read}
 use Rattle.cl_edit.specs.Inner.LineReads.{runnable_in, runnables_in, with_runnables, task_head_in, task_in}
@@ -182,7 +183,7 @@ are_new t good = λ k d within. record {
   not_whole = good.sayable.1 k d within;
 }
 
-pub task_back : (t : TaskDef) → IsLineEdit (AddTask t) → task_in (task_words t) ≡ Some (AddTask t, [])
+pub task_back : (t : TaskDef) → IsLineEdit (AddTask t) → task_in (task_edit_words t) ≡ Some (AddTask t, [])
 task_back t good =
     ap (λ o. then_read o (λ task words. with_left [] (option_and_then (with_runnables task) (runnables_in MOST_RUNNABLES words)))) (head_back t (flat_map runnable_words t.runnables) good)
     ∙ ap (λ o. with_left [] (option_and_then (with_runnables (record t { runnables = [] })) o)) (runnables_back MOST_RUNNABLES t.runnables good.in_range.count (are_new t good))

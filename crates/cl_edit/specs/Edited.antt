@@ -1,4 +1,4 @@
--- What an edit makes of a model: the changed model, or the first refusal. Source: this project's profile.
+-- What an edit makes of a model: the changed model, or the first refusal.
 use Rattle.std.specs.Prelude.{ℕ, Bool, true, false, nat_lt, List, [], ◌∷◌, ◌++◌, length, Option, Some, None, Result, Ok, Err, unwrap_or}
 use Rattle.cl_model.specs.declared.limits.TheConstants.{MOST_TASKS, MOST_CHAINS}
 use Rattle.cl_model.specs.declared.place.Part.TheVariants as part
@@ -13,6 +13,7 @@ use Rattle.cl_model.specs.Groups.{step_named}
 use Rattle.cl_model.specs.Place.{top, section_place}
 use Rattle.cl_model.specs.Refusals.{refuse, unless, answer}
 use Rattle.cl_model.specs.Validity.{refusals_of}
+use Rattle.cl_model.specs.Kinds.{is_periodic}
 use Rattle.cl_edit.specs.declared.edit.Edit.{Edit}
 use Rattle.cl_edit.specs.declared.edit.Edit.TheVariants.{Range, Whole, Period, Offset, Jitter, Distances, Burst, Deadline, Swap, Move, Kind, AddTask, DropTask, AddChain, DropChain, Report}
 use Rattle.cl_edit.specs.Changes.{with_range, with_whole, with_kind, with_period, with_offset, with_jitter, with_distances, with_burst, with_deadline, with_swap, with_place, with_access, with_new_task, without_task, with_new_chain, without_chain}
@@ -32,11 +33,7 @@ abbrev pub kind_found : Option StimulusKind → (sets : StimulusKind → Bool) �
 kind_found None sets = refuse E2 top
 kind_found (Some kind) sets = unless (sets kind) E3 top
 
--- periodic, sporadic, a burst
-abbrev pub is_periodic : StimulusKind → Bool
-is_periodic (pattern.Periodic period offset jitter) = true
-is_periodic _ = false
-
+-- sporadic, a burst
 abbrev pub is_sporadic : StimulusKind → Bool
 is_sporadic (pattern.Sporadic least greatest) = true
 is_sporadic _ = false

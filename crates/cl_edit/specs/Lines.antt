@@ -1,13 +1,11 @@
 -- How each edit is written: its words, separated by one blank, on a line of its own. Times are in ticks.
--- Source: this project's profile.
 use Rattle.std.specs.Prelude.{ℕ, Bool, true, false, Option, Some, None, List, [], ◌∷◌, codes, decimal}
 use Rattle.std.specs.List.{flat_map, join_with_byte}
 use Rattle.cl_text.specs.Line.{line}
-use Rattle.cl_model.specs.declared.task.AccessKind.{AccessKind}
-use Rattle.cl_model.specs.declared.task.AccessKind.TheVariants.{Explicit, Implicit, Timed}
 use Rattle.cl_model.specs.declared.task.RunnableDef.{RunnableDef}
 use Rattle.cl_model.specs.declared.task.TaskDef.{TaskDef}
 use Rattle.cl_model.specs.declared.chain.ChainDef.{ChainDef}
+use Rattle.cl_model.specs.Kinds.{access_word}
 use Rattle.cl_edit.specs.declared.edit.Edit.{Edit}
 use Rattle.cl_edit.specs.declared.edit.Edit.TheVariants.{Range, Whole, Period, Offset, Jitter, Distances, Burst, Deadline, Swap, Move, Kind, AddTask, DropTask, AddChain, DropChain, Report}
 
@@ -17,12 +15,6 @@ use Rattle.cl_edit.specs.declared.edit.Edit.TheVariants.{Range, Whole, Period, O
 abbrev pub flag_word : Bool → List ℕ
 flag_word true = codes "yes"
 flag_word false = codes "no"
-
--- a kind of access
-abbrev pub access_word : AccessKind → List ℕ
-access_word Explicit = codes "explicit"
-access_word Implicit = codes "implicit"
-access_word Timed = codes "timed"
 
 -- a deadline, or that there is none
 abbrev pub deadline_word : Option ℕ → List ℕ
@@ -41,13 +33,13 @@ abbrev pub runnable_words : RunnableDef → List (List ℕ)
 runnable_words r = r.name ∷ decimal r.least ∷ decimal r.greatest ∷ names_word r.reads ∷ names_word r.writes ∷ []
 
 -- a new task and its runnables
-abbrev pub task_words : TaskDef → List (List ℕ)
-task_words t = t.name ∷ t.core ∷ t.stimulus ∷ decimal t.priority ∷ access_word t.access ∷ deadline_word t.deadline
+abbrev pub task_edit_words : TaskDef → List (List ℕ)
+task_edit_words t = t.name ∷ t.core ∷ t.stimulus ∷ decimal t.priority ∷ access_word t.access ∷ deadline_word t.deadline
     ∷ flat_map runnable_words t.runnables
 
 -- a new chain
-abbrev pub chain_words : ChainDef → List (List ℕ)
-chain_words c = c.name ∷ names_word c.runnables ∷ names_word c.labels ∷ []
+abbrev pub chain_edit_words : ChainDef → List (List ℕ)
+chain_edit_words c = c.name ∷ names_word c.runnables ∷ names_word c.labels ∷ []
 
 abbrev pub edit_words : Edit → List (List ℕ)
 edit_words (Range runnable least greatest) = codes "range" ∷ runnable ∷ decimal least ∷ decimal greatest ∷ []
@@ -61,9 +53,9 @@ edit_words (Deadline task deadline) = codes "deadline" ∷ task ∷ deadline_wor
 edit_words (Swap one other) = codes "swap" ∷ one ∷ other ∷ []
 edit_words (Move task core priority) = codes "move" ∷ task ∷ core ∷ decimal priority ∷ []
 edit_words (Kind task access) = codes "access" ∷ task ∷ access_word access ∷ []
-edit_words (AddTask task) = codes "task" ∷ task_words task
+edit_words (AddTask task) = codes "task" ∷ task_edit_words task
 edit_words (DropTask task) = codes "drop-task" ∷ task ∷ []
-edit_words (AddChain chain) = codes "chain" ∷ chain_words chain
+edit_words (AddChain chain) = codes "chain" ∷ chain_edit_words chain
 edit_words (DropChain chain) = codes "drop-chain" ∷ chain ∷ []
 edit_words Report = codes "report" ∷ []
 
@@ -78,5 +70,5 @@ abbrev pub title_line : List ℕ
 title_line = line (codes "chainlat edits 1")
 
 -- the lines of edits, one after another
-abbrev pub lines_of : List Edit → List ℕ
-lines_of edits = flat_map edit_line edits
+abbrev pub edit_lines : List Edit → List ℕ
+edit_lines edits = flat_map edit_line edits

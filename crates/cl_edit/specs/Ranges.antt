@@ -1,5 +1,5 @@
--- Which edits are in range: each number is one that a model file may have at the key that the edit sets, and each list is
--- one that a model file may have. Times are in ticks. Source: this project's profile.
+-- Which edits are in range: each number is one that a model file may have at the key that the edit sets, and each list
+-- is one that a model file may have. Times are in ticks.
 use Rattle.std.specs.Prelude.{◌≤◌, IfSome}
 use Rattle.cl_model.specs.declared.limits.TheConstants.{MOST_TICKS, MOST_PRIORITY}
 use Rattle.cl_model.specs.Ranges.{IsTime, IsBurstCount, IsTaskInRange, IsChainInRange}

@@ -1,13 +1,14 @@
--- Which edits a text lists, and which line of a text is the first bad one. Source: this project's profile.
+-- Which edits a text lists, and which line of a text is the first bad one.
 use Rattle.std.specs.Prelude.{◌≡◌, ◌≢◌, ℕ, ◌+◌, ◌≤◌, ◌⊎◌, Bool, true, false, List, [], ◌∷◌, ◌++◌, length, All}
 use Rattle.std.specs.List.{count_by}
+use Rattle.cl_text.specs.Standing.{NoneStands}
 use Rattle.cl_model.specs.Name.{IsName}
 use Rattle.cl_model.specs.AreNamed.{IsTaskNamed, IsChainNamed}
 use Rattle.cl_edit.specs.declared.limits.TheConstants.{MOST_EDITS, MOST_REPORTS}
 use Rattle.cl_edit.specs.declared.edit.Edit.{Edit}
 use Rattle.cl_edit.specs.declared.edit.Edit.TheVariants.{Range, Whole, Period, Offset, Jitter, Distances, Burst, Deadline, Swap, Move, Kind, AddTask, DropTask, AddChain, DropChain, Report}
 use Rattle.cl_edit.specs.Ranges.{IsEditInRange}
-use Rattle.cl_edit.specs.Lines.{edit_line, title_line, lines_of}
+use Rattle.cl_edit.specs.Lines.{edit_line, title_line, edit_lines}
 
 -- ---- which edits have a line
 
@@ -58,23 +59,37 @@ pub record MayBeListed (edits : List Edit) : Type 0 where
 -- the text lists these edits: the first line, and a line for each
 pub record AreEditsOf (text : List ℕ) (edits : List Edit) : Type 0 where
   pub listed : MayBeListed edits
-  pub written : text ≡ title_line ++ lines_of edits
+  pub written : text ≡ title_line ++ edit_lines edits
+
+-- the text begins with the first line and the lines of these edits, and goes on with this rest
+pub record ListsFirst (text : List ℕ) (edits : List Edit) (rest : List ℕ) : Type 0 where
+  pub listed : MayBeListed edits
+  pub parts : text ≡ title_line ++ edit_lines edits ++ rest
 
 -- the text begins with another line than the first one
-abbrev pub LacksTitle : (text : List ℕ) → Type 0
-LacksTitle text = (rest : List ℕ) → text ≢ title_line ++ rest
+pub record LacksTitle (text : List ℕ) (number : ℕ) : Type 0 where
+  pub none : (rest : List ℕ) → text ≢ title_line ++ rest
+  pub counted : number ≡ 1
 
--- behind the first line stand lines of edits up to the line of that number, and something is left that begins with the line
--- of no edit that may be listed there: a line outside the grammar, one too many, or one without its end
-pub record IsBadEdit (text : List ℕ) (number : ℕ) : Type 0 where
+-- behind lines of edits stands what is the line of no edit: it is outside the grammar, or it has no end
+pub record LacksEdit (text : List ℕ) (number : ℕ) : Type 0 where
   pub edits : List Edit
   pub rest : List ℕ
-  pub listed : MayBeListed edits
-  pub parts : text ≡ title_line ++ lines_of edits ++ rest
+  pub behind : ListsFirst text edits rest
   pub some_left : rest ≢ []
-  pub bad : (edit : Edit) (after : List ℕ) → MayBeListed (edits ++ edit ∷ []) → rest ≢ edit_line edit ++ after
+  pub no_edit : NoneStands edit_line IsLineEdit rest
   pub counted : number ≡ length edits + 2
 
--- the first bad line of the text has that number, counted from 1
-abbrev pub IsBadLine : (text : List ℕ) → (number : ℕ) → Type 0
-IsBadLine text number = (LacksTitle text × (number ≡ 1)) ⊎ IsBadEdit text number
+-- behind lines of edits stands that of an edit which is one too many
+pub record ListsTooMany (text : List ℕ) (number : ℕ) : Type 0 where
+  pub edits : List Edit
+  pub edit : Edit
+  pub rest : List ℕ
+  pub behind : ListsFirst text edits (edit_line edit ++ rest)
+  pub line : IsLineEdit edit
+  pub too_many : ¬ MayBeListed (edits ++ edit ∷ [])
+  pub counted : number ≡ length edits + 2
+
+-- the first bad line of the text has that number, counted from 1: it isn't the title, or it is no edit, or one too many
+abbrev pub IsBadEditLine : (text : List ℕ) → (number : ℕ) → Type 0
+IsBadEditLine text number = LacksTitle text number ⊎ (LacksEdit text number ⊎ ListsTooMany text number)

@@ -207,10 +207,10 @@ fn validated(alloc: Global, model: SystemModel) -> Result<ValidModel, ModelFault
     }
 }
 
-/// The valid model that an edit makes of another. The model that it is lent stands. It is refused exactly where the edited
-/// model is: with E2 where the edit looks up a name that isn't there, with E3 where it doesn't set this kind of stimulus, with
-/// M10 where it adds a task or a chain to a full section, and then with the first refusal of the changed model. `NoMemory`
-/// where memory ran out.
+/// The valid model that an edit makes of another. The model that it is lent stands. It is refused exactly where the
+/// edited model is: with E2 where the edit looks up a name that isn't there, with E3 where it doesn't set this kind of
+/// stimulus, with M10 where it adds a task or a chain to a full section, and then with the first refusal of the changed
+/// model. `NoMemory` where memory ran out.
 pub fn apply_edit(alloc: Global, model: &ValidModel, edit: &Edit) -> Result<ValidModel, ModelFault>
     requires { IsEditInRange edit.now }
     ensures { Gives result (edited model.now edit.now) }

@@ -1,7 +1,7 @@
 //! Single words of an edit: names, numbers, words of a list, and lists of names.
 ghost use Rattle.std.specs.Prelude.{◌≡◌, [], ◌∷◌, IfOk, IfErr};
 ghost use Rattle.cl_edit.specs.declared.fault.Unread.TheVariants.{Bad};
-ghost use Rattle.cl_edit.specs.Inner.Parts.{first_read, Reads, ReadsUpTo};
+ghost use Rattle.cl_edit.specs.Inner.Parts.{first_read, ReadsPart, ReadsUpTo};
 ghost use Rattle.cl_edit.specs.Inner.Fields.{name_in, number_in, time_in, flag_in, access_in, deadline_in, names_in};
 
 use crate::fault::Unread;
@@ -11,13 +11,13 @@ use cl_text::read_decimal;
 use std::alloc::Global;
 
 fn name_of(word: &[u8]) -> Result<Name, Unread>
-    ensures { Reads result (name_in word.now) }
+    ensures { ReadsPart result (name_in word.now) }
 {
     Name::read(word).ok_or(Unread::Bad)
 }
 
 fn number_of(word: &[u8], least: u64, most: u64) -> Result<u64, Unread>
-    ensures { Reads result (number_in least most word.now) }
+    ensures { ReadsPart result (number_in least most word.now) }
 {
     let Some(number) = read_decimal(word, most) else {
         return Err(Unread::Bad);
@@ -30,13 +30,13 @@ fn number_of(word: &[u8], least: u64, most: u64) -> Result<u64, Unread>
 }
 
 fn time_of(word: &[u8]) -> Result<u64, Unread>
-    ensures { Reads result (time_in word.now) }
+    ensures { ReadsPart result (time_in word.now) }
 {
     number_of(word, 1, MOST_TICKS)
 }
 
 fn flag_of(word: &[u8]) -> Result<bool, Unread>
-    ensures { Reads result (flag_in word.now) }
+    ensures { ReadsPart result (flag_in word.now) }
 {
     match word {
         b"yes" => Ok(true),
@@ -46,18 +46,13 @@ fn flag_of(word: &[u8]) -> Result<bool, Unread>
 }
 
 fn access_of(word: &[u8]) -> Result<AccessKind, Unread>
-    ensures { Reads result (access_in word.now) }
+    ensures { ReadsPart result (access_in word.now) }
 {
-    match word {
-        b"explicit" => Ok(AccessKind::Explicit),
-        b"implicit" => Ok(AccessKind::Implicit),
-        b"timed" => Ok(AccessKind::Timed),
-        _ => Err(Unread::Bad),
-    }
+    AccessKind::of_word(word).ok_or(Unread::Bad)
 }
 
 fn deadline_of(word: &[u8]) -> Result<Option<u64>, Unread>
-    ensures { Reads result (deadline_in word.now) }
+    ensures { ReadsPart result (deadline_in word.now) }
 {
     match word {
         b"*" => Ok(None),
@@ -66,7 +61,7 @@ fn deadline_of(word: &[u8]) -> Result<Option<u64>, Unread>
 }
 
 fn names_of(alloc: Global, word: &[u8], most: usize) -> Result<List<Name>, Unread>
-    ensures { Reads result (names_in most word.now) }
+    ensures { ReadsPart result (names_in most word.now) }
 {
     let mut names = List::new(alloc);
     if word == b"*".as_slice() {

@@ -1,22 +1,23 @@
-//! Each text has one answer: it lists edits, or it has a first bad line. And what an edit makes of a valid model is valid.
+//! Each text has one answer: it lists edits, or it has a first bad line. And what an edit makes of a valid model is
+//! valid.
 ghost use Rattle.std.specs.Prelude.{◌≡◌, ◌⊎◌, ℕ, List, Ok, All};
 ghost use Rattle.cl_model.specs.declared.model.SystemModel.{SystemModel};
 ghost use Rattle.cl_model.specs.Validity.{IsValid};
 ghost use Rattle.cl_edit.specs.declared.edit.Edit.{Edit};
 ghost use Rattle.cl_edit.specs.Edited.{edited};
 ghost use Rattle.cl_edit.specs.Ranges.{IsEditInRange};
-ghost use Rattle.cl_edit.specs.Reading.{AreEditsOf, IsBadLine};
+ghost use Rattle.cl_edit.specs.Reading.{AreEditsOf, IsBadEditLine};
 
 /// A text lists edits, or it has a first bad line.
 pub fn texts_have_an_answer()
-    ensures { (text : List ℕ) → ((edits : List Edit) × AreEditsOf text edits) ⊎ ((line : ℕ) × IsBadLine text line) }
+    ensures { (text : List ℕ) → ((edits : List Edit) × AreEditsOf text edits) ⊎ ((line : ℕ) × IsBadEditLine text line) }
 {}
 
 /// It lists one list of edits at most, and then it has no bad line; it has one first bad line at most.
 pub fn texts_have_one_answer()
     ensures edits { (text : List ℕ) (one other : List Edit) → AreEditsOf text one → AreEditsOf text other → one ≡ other }
-    ensures line { (text : List ℕ) (one other : ℕ) → IsBadLine text one → IsBadLine text other → one ≡ other }
-    ensures apart { (text : List ℕ) (edits : List Edit) (line : ℕ) → AreEditsOf text edits → IsBadLine text line → ⊥ }
+    ensures line { (text : List ℕ) (one other : ℕ) → IsBadEditLine text one → IsBadEditLine text other → one ≡ other }
+    ensures apart { (text : List ℕ) (edits : List Edit) (line : ℕ) → AreEditsOf text edits → IsBadEditLine text line → ⊥ }
 {}
 
 /// Edits that a text lists are in range.

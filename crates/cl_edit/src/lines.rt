@@ -1,7 +1,7 @@
 //! The lines of edits, one function a kind: each reads the words behind the keyword.
 ghost use Rattle.std.specs.Prelude.{◌≡◌};
 ghost use Rattle.std.specs.Str.{bytes_eq};
-ghost use Rattle.cl_edit.specs.Inner.Parts.{Reads, ReadsUpTo};
+ghost use Rattle.cl_edit.specs.Inner.Parts.{ReadsPart, ReadsUpTo};
 ghost use Rattle.cl_edit.specs.Inner.LineReads.{range_in, whole_in, period_in, offset_in, jitter_in, distances_in, burst_in, deadline_line_in, swap_in, move_in, access_line_in, drop_task_in, drop_chain_in, chain_in, fields_in, edit_in};
 
 use crate::edit::Edit;
@@ -201,7 +201,7 @@ fn fields(alloc: Global, keyword: &[u8], words: &mut Parts<'_>) -> Result<Edit, 
 
 /// The edit of a line, which comes without its end.
 pub(crate) fn edit_of(alloc: Global, line: &[u8]) -> Result<Edit, Unread>
-    ensures { Reads result (edit_in line.now) }
+    ensures { ReadsPart result (edit_in line.now) }
 {
     let mut words = Parts::of(line, b' ');
     let Some(keyword) = words.next() else {

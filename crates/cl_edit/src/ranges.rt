@@ -9,8 +9,8 @@ use cl_valid::{
 };
 
 impl Edit {
-    /// Whether each of its numbers may stand in a model file at the key that the edit sets, and each of its lists has no
-    /// more members than there. It takes no memory.
+    /// Whether each of its numbers may stand in a model file at the key that the edit sets, and each of its lists has
+    /// no more members than there. It takes no memory.
     pub fn in_range(&self) -> bool
         ensures { IsTrue result ↔ IsEditInRange self.now }
     {

@@ -1,11 +1,12 @@
 //! A text, read as a list of edits.
-ghost use Rattle.std.specs.Prelude.{◌≡◌, ◌≢◌, ◌↔◌, ◌++◌, ℕ, List, IsTrue, Err, IfOk};
+ghost use Rattle.std.specs.Prelude.{◌≡◌, ◌↔◌, ◌++◌, List, IsTrue, Err, IfOk};
+ghost use Rattle.cl_text.specs.Standing.{NoneStands};
+ghost use Rattle.cl_text.specs.LinesFault.{IfBadLine, ReadsThis};
 ghost use Rattle.cl_edit.specs.declared.edit.Edit.{Edit};
-ghost use Rattle.cl_edit.specs.declared.fault.EditsFault.TheVariants.{BadLine};
 ghost use Rattle.cl_edit.specs.declared.fault.Unread.TheVariants.{Bad};
 ghost use Rattle.cl_edit.specs.Inner.LineReads.{HasRoom, MayFollow};
 ghost use Rattle.cl_edit.specs.Lines.{edit_line};
-ghost use Rattle.cl_edit.specs.Reading.{IsLineEdit, is_report, AreEditsOf, IsBadLine};
+ghost use Rattle.cl_edit.specs.Reading.{IsLineEdit, is_report, AreEditsOf, IsBadEditLine};
 
 use crate::edit::Edit;
 use crate::fault::{EditsFault, Unread};
@@ -18,7 +19,7 @@ use std::alloc::Global;
 /// The edit of the line that the text begins with, and what follows the line.
 fn edit_after(alloc: Global, text: &[u8]) -> Result<(Edit, &[u8]), Unread>
     ensures some { IfOk result (λ read. IsLineEdit read.0 × (text.now ≡ edit_line read.0 ++ read.1.now)) }
-    ensures none { result ≡ Err Bad → (edit : Edit) (rest : List ℕ) → IsLineEdit edit → text.now ≢ edit_line edit ++ rest }
+    ensures none { result ≡ Err Bad → NoneStands edit_line IsLineEdit text.now }
 {
     let Some(end) = next_line(text, 0) else {
         return Err(Unread::Bad);
@@ -40,7 +41,8 @@ fn has_room(edits: usize, reports: usize, edit: &Edit) -> bool
     edits < MOST_EDITS && (reports < MOST_REPORTS || !is_report(edit))
 }
 
-/// The same, where the edit may be listed below so many edits with so many reports among them.
+/// The same, as long as the list has room for that edit: so many edits are listed above it, and so many of them are
+/// reports.
 fn listed_after(
     alloc: Global,
     text: &[u8],
@@ -48,7 +50,7 @@ fn listed_after(
     reports: usize,
 ) -> Result<(Edit, &[u8]), Unread>
     ensures some { IfOk result (λ read. MayFollow edits reports read.0 × (text.now ≡ edit_line read.0 ++ read.1.now)) }
-    ensures none { result ≡ Err Bad → (edit : Edit) (rest : List ℕ) → MayFollow edits reports edit → text.now ≢ edit_line edit ++ rest }
+    ensures none { result ≡ Err Bad → NoneStands edit_line (MayFollow edits reports) text.now }
 {
     let (edit, rest) = edit_after(alloc, text)?;
     if has_room(edits, reports, &edit) {
@@ -60,12 +62,13 @@ fn listed_after(
 
 /// The edits that a text lists. Times are in ticks.
 ///
-/// Each is in range, and each name in it is of the name grammar. `BadLine` comes exactly where the text lists no edits: at
-/// its first line that is outside the grammar, that is one too many, or that has no end, counted from 1. `NoMemory` comes
-/// where there is no memory for the edits. Either leaves nothing.
+/// Each is in range, and each name in it is of the name grammar. `BadLine` comes exactly where the text lists no edits:
+/// at its first line that is outside the grammar, that is one too many, or that has no end, counted from 1. `NoMemory`
+/// comes where there is no memory for the edits. Either leaves nothing.
 pub fn read_edits(alloc: Global, text: &[u8]) -> Result<List<Edit>, EditsFault>
     ensures edits { IfOk result (AreEditsOf text.now) }
-    ensures bad_line { (line : ℕ) → result ≡ Err (BadLine line) → IsBadLine text.now line }
+    ensures bad_line { IfBadLine result (IsBadEditLine text.now) }
+    ensures only { (edits : List Edit) → AreEditsOf text.now edits → ReadsThis result edits }
 {
     let Some(lines) = text.strip_prefix(b"chainlat edits 1\n".as_slice()) else {
         return Err(EditsFault::BadLine { line: 1 });

@@ -1,6 +1,6 @@
 //! The line of a new task: what the task is, and then its runnables up to the line's end.
 ghost use Rattle.std.specs.Prelude.{◌≡◌, [], IfOk};
-ghost use Rattle.cl_edit.specs.Inner.Parts.{Reads, ReadsUpTo};
+ghost use Rattle.cl_edit.specs.Inner.Parts.{ReadsPart, ReadsUpTo};
 ghost use Rattle.cl_edit.specs.Inner.LineReads.{runnable_in, runnables_in, task_head_in, task_in};
 ghost use Rattle.cl_model.specs.declared.limits.TheConstants.{MOST_RUNNABLES};
 
@@ -33,7 +33,7 @@ fn runnable(alloc: Global, words: &mut Parts<'_>) -> Result<RunnableDef, Unread>
 /// The runnables of all words that are left.
 fn runnables(alloc: Global, words: &mut Parts<'_>) -> Result<List<RunnableDef>, Unread>
     ensures all { IfOk result (λ _. words.new ≡ []) }
-    ensures read { Reads result (runnables_in MOST_RUNNABLES words.old) }
+    ensures read { ReadsPart result (runnables_in MOST_RUNNABLES words.old) }
 {
     let mut runnables = List::new(alloc);
     while !words.is_done() {

@@ -1,9 +1,9 @@
 -- When the jobs of a group read and write: the first reader and the last writer are what their names say.
-use Rattle.std.proofs.Common.{◌≡◌, ℕ, suc, ◌+◌, ◌-◌, ◌*◌, ◌/◌, ◌%◌, ◌<◌, ◌≤◌, ap, inl, inr, arith}
+use Rattle.std.proofs.Common.{◌≡◌, ℕ, suc, ◌+◌, ◌-◌, ◌*◌, ◌/◌, ◌%◌, ◌<◌, ◌≤◌, List, length, ap, inl, inr, arith}
 use Rattle.std.proofs.lemmas.Bool.{cases_lt}
 use Rattle.std.proofs.Math.Nat.{mul-le-mul_right}
 use Rattle.cl_exact.specs.declared.beat.Beat.{Beat}
-use Rattle.cl_exact.specs.Inner.Beats.{read_at, write_at, first_reader, last_writer}
+use Rattle.cl_exact.specs.Inner.Beats.{AreBeats, beat_in, read_at, write_at, first_reader, last_writer}
 
 -- a number over a divisor, rounded up
 ceil_enough : (n d : ℕ) → 1 ≤ d → n ≤ (n + (d - 1)) / d * d
@@ -103,3 +103,13 @@ writer_greatest beat some t k before = floor_greatest (t - (beat.offset + beat.d
 -- a job's number is at most its read
 pub job_small : (beat : Beat) → 1 ≤ beat.period → (job : ℕ) → job ≤ read_at beat job
 job_small beat some job = let more : 1 * job ≤ beat.period * job = mul-le-mul_right job some in omega arith
+
+-- ---- the beats of a chain
+
+-- a chain has a last group
+pub last_place : (beats : List Beat) → AreBeats beats → length beats - 1 < length beats
+last_place beats are = omega (arith, are.some)
+
+-- and each of its periods is a tick or more
+pub some_period : (beats : List Beat) → AreBeats beats → (place : ℕ) → place < length beats → 1 ≤ (beat_in beats place).period
+some_period beats are place within = (are.each place within).some_period

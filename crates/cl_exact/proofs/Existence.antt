@@ -9,7 +9,7 @@ use Rattle.cl_exact.specs.declared.beat.Beat.{Beat}
 use Rattle.cl_exact.specs.declared.scan.Greatest.{Greatest}
 use Rattle.cl_exact.specs.Inner.Beats.{AreBeats, beat_in, read_at, forward_job, last_writer, reaction_of}
 use Rattle.cl_exact.specs.Inner.Scans.{IsGreatestOf, NoneHas, IsFirstWith}
-use Rattle.cl_exact.specs.Inner.Walks.{AreForwardJobs, IsLastWriter, AreBackwardJobs, start_of, start_up_of, IsLatestSecond}
+use Rattle.cl_exact.specs.Inner.Walks.{IsForwardWalk, IsLastWritingJob, IsBackwardWalk, start_of, start_up_of, IsLatestSecond}
 use Rattle.cl_exact.specs.Inner.Found.{last_beat}
 use Rattle.cl_exact.proofs.ScanFacts.{greatest_stays, greatest_rises, none_more}
 use Rattle.cl_exact.proofs.WalkFacts.{last_writer_is, late_enough, late_back, latest_more}
@@ -44,7 +44,7 @@ table f (suc n) =
 -- ---- chains
 
 -- each first job has a forward chain
-pub has_forward : (beats : List Beat) (first : ℕ) → (jobs : List ℕ) × AreForwardJobs beats first jobs
+pub has_forward : (beats : List Beat) (first : ℕ) → (jobs : List ℕ) × IsForwardWalk beats first jobs
 has_forward beats first =
     let jobs = table (forward_job beats first) (length beats) in
     (jobs.0, record { as_many = jobs.1; each = jobs.2 })
@@ -52,7 +52,7 @@ has_forward beats first =
 -- the jobs of a backward chain down from the group of a place
 record IsWalkFrom (beats : List Beat) (place job : ℕ) (jobs : List ℕ) : Type 0 where
   as_many : length jobs ≡ suc place
-  linked : (k : ℕ) → suc k ≤ place → IsLastWriter (beat_in beats k) (beat_in beats (suc k)) (slice_index jobs k) (slice_index jobs (suc k))
+  linked : (k : ℕ) → suc k ≤ place → IsLastWritingJob (beat_in beats k) (beat_in beats (suc k)) (slice_index jobs k) (slice_index jobs (suc k))
   last_is : slice_index jobs place ≡ job
 
 walk_from : (beats : List Beat) → AreBeats beats → (place job : ℕ) → place < length beats
@@ -78,15 +78,15 @@ walk_from beats are (suc place) job within late =
           | inl earlier ↦
               let one = before_last rest.0 job (suc place) k many (omega (arith, earlier)) in
               let other = before_last rest.0 job (suc place) (suc k) many (omega (arith, earlier)) in
-              subst (λ w. IsLastWriter (beat_in beats k) (beat_in beats (suc k)) w (slice_index (rest.0 ++ job ∷ []) (suc k))) (sym one)
-              (subst (λ r. IsLastWriter (beat_in beats k) (beat_in beats (suc k)) (slice_index rest.0 k) r) (sym other) (rest.1.linked k (omega (arith, earlier))))
+              subst (λ w. IsLastWritingJob (beat_in beats k) (beat_in beats (suc k)) w (slice_index (rest.0 ++ job ∷ []) (suc k))) (sym one)
+              (subst (λ r. IsLastWritingJob (beat_in beats k) (beat_in beats (suc k)) (slice_index rest.0 k) r) (sym other) (rest.1.linked k (omega (arith, earlier))))
           | inr last ↦
               let here : place ≡ k = omega (arith, last, within) in
               let one = before_last rest.0 job (suc place) place many (omega arith) ∙ rest.1.last_is in
               let other = at_last rest.0 job (suc place) many in
-              subst (λ n. IsLastWriter (beat_in beats n) (beat_in beats (suc n)) (slice_index (rest.0 ++ job ∷ []) n) (slice_index (rest.0 ++ job ∷ []) (suc n))) here
-              (subst (λ w. IsLastWriter (beat_in beats place) (beat_in beats (suc place)) w (slice_index (rest.0 ++ job ∷ []) (suc place))) (sym one)
-              (subst (λ r. IsLastWriter (beat_in beats place) (beat_in beats (suc place)) writer r) (sym other) link))
+              subst (λ n. IsLastWritingJob (beat_in beats n) (beat_in beats (suc n)) (slice_index (rest.0 ++ job ∷ []) n) (slice_index (rest.0 ++ job ∷ []) (suc n))) here
+              (subst (λ w. IsLastWritingJob (beat_in beats place) (beat_in beats (suc place)) w (slice_index (rest.0 ++ job ∷ []) (suc place))) (sym one)
+              (subst (λ r. IsLastWritingJob (beat_in beats place) (beat_in beats (suc place)) writer r) (sym other) link))
         ];
         last_is = at_last rest.0 job (suc place) many;
       },
@@ -94,7 +94,7 @@ walk_from beats are (suc place) job within late =
 
 -- each last job that reads at or after the start-up has a backward chain
 pub has_backward : (beats : List Beat) → AreBeats beats → (last : ℕ) → start_up_of beats ≤ read_at (last_beat beats) last
-    → (jobs : List ℕ) × AreBackwardJobs beats last jobs
+    → (jobs : List ℕ) × IsBackwardWalk beats last jobs
 has_backward beats are last late =
     let place : ℕ = length beats - 1 in
     let whole : suc place ≡ length beats = omega (arith, are.some) in

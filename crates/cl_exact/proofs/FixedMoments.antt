@@ -8,7 +8,7 @@ use Rattle.cl_runs.specs.Chains.{IsEarliestReader, IsLatestWriter, JobChain, cha
 use Rattle.cl_runs.specs.RunChains.{ArrivesAt, ideal_moments}
 use Rattle.cl_exact.specs.declared.beat.Beat.{Beat}
 use Rattle.cl_exact.specs.Inner.Beats.{AreBeatsOf, beat_in, read_at, write_at, first_reader, forward_job, forward_start, forward_end, reaction_of}
-use Rattle.cl_exact.specs.Inner.Walks.{AreForwardJobs, IsLastWriter, AreBackwardJobs}
+use Rattle.cl_exact.specs.Inner.Walks.{IsForwardWalk, IsLastWritingJob, IsBackwardWalk}
 use Rattle.cl_exact.specs.Inner.Found.{last_beat, IsComplete, age_of}
 use Rattle.cl_exact.proofs.BeatFacts.{reader_is, reader_after, reader_least}
 use Rattle.cl_exact.proofs.ReactionAge.{reads_before_last}
@@ -75,7 +75,7 @@ module _ (system : System) (groups : List Group) (beats : List Beat) (of : AreBe
   -- the latest writer is the last one
   pub latest_is : (place writing reading : ℕ) → suc place < length groups
       → IsLatestWriter (ideal_moments system) (group_at groups place) (group_at groups (suc place)) writing reading
-      → IsLastWriter (beat_in beats place) (beat_in beats (suc place)) writing reading
+      → IsLastWritingJob (beat_in beats place) (beat_in beats (suc place)) writing reading
   latest_is place writing reading within link =
       let write = writes_is place writing link.write (omega (arith, within)) link.writes in
       let read = reads_is (suc place) reading link.read within link.reads in
@@ -86,7 +86,7 @@ module _ (system : System) (groups : List Group) (beats : List Beat) (of : AreBe
       }
 
   pub latest_at : (place writing reading : ℕ) → suc place < length groups
-      → IsLastWriter (beat_in beats place) (beat_in beats (suc place)) writing reading
+      → IsLastWritingJob (beat_in beats place) (beat_in beats (suc place)) writing reading
       → IsLatestWriter (ideal_moments system) (group_at groups place) (group_at groups (suc place)) writing reading
   latest_at place writing reading within link = record {
     write = write_at (beat_in beats place) writing;
@@ -125,7 +125,7 @@ module _ (system : System) (groups : List Group) (beats : List Beat) (of : AreBe
       ∙ ap (λ k. write_at (beat_in beats k) (forward_job beats (first_job chain) k)) place in
       ap (λ n. n - chain.from) end ∙ ap (λ n. forward_end beats (first_job chain) - n) from
 
-  pub forward_made : (first : ℕ) (jobs : List ℕ) → AreForwardJobs beats first jobs → IsComplete beats first
+  pub forward_made : (first : ℕ) (jobs : List ℕ) → IsForwardWalk beats first jobs → IsComplete beats first
       → IsForwardChain (ideal_moments system) groups (record { from = forward_start beats first; to = forward_end beats first; jobs = jobs })
   forward_made first jobs are complete = record {
     some_group = omega (arith, of.as_many, of.are_beats.some);
@@ -156,14 +156,14 @@ module _ (system : System) (groups : List Group) (beats : List Beat) (of : AreBe
   -- ---- backward chains
 
   pub backward_is : (jobs : List ℕ) → AreBackwardLinks (ideal_moments system) groups jobs
-      → AreBackwardJobs beats (slice_index jobs (length jobs - 1)) jobs
+      → IsBackwardWalk beats (slice_index jobs (length jobs - 1)) jobs
   backward_is jobs links = record {
     as_many = links.one_a_group ∙ sym of.as_many;
     linked = λ place within. latest_is place _ _ (omega (arith, within, of.as_many)) (links.linked place (omega (arith, within, of.as_many)));
     last_is = ap (slice_index jobs) (omega (arith, links.one_a_group, of.as_many));
   }
 
-  pub backward_made : (last : ℕ) (jobs : List ℕ) → AreBackwardJobs beats last jobs → AreBackwardLinks (ideal_moments system) groups jobs
+  pub backward_made : (last : ℕ) (jobs : List ℕ) → IsBackwardWalk beats last jobs → AreBackwardLinks (ideal_moments system) groups jobs
   backward_made last jobs are = record {
     some_group = omega (arith, of.as_many, of.are_beats.some);
     one_a_group = are.as_many ∙ of.as_many;
@@ -178,7 +178,7 @@ module _ (system : System) (groups : List Group) (beats : List Beat) (of : AreBe
   same_last : length groups - 1 ≡ length beats - 1
   same_last = omega (arith, of.as_many)
 
-  last_job_is : (last : ℕ) (jobs : List ℕ) → AreBackwardJobs beats last jobs → slice_index jobs (length jobs - 1) ≡ last
+  last_job_is : (last : ℕ) (jobs : List ℕ) → IsBackwardWalk beats last jobs → slice_index jobs (length jobs - 1) ≡ last
   last_job_is last jobs back = ap (slice_index jobs) (omega (arith, back.as_many)) ∙ back.last_is
 
   -- the moment at which the last group writes
@@ -197,7 +197,7 @@ module _ (system : System) (groups : List Group) (beats : List Beat) (of : AreBe
   last_reads_is job tick at = reads_is (length groups - 1) job tick last_within at ∙ ap (λ k. read_at (beat_in beats k) job) same_last
 
   -- the backward chain of a last job, by its age and by its reduced age
-  pub age_made : (last : ℕ) (jobs : List ℕ) → AreBackwardJobs beats last jobs
+  pub age_made : (last : ℕ) (jobs : List ℕ) → IsBackwardWalk beats last jobs
       → IsAgeChain (ideal_moments system) groups
       (record { from = read_at (beat_in beats 0) (slice_index jobs 0); to = write_at (last_beat beats) (last + 1); jobs = jobs })
   age_made last jobs back = record {
@@ -206,7 +206,7 @@ module _ (system : System) (groups : List Group) (beats : List Beat) (of : AreBe
     to = subst (λ job. writes (length groups - 1) (job + 1) (write_at (last_beat beats) (last + 1))) (sym (last_job_is last jobs back)) (last_writes (last + 1));
   }
 
-  pub reduced_made : (last : ℕ) (jobs : List ℕ) → AreBackwardJobs beats last jobs
+  pub reduced_made : (last : ℕ) (jobs : List ℕ) → IsBackwardWalk beats last jobs
       → IsReducedChain (ideal_moments system) groups
       (record { from = read_at (beat_in beats 0) (slice_index jobs 0); to = write_at (last_beat beats) last; jobs = jobs })
   reduced_made last jobs back = record {
@@ -215,7 +215,7 @@ module _ (system : System) (groups : List Group) (beats : List Beat) (of : AreBe
     to = subst (λ job. writes (length groups - 1) job (write_at (last_beat beats) last)) (sym (last_job_is last jobs back)) (last_writes last);
   }
 
-  pub age_back : (chain : JobChain) → IsAgeChain (ideal_moments system) groups chain → AreBackwardJobs beats (last_job chain) chain.jobs
+  pub age_back : (chain : JobChain) → IsAgeChain (ideal_moments system) groups chain → IsBackwardWalk beats (last_job chain) chain.jobs
   age_back chain complete = backward_is chain.jobs complete.links
 
   pub age_length : (chain : JobChain) → IsAgeChain (ideal_moments system) groups chain
@@ -225,7 +225,7 @@ module _ (system : System) (groups : List Group) (beats : List Beat) (of : AreBe
       let to = last_writes_is (last_job chain + 1) chain.to complete.to in
       ap (λ n. n - chain.from) to ∙ ap (λ n. write_at (last_beat beats) (last_job chain + 1) - n) from
 
-  pub reduced_back : (chain : JobChain) → IsReducedChain (ideal_moments system) groups chain → AreBackwardJobs beats (last_job chain) chain.jobs
+  pub reduced_back : (chain : JobChain) → IsReducedChain (ideal_moments system) groups chain → IsBackwardWalk beats (last_job chain) chain.jobs
   reduced_back chain complete = backward_is chain.jobs complete.links
 
   -- a reduced age is a period less than the age

@@ -1,22 +1,20 @@
--- The jobs of a forward chain: they rise with the first job, and each reads at or after the one before it, and soon after it.
+-- The jobs of a forward chain: they rise with the first job, and each reads at or after the one before it, and soon
+-- after it.
 use Rattle.std.proofs.Common.{◌≡◌, ℕ, zero, suc, ◌+◌, ◌-◌, ◌*◌, ◌<◌, ◌≤◌, List, length, arith}
 use Rattle.cl_exact.specs.declared.beat.Beat.{Beat}
 use Rattle.cl_exact.specs.Inner.Beats.{AreBeats, beat_in, read_at, forward_job, forward_write, forward_start, forward_end, reaction_of}
-use Rattle.cl_exact.proofs.BeatFacts.{reads_rise, reader_after, reader_rises, reader_soon}
+use Rattle.cl_exact.proofs.BeatFacts.{reads_rise, reader_after, reader_rises, reader_soon, some_period}
 
 -- how much later than its write a hop's next write lies at most
 abbrev pub HOP : ℕ
 HOP = 3000000000000
 
 module _ (beats : List Beat) (are : AreBeats beats) where
-  some_period : (place : ℕ) → place < length beats → 1 ≤ (beat_in beats place).period
-  some_period place within = (are.each place within).some_period
-
   -- they rise with the first job
   pub jobs_rise : (m n place : ℕ) → place < length beats → m ≤ n → forward_job beats m place ≤ forward_job beats n place
   jobs_rise m n zero within le = le
   jobs_rise m n (suc place) within le =
-      reader_rises (beat_in beats (suc place)) (some_period (suc place) within) (forward_write beats m place) (forward_write beats n place)
+      reader_rises (beat_in beats (suc place)) (some_period beats are (suc place) within) (forward_write beats m place) (forward_write beats n place)
       (omega (arith, reads_rise (beat_in beats place) _ _ (jobs_rise m n place (omega arith) le)))
 
   pub writes_rise : (m n place : ℕ) → place < length beats → m ≤ n → forward_write beats m place ≤ forward_write beats n place
@@ -29,7 +27,7 @@ module _ (beats : List Beat) (are : AreBeats beats) where
       omega (
         arith,
         reads_after m place (omega arith),
-        reader_after (beat_in beats (suc place)) (some_period (suc place) within) (forward_write beats m place),
+        reader_after (beat_in beats (suc place)) (some_period beats are (suc place) within) (forward_write beats m place),
       )
 
   -- and writes soon after it

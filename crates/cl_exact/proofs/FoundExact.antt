@@ -58,9 +58,6 @@ module _ (system : System) (groups : List Group) (beats : List Beat) (of : AreBe
   some_group : 0 < length groups
   some_group = omega (arith, of.as_many, of.are_beats.some)
 
-  last_place : length beats - 1 < length beats
-  last_place = omega (arith, of.are_beats.some)
-
   -- ---- the reaction
 
   module _ (latest first : ℕ) (is_latest : IsLatestSecond beats latest) (first_is : first ≡ first_reader (beat_in beats 0) latest) where

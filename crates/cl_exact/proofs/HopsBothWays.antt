@@ -1,4 +1,5 @@
--- Over moments in order an earliest reader is at or before a job exactly where its writer is at or before that job's latest.
+-- Over moments in order an earliest reader is at or before a job exactly where its writer is at or before that job's
+-- latest.
 use Rattle.std.proofs.Common.{◌≡◌, ℕ, zero, suc, ◌-◌, ◌<◌, ◌≤◌, ◌↔◌, List, length, ap, subst, arith, inl, inr}
 use Rattle.std.specs.Prelude.{slice_index}
 use Rattle.std.proofs.lemmas.Bool.{cases_lt}

@@ -25,3 +25,5 @@ pub mod RunMultiples
 pub mod RunShifts
 pub mod RunExact
 pub mod SomeExact
+pub mod SameArrivals
+pub mod SteadyJobs

@@ -18,14 +18,14 @@ use Rattle.cl_model.specs.Groups.{no_group, group_at, groups_at, IsGroupOf}
 use Rattle.cl_model.specs.Ranges.{IsKindInRange}
 use Rattle.cl_model.specs.Timing.{least_distance}
 use Rattle.cl_model.specs.Validity.{IsValid}
+use Rattle.cl_model.specs.Kinds.{is_timed, is_periodic}
 use Rattle.cl_model.proofs.ValidTasks.{kind_in_range, early_enough, released_before}
 use Rattle.cl_model.proofs.GroupFacts.{groups_at_are, groups_at_some, groups_at_few}
 use Rattle.cl_runs.specs.TaskTiming.{Timing, System, timing_at}
 use Rattle.cl_runs.specs.SystemOf.{system_of}
 use Rattle.cl_runs.proofs.ModelSystem.{timing_is}
-use Rattle.cl_comm.specs.AccessMoments.{is_timed}
 use Rattle.cl_exact.specs.declared.beat.Beat.{Beat}
-use Rattle.cl_exact.specs.TimedPeriodic.{is_periodic, is_timed_periodic_task, are_timed_periodic, is_timed_periodic_chain}
+use Rattle.cl_exact.specs.TimedPeriodic.{is_timed_periodic_task, are_timed_periodic, is_timed_periodic_chain}
 use Rattle.cl_exact.specs.Inner.Beats.{no_beat, beat_in, IsBeat, IsBeatOf, AreBeatsOf}
 
 -- groups of a model whose tasks are all timed and periodic: at least one, and no more than a chain may have

@@ -1,4 +1,5 @@
--- The exact lengths of groups of a valid model whose tasks are all timed and periodic: there are some, and they are tied.
+-- The exact lengths of groups of a valid model whose tasks are all timed and periodic: there are some, and they are
+-- tied.
 use Rattle.std.proofs.Common.{◌≡◌, ℕ, zero, suc, ◌+◌, ◌-◌, ◌<◌, ◌≤◌, true, List, [], ◌∷◌, ◌++◌, length, refl, subst, arith, inl, inr}
 use Rattle.std.specs.Prelude.{slice_index}
 use Rattle.cl_model.specs.declared.model.SystemModel.{SystemModel}
@@ -8,12 +9,13 @@ use Rattle.cl_model.specs.declared.stimulus.StimulusKind.TheVariants.{Periodic, 
 use Rattle.cl_model.specs.ByNumber.{stimulus_of, deadline_of}
 use Rattle.cl_model.specs.Groups.{no_group, group_at, groups_at}
 use Rattle.cl_model.specs.Validity.{IsValid}
+use Rattle.cl_model.specs.Kinds.{is_periodic}
 use Rattle.cl_runs.specs.TaskTiming.{System}
 use Rattle.cl_runs.specs.SystemOf.{system_of}
 use Rattle.cl_exact.specs.declared.beat.Beat.{Beat}
 use Rattle.cl_exact.specs.declared.scan.Greatest.{Greatest}
 use Rattle.cl_exact.specs.declared.witness.Witness.{Witness}
-use Rattle.cl_exact.specs.TimedPeriodic.{is_periodic, is_timed_periodic_chain}
+use Rattle.cl_exact.specs.TimedPeriodic.{is_timed_periodic_chain}
 use Rattle.cl_exact.specs.ExactLengths.{Witnesses, AreExactLengths}
 use Rattle.cl_exact.specs.Ties.{AreTied, HasExactLengths}
 use Rattle.cl_exact.specs.Inner.Beats.{AreBeatsOf, beat_in, read_at, write_at, first_reader, forward_job, forward_start, forward_end}

@@ -6,19 +6,16 @@ use Rattle.cl_exact.specs.declared.beat.Beat.{Beat}
 use Rattle.cl_exact.specs.Inner.Beats.{AreBeats, beat_in, read_at, first_reader, forward_job, reaction_of}
 use Rattle.cl_exact.specs.Inner.Blocks.{EARLY}
 use Rattle.cl_exact.specs.Inner.Scans.{IsFirstWith}
-use Rattle.cl_exact.specs.Inner.Walks.{AreBackwardJobs, start_up_of}
+use Rattle.cl_exact.specs.Inner.Walks.{IsBackwardWalk, start_up_of}
 use Rattle.cl_exact.specs.Inner.Found.{last_beat, IsGreatestReaction, age_of, IsOldest, MOST_HYPERPERIOD}
-use Rattle.cl_exact.proofs.BeatFacts.{reads_rise, reader_least}
+use Rattle.cl_exact.proofs.BeatFacts.{reads_rise, reader_least, last_place}
 use Rattle.cl_exact.proofs.ForwardJobs.{HOP, jobs_rise, writes_soon, reaction_some}
 use Rattle.cl_exact.proofs.ReactionAge.{begins_before, passes_before, complete_after, ends_after, age_at_most, ends_with_next, age_at_least, reads_before_last}
 use Rattle.cl_exact.proofs.StartUps.{last_steady_late, last_steady_soon}
 
 module _ (beats : List Beat) (are : AreBeats beats) (count age : ℕ) (greatest : IsGreatestReaction beats count age) where
-  last_place : length beats - 1 < length beats
-  last_place = omega (arith, are.some)
-
   -- no age is greater
-  pub age_within : (last : ℕ) (jobs : List ℕ) → AreBackwardJobs beats last jobs → age_of beats last jobs ≤ age
+  pub age_within : (last : ℕ) (jobs : List ℕ) → IsBackwardWalk beats last jobs → age_of beats last jobs ≤ age
   age_within last jobs back =
       omega (
         arith,
@@ -27,7 +24,7 @@ module _ (beats : List Beat) (are : AreBeats beats) (count age : ℕ) (greatest 
       )
 
   -- where a chain has it, so has the forward chain from the next first job, which ends with the next last job
-  next_has : (last : ℕ) (jobs : List ℕ) → AreBackwardJobs beats last jobs → age_of beats last jobs ≡ age
+  next_has : (last : ℕ) (jobs : List ℕ) → IsBackwardWalk beats last jobs → age_of beats last jobs ≡ age
       → reaction_of beats (slice_index jobs 0 + 1) ≡ age
   next_has last jobs back is =
       omega (
@@ -37,13 +34,13 @@ module _ (beats : List Beat) (are : AreBeats beats) (count age : ℕ) (greatest 
         greatest.above_all (slice_index jobs 0 + 1) (complete_after beats are last jobs back (slice_index jobs 0 + 1) (omega arith)),
       )
 
-  next_ends : (last : ℕ) (jobs : List ℕ) → AreBackwardJobs beats last jobs → age_of beats last jobs ≡ age
+  next_ends : (last : ℕ) (jobs : List ℕ) → IsBackwardWalk beats last jobs → age_of beats last jobs ≡ age
       → forward_job beats (slice_index jobs 0 + 1) (length beats - 1) ≡ last + 1
   next_ends last jobs back is =
       let has = next_has last jobs back is in
       ends_with_next beats are last jobs back (omega (arith, has, is)) (omega (arith, has, is, reaction_some beats are (slice_index jobs 0 + 1)))
 
-  module _ (start : ℕ) (walk : List ℕ) (start_is : start ≡ first_reader (last_beat beats) (start_up_of beats)) (back : AreBackwardJobs beats start walk)
+  module _ (start : ℕ) (walk : List ℕ) (start_is : start ≡ first_reader (last_beat beats) (start_up_of beats)) (back : IsBackwardWalk beats start walk)
       (next : ℕ) (first_with : IsFirstWith beats (slice_index walk 0 + 1) count age next) where
     abbrev end : ℕ
     end = forward_job beats next (length beats - 1)
@@ -52,11 +49,11 @@ module _ (beats : List Beat) (are : AreBeats beats) (count age : ℕ) (greatest 
     ends_late = ends_after beats are start walk back next (omega (arith, first_with.not_before))
 
     -- a chain of a later last job that has the age follows no earlier forward chain
-    no_earlier : (other : ℕ) (jobs : List ℕ) → start ≤ other → AreBackwardJobs beats other jobs → age_of beats other jobs ≡ age
+    no_earlier : (other : ℕ) (jobs : List ℕ) → start ≤ other → IsBackwardWalk beats other jobs → age_of beats other jobs ≡ age
         → end ≤ other + 1
     no_earlier other jobs later other_back is =
-        let passes = passes_before beats are start walk back (slice_index walk 0) (length beats - 1) last_place (omega arith) in
-        let begins = begins_before beats are other jobs other_back (slice_index walk 0) (length beats - 1) last_place
+        let passes = passes_before beats are start walk back (slice_index walk 0) (length beats - 1) (last_place beats are) (omega arith) in
+        let begins = begins_before beats are other jobs other_back (slice_index walk 0) (length beats - 1) (last_place beats are)
         (omega (arith, passes, back.last_is, other_back.last_is, later)) in
         let has = next_has other jobs other_back is in
         let first : next ≤ slice_index jobs 0 + 1 = elim (cases_lt (slice_index jobs 0 + 1) next) [
@@ -65,7 +62,7 @@ module _ (beats : List Beat) (are : AreBeats beats) (count age : ℕ) (greatest 
         ] in
         omega (
           arith,
-          jobs_rise beats are next (slice_index jobs 0 + 1) (length beats - 1) last_place first,
+          jobs_rise beats are next (slice_index jobs 0 + 1) (length beats - 1) (last_place beats are) first,
           next_ends other jobs other_back is,
         )
 
@@ -88,7 +85,7 @@ module _ (beats : List Beat) (are : AreBeats beats) (count age : ℕ) (greatest 
               let later : start ≤ other = omega (
                 arith,
                 start_is,
-                reader_least (last_beat beats) (are.each (length beats - 1) last_place).some_period (start_up_of beats) other late,
+                reader_least (last_beat beats) (are.each (length beats - 1) (last_place beats are)).some_period (start_up_of beats) other late,
               ) in
               omega (arith, no_earlier other jobs later other_back is);
         }
@@ -99,12 +96,12 @@ module _ (beats : List Beat) (are : AreBeats beats) (count age : ℕ) (greatest 
       arith,
       near,
       are.few,
-      writes_soon beats are next (length beats - 1) last_place,
+      writes_soon beats are next (length beats - 1) (last_place beats are),
       reads_rise (last_beat beats) (end - 1) end (omega arith),
     )
 
 -- a hyperperiod of first jobs from a backward chain on reads early
-pub early_block : (beats : List Beat) → AreBeats beats → (start : ℕ) (walk : List ℕ) (count : ℕ) → AreBackwardJobs beats start walk
+pub early_block : (beats : List Beat) → AreBeats beats → (start : ℕ) (walk : List ℕ) (count : ℕ) → IsBackwardWalk beats start walk
     → start ≡ first_reader (last_beat beats) (start_up_of beats) → count * (beat_in beats 0).period ≤ MOST_HYPERPERIOD
     → read_at (beat_in beats 0) (slice_index walk 0 + 1 + count) + 64 * HOP ≤ EARLY
 early_block beats are start walk count back is few =

@@ -5,19 +5,16 @@ use Rattle.std.specs.Prelude.{slice_index}
 use Rattle.std.proofs.lemmas.Bool.{cases_lt}
 use Rattle.cl_exact.specs.declared.beat.Beat.{Beat}
 use Rattle.cl_exact.specs.Inner.Beats.{AreBeats, beat_in, read_at, write_at, forward_job, forward_write, reaction_of}
-use Rattle.cl_exact.specs.Inner.Walks.{AreBackwardJobs}
+use Rattle.cl_exact.specs.Inner.Walks.{IsBackwardWalk}
 use Rattle.cl_exact.specs.Inner.Found.{last_beat, IsComplete, age_of}
-use Rattle.cl_exact.proofs.BeatFacts.{reads_rise, reader_after, reader_least, next_read}
+use Rattle.cl_exact.proofs.BeatFacts.{reads_rise, reader_after, reader_least, next_read, some_period, last_place}
 
-module _ (beats : List Beat) (are : AreBeats beats) (last : ℕ) (jobs : List ℕ) (back : AreBackwardJobs beats last jobs) where
-  some_period : (place : ℕ) → place < length beats → 1 ≤ (beat_in beats place).period
-  some_period place within = (are.each place within).some_period
-
+module _ (beats : List Beat) (are : AreBeats beats) (last : ℕ) (jobs : List ℕ) (back : IsBackwardWalk beats last jobs) where
   -- where a forward chain passes a backward chain at or before its job, it begins at or before its first
   pub begins_before : (first place : ℕ) → place < length beats → forward_job beats first place ≤ slice_index jobs place → first ≤ slice_index jobs 0
   begins_before first zero within le = le
   begins_before first (suc place) within le =
-      let after = reader_after (beat_in beats (suc place)) (some_period (suc place) within) (forward_write beats first place) in
+      let after = reader_after (beat_in beats (suc place)) (some_period beats are (suc place) within) (forward_write beats first place) in
       let before = reads_rise (beat_in beats (suc place)) (forward_job beats first (suc place)) (slice_index jobs (suc place)) le in
       begins_before first place (omega (arith, within)) ((back.linked place within).greatest (forward_job beats first place) (omega (arith, after, before)))
 
@@ -28,17 +25,14 @@ module _ (beats : List Beat) (are : AreBeats beats) (last : ℕ) (jobs : List �
       let so_far = passes_before first place (omega (arith, within)) le in
       let link = back.linked place within in
       let writes = reads_rise (beat_in beats place) (forward_job beats first place) (slice_index jobs place) so_far in
-      reader_least (beat_in beats (suc place)) (some_period (suc place) within) (forward_write beats first place) (slice_index jobs (suc place))
+      reader_least (beat_in beats (suc place)) (some_period beats are (suc place) within) (forward_write beats first place) (slice_index jobs (suc place))
       (omega (arith, link.before, writes))
-
-  last_place : length beats - 1 < length beats
-  last_place = omega (arith, are.some)
 
   -- a chain that ends after the last job begins after the first
   pub begins_after : (first : ℕ) → last < forward_job beats first (length beats - 1) → slice_index jobs 0 < first
   begins_after first later = elim (cases_lt (slice_index jobs 0) first) [
     | inl after ↦ after
-    | inr before ↦ absurd (omega (arith, passes_before first (length beats - 1) last_place before, back.last_is, later))
+    | inr before ↦ absurd (omega (arith, passes_before first (length beats - 1) (last_place beats are) before, back.last_is, later))
   ]
 
   -- and the other way round: it passes each job of the backward chain after it
@@ -53,7 +47,7 @@ module _ (beats : List Beat) (are : AreBeats beats) (last : ℕ) (jobs : List �
   complete_after first after place within = omega (arith, passes_after first place within after)
 
   pub ends_after : (first : ℕ) → slice_index jobs 0 < first → last < forward_job beats first (length beats - 1)
-  ends_after first after = omega (arith, passes_after first (length beats - 1) last_place after, back.last_is)
+  ends_after first after = omega (arith, passes_after first (length beats - 1) (last_place beats are) after, back.last_is)
 
   -- the age of the chain is at most the reaction of the forward chain from the next first job
   pub age_at_most : age_of beats last jobs ≤ reaction_of beats (slice_index jobs 0 + 1)
@@ -79,7 +73,7 @@ module _ (beats : List Beat) (are : AreBeats beats) (last : ℕ) (jobs : List �
         | inl more ↦
             let next = next_read (last_beat beats) (last + 1) in
             let far = reads_rise (last_beat beats) (suc (last + 1)) job more in
-            absurd (omega (arith, far, next, some_period (length beats - 1) last_place, ap (read_at (beat_in beats 0)) same, le, some))
+            absurd (omega (arith, far, next, some_period beats are (length beats - 1) (last_place beats are), ap (read_at (beat_in beats 0)) same, le, some))
         | inr less ↦ omega (arith, ends, less)
       ]
 
@@ -99,4 +93,4 @@ module _ (beats : List Beat) (are : AreBeats beats) (last : ℕ) (jobs : List �
   reads_before (suc place) within = omega (arith, reads_before place (omega (arith, within)), (back.linked place within).before)
 
   pub reads_before_last : read_at (beat_in beats 0) (slice_index jobs 0) ≤ read_at (last_beat beats) last
-  reads_before_last = omega (arith, reads_before (length beats - 1) last_place, ap (read_at (last_beat beats)) back.last_is)
+  reads_before_last = omega (arith, reads_before (length beats - 1) (last_place beats are), ap (read_at (last_beat beats)) back.last_is)

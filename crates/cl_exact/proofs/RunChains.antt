@@ -1,5 +1,5 @@
--- The complete chains of a run in which groups read and write at their ideal moments until the end: they are the complete
--- chains over the ideal moments that end within the run.
+-- The complete chains of a run in which groups read and write at their ideal moments until the end: they are the
+-- complete chains over the ideal moments that end within the run.
 use Rattle.std.proofs.Common.{◌≡◌, ℕ, zero, suc, ◌+◌, ◌-◌, ◌<◌, ◌≤◌, inl, inr, List, length, subst, arith}
 use Rattle.std.specs.Prelude.{slice_index, All}
 use Rattle.std.proofs.lemmas.Bool.{cases_lt}

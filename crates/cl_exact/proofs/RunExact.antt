@@ -1,5 +1,5 @@
--- The exact lengths of a settled timed chain are the greatest over all legal runs, and each witness is a complete chain of
--- each legal run that lasts to its end.
+-- The exact lengths of a settled timed chain are the greatest over all legal runs, and each witness is a complete chain
+-- of each legal run that lasts to its end.
 use Rattle.std.proofs.Common.{◌≡◌, ℕ, ◌+◌, ◌-◌, ◌<◌, ◌≤◌, true, List, length, refl, sym, subst, arith}
 use Rattle.std.specs.Prelude.{All}
 use Rattle.std.proofs.lemmas.List.Sums.{get_or-le-sum_by}

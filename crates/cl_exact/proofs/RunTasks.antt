@@ -1,29 +1,27 @@
 -- The groups of a settled timed chain, and the groups of a valid model that are such.
-use Rattle.std.proofs.Common.{◌≡◌, ℕ, ◌<◌, true, List, length, refl, sym, ap, ◌∙◌, arith}
+use Rattle.std.proofs.Common.{◌≡◌, ℕ, ◌<◌, true, List, length, refl, sym, arith}
 use Rattle.std.specs.Prelude.{slice_index_or, All}
 use Rattle.std.specs.List.{AllPass}
 use Rattle.std.proofs.lemmas.Bool.{and_parts, true≢false}
 use Rattle.std.proofs.lemmas.List.Elements.{All-weaker}
 use Rattle.std.proofs.lemmas.List.Sums.{AllPass-from_list_all}
-use Rattle.std.proofs.Math.ListN.{length-map}
 use Rattle.cl_model.specs.declared.group.Group.{Group}
 use Rattle.cl_model.specs.declared.model.SystemModel.{SystemModel}
 use Rattle.cl_model.specs.declared.stimulus.StimulusKind.{StimulusKind}
 use Rattle.cl_model.specs.declared.stimulus.StimulusKind.TheVariants.{Periodic, Sporadic, Burst}
 use Rattle.cl_model.specs.declared.task.AccessKind.{AccessKind}
 use Rattle.cl_model.specs.declared.task.AccessKind.TheVariants.{Explicit, Implicit, Timed}
-use Rattle.cl_model.specs.ByNumber.{task_at}
 use Rattle.cl_model.specs.Groups.{groups_at, IsGroupOf}
 use Rattle.cl_model.specs.Timing.{least_distance, greatest_jitter}
 use Rattle.cl_model.specs.Validity.{IsValid}
+use Rattle.cl_model.specs.Kinds.{is_timed, is_periodic}
 use Rattle.cl_model.proofs.GroupFacts.{groups_at_are}
 use Rattle.cl_runs.specs.TaskTiming.{Timing, System, timing_at}
 use Rattle.cl_runs.specs.Pattern.{first_least}
-use Rattle.cl_runs.specs.SystemOf.{range_of, system_of}
+use Rattle.cl_runs.specs.SystemOf.{system_of}
 use Rattle.cl_runs.specs.MomentOrder.{AreGroupsOf}
-use Rattle.cl_runs.proofs.ModelSystem.{timing_is}
-use Rattle.cl_comm.specs.AccessMoments.{is_timed}
-use Rattle.cl_exact.specs.TimedPeriodic.{is_periodic, is_timed_periodic_task, are_timed_periodic, is_timed_periodic_chain}
+use Rattle.cl_runs.proofs.ModelSystem.{range_count_is}
+use Rattle.cl_exact.specs.TimedPeriodic.{is_timed_periodic_task, are_timed_periodic, is_timed_periodic_chain}
 use Rattle.cl_exact.specs.RunPromises.{HaveResponses, HasItsRunnables, IsSettledTimedChain}
 use Rattle.cl_exact.proofs.RunMoments.{IsIdealGroup}
 
@@ -65,12 +63,9 @@ module _ (system : System) (groups : List Group) (chain : IsSettledTimedChain sy
 
 -- ---- groups of a model
 
-ranges_are : (model : SystemModel) (i : ℕ) → i < length model.tasks → length (timing_at (system_of model) i).ranges ≡ length (task_at model i).runnables
-ranges_are model i h = ap (λ (timing : Timing). length timing.ranges) (timing_is model i h) ∙ length-map (task_at model i).runnables range_of
-
 has_its_runnables : (model : SystemModel) (group : Group) → IsGroupOf model group → HasItsRunnables (system_of model) group
 has_its_runnables model group is =
-    let same = ranges_are model group.task is.known in
+    let same = range_count_is model group.task is.known in
     record { first = omega (arith, same, is.ordered, is.within); last = omega (arith, same, is.within) }
 
 -- groups of a model whose tasks are all timed and periodic, and none of them late, are a settled timed chain

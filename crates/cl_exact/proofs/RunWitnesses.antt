@@ -1,5 +1,5 @@
--- A complete chain over the ideal moments is one of each run in which groups read and write at their ideal moments until the
--- end, and which lasts until the chain is complete.
+-- A complete chain over the ideal moments is one of each run in which groups read and write at their ideal moments
+-- until the end, and which lasts until the chain is complete.
 use Rattle.std.proofs.Common.{◌≡◌, ℕ, suc, ◌+◌, ◌-◌, ◌<◌, ◌≤◌, inl, inr, List, length, subst, arith}
 use Rattle.std.specs.Prelude.{slice_index, All}
 use Rattle.std.proofs.lemmas.Bool.{cases_lt}

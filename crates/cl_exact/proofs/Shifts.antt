@@ -1,4 +1,5 @@
--- Forward chains repeat after each common multiple of the periods, so the greatest reaction over one is the greatest over all.
+-- Forward chains repeat after each common multiple of the periods, so the greatest reaction over one is the greatest
+-- over all.
 use Rattle.std.proofs.Common.{◌≡◌, ℕ, zero, suc, ◌+◌, ◌-◌, ◌*◌, ◌/◌, ◌%◌, ◌<◌, ◌≤◌, List, length, sym, ap, ◌∙◌, arith, inl, inr}
 use Rattle.std.proofs.lemmas.Bool.{cases_lt}
 use Rattle.std.proofs.Math.Nat.{div-mul_cancel, mul-le-mul_right}
@@ -8,7 +9,7 @@ use Rattle.cl_exact.specs.Inner.Beats.{AreBeats, beat_in, read_at, write_at, fir
 use Rattle.cl_exact.specs.Inner.Periods.{IsMultipleOfFirst}
 use Rattle.cl_exact.specs.Inner.Scans.{IsGreatestOf}
 use Rattle.cl_exact.specs.Inner.Found.{IsComplete, IsGreatestReaction}
-use Rattle.cl_exact.proofs.BeatFacts.{reads_rise_back, reader_is, reader_after, reader_least}
+use Rattle.cl_exact.proofs.BeatFacts.{reads_rise_back, reader_is, reader_after, reader_least, some_period, last_place}
 use Rattle.cl_exact.proofs.ForwardJobs.{jobs_rise}
 
 -- a later moment by so many periods has a first reader that is so many jobs later, but for the very first
@@ -34,9 +35,6 @@ module _ (beats : List Beat) (are : AreBeats beats) (ticks : ℕ) (multiple : Is
   pub whole_turns : (place : ℕ) → place < length beats → turns_of place * (beat_in beats place).period ≡ ticks
   whole_turns place within = div-mul_cancel (beat_in beats place).period (multiple place within within)
 
-  some_period : (place : ℕ) → place < length beats → 1 ≤ (beat_in beats place).period
-  some_period place within = (are.each place within).some_period
-
   -- so many first jobs later, each job is so many later too
   jobs_shift : (first place : ℕ) → place < length beats → IsComplete beats first
       → forward_job beats (first + turns_of 0) place ≡ forward_job beats first place + turns_of place
@@ -46,18 +44,15 @@ module _ (beats : List Beat) (are : AreBeats beats) (ticks : ℕ) (multiple : Is
       let shifted : forward_write beats (first + turns_of 0) place ≡ forward_write beats first place + ticks =
       ap (write_at (beat_in beats place)) (jobs_shift first place before complete) ∙ omega (arith, whole_turns place before) in
       ap (first_reader (beat_in beats (suc place))) shifted
-      ∙ reader_shifts (beat_in beats (suc place)) (forward_write beats first place) (turns_of (suc place)) ticks (some_period (suc place) within)
+      ∙ reader_shifts (beat_in beats (suc place)) (forward_write beats first place) (turns_of (suc place)) ticks (some_period beats are (suc place) within)
       (whole_turns (suc place) within) (complete (suc place) within)
-
-  last : length beats - 1 < length beats
-  last = omega (arith, are.some)
 
   -- and the reaction is the same
   reaction_shifts : (first : ℕ) → IsComplete beats first → reaction_of beats (first + turns_of 0) ≡ reaction_of beats first
   reaction_shifts first complete =
       let end : forward_end beats (first + turns_of 0) ≡ forward_end beats first + ticks =
-      ap (write_at (beat_in beats (length beats - 1))) (jobs_shift first (length beats - 1) last complete)
-      ∙ omega (arith, whole_turns (length beats - 1) last) in
+      ap (write_at (beat_in beats (length beats - 1))) (jobs_shift first (length beats - 1) (last_place beats are) complete)
+      ∙ omega (arith, whole_turns (length beats - 1) (last_place beats are)) in
       let some : 1 ≤ first = complete 0 are.some in
       let next : first + turns_of 0 - 1 ≡ first - 1 + turns_of 0 = omega (arith, some) in
       let start : forward_start beats (first + turns_of 0) ≡ forward_start beats first + ticks =

@@ -6,7 +6,7 @@ use Rattle.cl_exact.specs.declared.beat.Beat.{Beat}
 use Rattle.cl_exact.specs.Inner.Beats.{AreBeats, no_beat, beat_in, read_at, first_reader, forward_job}
 use Rattle.cl_exact.specs.Inner.Walks.{start_of, start_up_of, IsLatestSecond}
 use Rattle.cl_exact.specs.Inner.Found.{last_beat, IsComplete}
-use Rattle.cl_exact.proofs.BeatFacts.{reader_after, reader_soon}
+use Rattle.cl_exact.proofs.BeatFacts.{reader_after, reader_soon, last_place}
 use Rattle.cl_exact.proofs.ForwardJobs.{HOP, reads_after}
 
 module _ (beats : List Beat) (are : AreBeats beats) where
@@ -30,13 +30,10 @@ module _ (beats : List Beat) (are : AreBeats beats) where
   start_up_soon =
       omega (arith, early_sum (length beats) (omega arith), ap start_up_of (take_all (length beats) beats (omega arith)), are.few)
 
-  last_place : length beats - 1 < length beats
-  last_place = omega (arith, are.some)
-
   -- and the first of the last jobs after it reads soon after it
   pub last_steady_soon : (job : ℕ) → job ≡ first_reader (last_beat beats) (start_up_of beats) → read_at (last_beat beats) job ≤ 65 * HOP
   last_steady_soon job is =
-      let beat = are.each (length beats - 1) last_place in
+      let beat = are.each (length beats - 1) (last_place beats are) in
       omega (
         arith,
         start_up_soon,
@@ -50,7 +47,7 @@ module _ (beats : List Beat) (are : AreBeats beats) where
   last_steady_late job is =
       omega (
         arith,
-        reader_after (last_beat beats) (are.each (length beats - 1) last_place).some_period (start_up_of beats),
+        reader_after (last_beat beats) (are.each (length beats - 1) (last_place beats are)).some_period (start_up_of beats),
         ap (read_at (last_beat beats)) is,
       )
 

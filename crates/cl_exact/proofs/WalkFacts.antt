@@ -7,12 +7,12 @@ use Rattle.std.proofs.lemmas.List.Sums.{sum_by_more, sum_by-take-le}
 use Rattle.cl_exact.specs.declared.beat.Beat.{Beat}
 use Rattle.cl_exact.specs.Inner.Beats.{AreBeats, no_beat, beat_in, read_at, write_at, last_writer}
 use Rattle.cl_exact.specs.Inner.Blocks.{EARLY}
-use Rattle.cl_exact.specs.Inner.Walks.{IsLastWriter, AreBackwardJobs, start_of, start_up_of}
+use Rattle.cl_exact.specs.Inner.Walks.{IsLastWritingJob, IsBackwardWalk, start_of, start_up_of}
 use Rattle.cl_exact.proofs.BeatFacts.{writer_before, writer_greatest, next_read}
 
 -- the last writer at or before a read
 pub last_writer_is : (writer reader : Beat) → 1 ≤ writer.period → (reading : ℕ) → writer.offset + writer.deadline ≤ read_at reader reading
-    → IsLastWriter writer reader (last_writer writer (read_at reader reading)) reading
+    → IsLastWritingJob writer reader (last_writer writer (read_at reader reading)) reading
 last_writer_is writer reader some reading late = record {
   before = writer_before writer (read_at reader reading) late;
   greatest = λ other before. writer_greatest writer some (read_at reader reading) other before;
@@ -68,11 +68,11 @@ walk_back beats are place job some within on =
 -- the links of a walk from a place on
 abbrev pub AreLinkedFrom : List Beat → (place : ℕ) → List ℕ → Type 0
 AreLinkedFrom beats from jobs = (place : ℕ) → from ≤ place → suc place < length beats
-    → IsLastWriter (beat_in beats place) (beat_in beats (suc place)) (slice_index jobs place) (slice_index jobs (suc place))
+    → IsLastWritingJob (beat_in beats place) (beat_in beats (suc place)) (slice_index jobs place) (slice_index jobs (suc place))
 
 -- one link more
 pub linked_more : (beats : List Beat) (place : ℕ) (jobs : List ℕ) (writer : ℕ) → 1 ≤ place → place < length jobs
-    → AreLinkedFrom beats place jobs → IsLastWriter (beat_in beats (place - 1)) (beat_in beats place) writer (slice_index jobs place)
+    → AreLinkedFrom beats place jobs → IsLastWritingJob (beat_in beats (place - 1)) (beat_in beats place) writer (slice_index jobs place)
     → AreLinkedFrom beats (place - 1) (set jobs (place - 1) writer)
 linked_more beats place jobs writer some room so_far link k from within =
     elim (cases_lt k place) [
@@ -81,15 +81,15 @@ linked_more beats place jobs writer some room so_far link k from within =
           let next : place ≡ suc k = omega arith in
           let written = get_or-set_same jobs (place - 1) writer 0 (omega arith) in
           let kept = get_or-set_other jobs (place - 1) place writer 0 (λ same. omega (arith, same)) in
-          subst (λ i. IsLastWriter (beat_in beats i) (beat_in beats (suc k)) (slice_index (set jobs (place - 1) writer) i) (slice_index (set jobs (place - 1) writer) (suc k))) here
-          (subst (λ i. IsLastWriter (beat_in beats (place - 1)) (beat_in beats i) (slice_index (set jobs (place - 1) writer) (place - 1)) (slice_index (set jobs (place - 1) writer) i)) next
-          (subst (λ w. IsLastWriter (beat_in beats (place - 1)) (beat_in beats place) w (slice_index (set jobs (place - 1) writer) place)) (sym written)
-          (subst (λ r. IsLastWriter (beat_in beats (place - 1)) (beat_in beats place) writer r) (sym kept) link)))
+          subst (λ i. IsLastWritingJob (beat_in beats i) (beat_in beats (suc k)) (slice_index (set jobs (place - 1) writer) i) (slice_index (set jobs (place - 1) writer) (suc k))) here
+          (subst (λ i. IsLastWritingJob (beat_in beats (place - 1)) (beat_in beats i) (slice_index (set jobs (place - 1) writer) (place - 1)) (slice_index (set jobs (place - 1) writer) i)) next
+          (subst (λ w. IsLastWritingJob (beat_in beats (place - 1)) (beat_in beats place) w (slice_index (set jobs (place - 1) writer) place)) (sym written)
+          (subst (λ r. IsLastWritingJob (beat_in beats (place - 1)) (beat_in beats place) writer r) (sym kept) link)))
       | inr old ↦
           let one = get_or-set_other jobs (place - 1) k writer 0 (λ same. omega (arith, same)) in
           let other = get_or-set_other jobs (place - 1) (suc k) writer 0 (λ same. omega (arith, same)) in
-          subst (λ w. IsLastWriter (beat_in beats k) (beat_in beats (suc k)) w (slice_index (set jobs (place - 1) writer) (suc k))) (sym one)
-          (subst (λ r. IsLastWriter (beat_in beats k) (beat_in beats (suc k)) (slice_index jobs k) r) (sym other) (so_far k old within))
+          subst (λ w. IsLastWritingJob (beat_in beats k) (beat_in beats (suc k)) w (slice_index (set jobs (place - 1) writer) (suc k))) (sym one)
+          (subst (λ r. IsLastWritingJob (beat_in beats k) (beat_in beats (suc k)) (slice_index jobs k) r) (sym other) (so_far k old within))
     ]
 
 -- the latest of the second arrivals, with one more group
@@ -150,22 +150,22 @@ walk_goes_on beats are place last jobs writer some is so_far =
       within = early;
       room = length-set jobs (place - 1) writer ∙ so_far.room;
       linked = linked_more beats place jobs writer some room so_far.linked
-          (subst (λ w. IsLastWriter (beat_in beats (place - 1)) (beat_in beats place) w job) (sym is) link);
+          (subst (λ w. IsLastWritingJob (beat_in beats (place - 1)) (beat_in beats place) w job) (sym is) link);
       last_is = get_or-set_other jobs (place - 1) (length beats - 1) writer 0 (λ same. omega (arith, same, so_far.within)) ∙ so_far.last_is;
       on_walk = subst (IsOnWalk beats (place - 1)) (sym (new_set ∙ is)) (walk_back beats are place job some so_far.within so_far.on_walk);
     }
 
 -- a whole walk is a backward chain, but for what stands past its end
 pub walk_ends : (beats : List Beat) → AreBeats beats → (last : ℕ) (jobs numbers : List ℕ) → IsWalked beats 0 last jobs → numbers ≡ take (length beats) jobs
-    → AreBackwardJobs beats last numbers
+    → IsBackwardWalk beats last numbers
 walk_ends beats are last jobs numbers walked are_first =
     let at : (k : ℕ) → k < length beats → slice_index numbers k ≡ slice_index jobs k = λ k below.
     ap (λ xs. slice_index xs k) are_first ∙ get_or-take (length beats) jobs k 0 below in
     record {
       as_many = ap length are_first ∙ length-take-le (length beats) jobs (omega (arith, walked.room, are.few));
       linked = λ place within.
-          subst (λ w. IsLastWriter (beat_in beats place) (beat_in beats (suc place)) w (slice_index numbers (suc place))) (sym (at place (omega (arith, within))))
-          (subst (λ r. IsLastWriter (beat_in beats place) (beat_in beats (suc place)) (slice_index jobs place) r) (sym (at (suc place) within))
+          subst (λ w. IsLastWritingJob (beat_in beats place) (beat_in beats (suc place)) w (slice_index numbers (suc place))) (sym (at place (omega (arith, within))))
+          (subst (λ r. IsLastWritingJob (beat_in beats place) (beat_in beats (suc place)) (slice_index jobs place) r) (sym (at (suc place) within))
           (walked.linked place (omega arith) within));
       last_is = at (length beats - 1) (omega (arith, are.some)) ∙ walked.last_is;
     }

@@ -1,6 +1,5 @@
 -- The exact lengths of a chain whose tasks are timed and periodic: the longest of all its job chains over the ideal
 -- moments, once all its tasks have begun. No hyperperiod plays a part in it. Times are in ticks.
--- Source: this project's profile.
 use Rattle.std.specs.Prelude.{◌≡◌, ℕ, ◌+◌, ◌≤◌, List, All, sum_by}
 use Rattle.cl_model.specs.declared.group.Group.{Group}
 use Rattle.cl_runs.specs.Pattern.{first_least}

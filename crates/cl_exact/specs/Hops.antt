@@ -1,4 +1,4 @@
--- Where a job has no writer. Source: this project's profile.
+-- Where a job has no writer.
 use Rattle.std.specs.Prelude.{ℕ, ◌≤◌}
 use Rattle.cl_model.specs.declared.group.Group.{Group}
 use Rattle.cl_runs.specs.Chains.{Moments}

@@ -1,5 +1,4 @@
 -- How far exact lengths are sought: the hyperperiod of a chain, and the limit on it. Times are in ticks.
--- Source: this project's profile.
 use Rattle.std.specs.Prelude.{ℕ, ◌*◌, ◌<◌, ◌≤◌, List, All, min}
 use Rattle.std.specs.Int.{◌∣◌}
 use Rattle.cl_model.specs.declared.group.Group.{Group}

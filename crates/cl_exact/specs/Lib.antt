@@ -2,7 +2,9 @@ pub mod TimedPeriodic
 pub mod Hyperperiod
 pub mod ExactLengths
 pub mod Ties
+pub mod SameArrivals
 pub mod Turns
+pub mod SteadyJobs
 pub mod RunPromises
 pub mod Hops
 pub mod Inner

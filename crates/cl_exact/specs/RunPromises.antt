@@ -42,7 +42,8 @@ pub record HasRead (moments : Moments) (group : Group) (job : ℕ) : Type 0 wher
   pub reads : moments.reads group job read
 
 -- in a run a group reads and writes at its ideal moments until the end: the jobs of the table are those that read, a
--- read is there exactly where the ideal one lies below the end, a write exactly where the ideal one lies at or before it
+-- read is there exactly where the ideal one lies below the end, a write exactly where the ideal one lies at or before
+-- it
 pub record IsIdealUntilTheEnd (system : System) (run : Run) (group : Group) : Type 0 where
   pub jobs : (job : ℕ) → (job < length (jobs_of run group.task)) ↔ HasRead (run_moments system run) group job
   pub reads : (job tick : ℕ) → ((run_moments system run).reads group job tick)
@@ -50,8 +51,8 @@ pub record IsIdealUntilTheEnd (system : System) (run : Run) (group : Group) : Ty
   pub writes : (job tick : ℕ) → ((run_moments system run).writes group job tick)
       ↔ ((ideal_moments system).writes group job tick × (tick ≤ run.table.ticks))
 
--- the complete chains of a run are those over the ideal moments that are complete by its end: a forward chain and one of
--- an age by the write with which they end, one of a reduced age by that of the job after the last, one period later
+-- the complete chains of a run are those over the ideal moments that are complete by its end: a forward chain and one
+-- of an age by the write with which they end, one of a reduced age by that of the job after the last, one period later
 pub record AreIdealUntilTheEnd (system : System) (groups : List Group) (run : Run) : Type 0 where
   pub forward : (chain : JobChain) → (IsForwardChain (run_moments system run) groups chain)
       ↔ (IsForwardChain (ideal_moments system) groups chain × (chain.to ≤ run.table.ticks))

@@ -1,20 +1,12 @@
--- Which chains have fixed moments: those whose tasks are all timed and periodic. Source: this project's profile.
-use Rattle.std.specs.Prelude.{ℕ, Bool, true, false, ◌&&◌, List}
+-- Which chains have fixed moments: those whose tasks are all timed and periodic.
+use Rattle.std.specs.Prelude.{ℕ, Bool, ◌&&◌, List}
 use Rattle.std.specs.List.{list_all}
 use Rattle.cl_model.specs.declared.group.Group.{Group}
 use Rattle.cl_model.specs.declared.model.SystemModel.{SystemModel}
-use Rattle.cl_model.specs.declared.stimulus.StimulusKind.{StimulusKind}
-use Rattle.cl_model.specs.declared.stimulus.StimulusKind.TheVariants.{Periodic, Sporadic, Burst}
 use Rattle.cl_model.specs.Groups.{groups_at}
+use Rattle.cl_model.specs.Kinds.{is_timed, is_periodic}
 use Rattle.cl_runs.specs.TaskTiming.{Timing, System, timing_at}
 use Rattle.cl_runs.specs.SystemOf.{system_of}
-use Rattle.cl_comm.specs.AccessMoments.{is_timed}
-
--- whether jobs arrive by one period
-abbrev pub is_periodic : StimulusKind → Bool
-is_periodic (Periodic period offset jitter) = true
-is_periodic (Sporadic least greatest) = false
-is_periodic (Burst period offset count distance) = false
 
 -- whether a task is timed and periodic
 abbrev pub is_timed_periodic_task : Timing → Bool

@@ -3,38 +3,23 @@ ghost use Rattle.std.specs.Prelude.{◌≡◌, true, ◌<◌, ◌≤◌, length,
 ghost use Rattle.cl_model.specs.declared.limits.TheConstants.{MOST_STEPS};
 ghost use Rattle.cl_model.specs.Groups.{IsGroupOf};
 ghost use Rattle.cl_model.specs.Validity.{IsValid};
+ghost use Rattle.cl_model.specs.Kinds.{is_timed, is_periodic};
 ghost use Rattle.cl_runs.specs.TaskTiming.{timing_at};
 ghost use Rattle.cl_runs.specs.SystemOf.{system_of};
-ghost use Rattle.cl_comm.specs.AccessMoments.{is_timed};
-ghost use Rattle.cl_exact.specs.TimedPeriodic.{is_periodic, is_timed_periodic_task, are_timed_periodic, is_timed_periodic_chain};
+ghost use Rattle.cl_exact.specs.TimedPeriodic.{is_timed_periodic_task, are_timed_periodic, is_timed_periodic_chain};
 ghost use Rattle.cl_exact.specs.Inner.Beats.{IsBeat, IsBeatOf, AreBeatsOf};
 
 use crate::beat::Beat;
 use arrayvec::ArrayVec;
-use cl_model::{AccessKind, Group, MOST_STEPS, StimulusKind, ValidModel};
-
-/// Whether tasks of that kind of access are timed.
-fn is_timed(access: AccessKind) -> bool
-    ensures { result ≡ is_timed access }
-{
-    matches!(access, AccessKind::Timed)
-}
-
-/// Whether jobs arrive by one period.
-fn is_periodic(kind: StimulusKind) -> bool
-    ensures { result ≡ is_periodic kind }
-{
-    matches!(kind, StimulusKind::Periodic { .. })
-}
+use cl_model::{Group, MOST_STEPS, StimulusKind, ValidModel};
 
 /// Whether a task is timed and periodic.
 fn is_timed_periodic_task(model: &ValidModel, task: u32) -> bool
     requires { task < length model.now.tasks }
     ensures { result ≡ is_timed_periodic_task (timing_at (system_of model.now) task) }
 {
-    let def = &model.plain().tasks.as_slice()[task as usize];
-    let timed = is_timed(def.access);
-    let periodic = is_periodic(model.stimulus_of(task));
+    let timed = model.task(task).access.is_timed();
+    let periodic = model.stimulus_of(task).is_periodic();
     timed && periodic
 }
 
@@ -69,9 +54,10 @@ fn beat_of(model: &ValidModel, task: u32) -> Beat
     requires periodic { is_timed_periodic_task (timing_at (system_of model.now) task) ≡ true }
     ensures of { IsBeatOf (timing_at (system_of model.now) task) result }
     ensures beat { IsBeat result }
+    ensures valid { IsValid model.now }
 {
     let kind = model.stimulus_of(task);
-    let deadline = model.plain().tasks.as_slice()[task as usize].deadline_under(kind);
+    let deadline = model.task(task).deadline_under(kind);
     let StimulusKind::Periodic { period, offset, .. } = kind else {
         unreachable!();
     };
@@ -92,7 +78,6 @@ pub(crate) fn beats_of(model: &ValidModel, groups: &[Group]) -> ArrayVec<Beat, M
     ensures valid { IsValid model.now }
 {
     let mut beats = ArrayVec::new();
-    let _ = model.plain();
     for group in groups {
         beats.push(beat_of(model, group.task));
     }

@@ -80,9 +80,12 @@ fn reduced_witness(age: &Witness, period: u64) -> Witness
     }
 }
 
-/// The first of the last jobs that read at or after the start-up whose backward chain has the greatest age. That is the
-/// greatest reaction, and the job after it ends the first forward chain that has it, of those that begin after the
-/// backward chain of the very first of these last jobs.
+/// The last job whose backward chain has the greatest age, which equals the greatest reaction: the least such job of
+/// those that read at or after the start-up.
+///
+/// No backward chain is walked but the very first. A forward chain with the greatest reaction ends one job after a
+/// backward chain with the greatest age. So the first forward chain is sought that has that reaction and begins later
+/// than the very first backward chain, and the job before its last one is the answer.
 fn oldest(beats: &[Beat], count: u64, age: u64) -> u64
     requires beats { AreBeats beats.now }
     requires few { count * (beat_in beats.now 0).period ≤ MOST_HYPERPERIOD }
@@ -115,17 +118,18 @@ fn exact_lengths(beats: &[Beat], hyperperiod: u64) -> ExactLengths
     }
 }
 
-/// The exact reaction, age and reduced age of groups of a valid model that follow each other, a chain of it or a part of
-/// one, whose tasks are all timed and periodic, each with a witness: the longest of all their job chains over the ideal
-/// moments, once all their tasks have begun, and among equals the one of the least first job, or last job for an age.
+/// The exact reaction, age and reduced age of groups of a valid model that follow each other, a chain of it or a part
+/// of one, whose tasks are all timed and periodic, each with a witness: the longest of all their job chains over the
+/// ideal moments, once all their tasks have begun, and among equals the one of the least first job, or last job for an
+/// age.
 ///
-/// The reaction equals the age, and the reduced age is the age less the last period, with the same jobs. Where none of the
-/// tasks is late, each legal run reads and writes at the ideal moments until its end, no complete chain of it is longer,
-/// and each witness is a complete chain of each run that lasts to its end.
+/// The reaction equals the age, and the reduced age is the age less the last period, with the same jobs. Where none of
+/// the tasks is late, each legal run reads and writes at the ideal moments until its end, no complete chain of it is
+/// longer, and each witness is a complete chain of each run that lasts to its end.
 ///
-/// `HyperLimit` comes exactly where the hyperperiod of the groups exceeds the limit, which it carries. It counts one step
-/// and takes no memory. Its time grows with the number of first jobs in the hyperperiod, at most a million, times the number
-/// of groups.
+/// `HyperLimit` comes exactly where the hyperperiod of the groups exceeds the limit, which it carries. It counts one
+/// step and takes no memory. Its time grows with the number of first jobs in the hyperperiod, at most a million, times
+/// the number of groups.
 pub fn exact_of_groups<L: Ledger>(
     model: &ValidModel,
     groups: &[Group],
@@ -156,17 +160,7 @@ pub fn exact_of_groups<L: Ledger>(
     }
 }
 
-/// The exact reaction, age and reduced age of a chain whose tasks are all timed and periodic, each with a witness: the
-/// longest of all its job chains over the ideal moments, once all its tasks have begun, and among equals the one of the
-/// least first job, or last job for an age.
-///
-/// The reaction equals the age, and the reduced age is the age less the last period, with the same jobs. Where none of the
-/// chain's tasks is late, each legal run reads and writes at the ideal moments until its end, no complete chain of it is
-/// longer, and each witness is a complete chain of each run that lasts to its end.
-///
-/// `HyperLimit` comes exactly where the hyperperiod of the chain exceeds the limit, which it carries. It counts one step
-/// and takes no memory. Its time grows with the number of first jobs in the hyperperiod, at most a million, times the number
-/// of groups.
+/// The exact lengths of a chain of a valid model, given by its number: `exact_of_groups` of its groups.
 pub fn exact<L: Ledger>(
     model: &ValidModel,
     chain: u32,

@@ -22,9 +22,9 @@ fn next_read(reader: &Beat, read: u64, moment: u64) -> u64
     }
 }
 
-/// Goes on from the writes of a group to those of the next: each moment becomes the write of the reader's first job that
-/// reads at or after it. The moments never fall, so one walk along them serves, which divides only where a moment lies
-/// beyond the next read.
+/// Goes on from the writes of a group to those of the next: each moment becomes the write of the reader's first job
+/// that reads at or after it. The moments never fall, so one walk along them serves, which divides only where a moment
+/// lies beyond the next read.
 pub(crate) fn hop(moments: &mut [u64], reader: &Beat)
     requires beat { IsBeat reader.now }
     requires rising { AreRising moments.old }

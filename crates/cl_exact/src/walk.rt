@@ -2,7 +2,7 @@
 ghost use Rattle.std.specs.Prelude.{◌≡◌, ◌≤◌, length};
 ghost use Rattle.cl_exact.specs.Inner.Beats.{AreBeats, beat_in, read_at};
 ghost use Rattle.cl_exact.specs.Inner.Blocks.{EARLY};
-ghost use Rattle.cl_exact.specs.Inner.Walks.{AreForwardJobs, AreBackwardJobs, start_up_of};
+ghost use Rattle.cl_exact.specs.Inner.Walks.{IsForwardWalk, IsBackwardWalk, start_up_of};
 ghost use Rattle.cl_exact.specs.Inner.Found.{last_beat};
 
 use crate::beat::Beat;
@@ -13,7 +13,7 @@ use cl_model::MOST_STEPS;
 pub(crate) fn forward_jobs(beats: &[Beat], first: u64) -> JobNumbers
     requires beats { AreBeats beats.now }
     requires early { read_at (beat_in beats.now 0) first ≤ EARLY }
-    ensures { AreForwardJobs beats.now first result }
+    ensures { IsForwardWalk beats.now first result }
 {
     let mut jobs = [0; MOST_STEPS];
     jobs[0] = first;
@@ -28,7 +28,7 @@ pub(crate) fn backward_jobs(beats: &[Beat], last: u64) -> JobNumbers
     requires beats { AreBeats beats.now }
     requires late { start_up_of beats.now ≤ read_at (last_beat beats.now) last }
     requires early { read_at (last_beat beats.now) last ≤ EARLY }
-    ensures { AreBackwardJobs beats.now last result }
+    ensures { IsBackwardWalk beats.now last result }
 {
     let mut jobs = [0; MOST_STEPS];
     let mut place = beats.len() - 1;

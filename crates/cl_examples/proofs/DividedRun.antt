@@ -8,7 +8,8 @@ use Rattle.cl_runs.specs.Held.{IsHeld}
 use Rattle.cl_runs.specs.Legal.{released, IsNoneHeld, IsScheduled, IsLegal}
 use Rattle.cl_runs.proofs.Filling.{IsFilled, legal_from}
 use Rattle.cl_examples.specs.WholeExample.{divided_b, one_core_divided, one_core_table, broken_run}
-use Rattle.cl_examples.proofs.ExampleRun.{both, not_whole}
+use Rattle.cl_examples.proofs.ExampleFacts.{both}
+use Rattle.cl_examples.proofs.ExampleRun.{not_whole}
 use Rattle.cl_examples.proofs.WholeRun.{lawful_a, one, nine}
 
 tasks_are : length one_core_divided.tasks ≡ 2

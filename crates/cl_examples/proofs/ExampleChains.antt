@@ -6,10 +6,11 @@ use Rattle.cl_model.specs.Groups.{group_at}
 use Rattle.cl_runs.specs.Chains.{HasWritten, IsEarliestReader, IsLatestWriter, JobChain, chain_length, first_job, last_job, IsForwardChain, AreBackwardLinks, IsAgeChain, IsReducedChain}
 use Rattle.cl_runs.specs.RunChains.{run_moments}
 use Rattle.cl_runs.specs.Measured.{IsLongest, IsCountOf, IsMeasured}
-use Rattle.cl_examples.specs.Examples.{two_tasks, two_tasks_run, two_tasks_moments, from_a_to_b, chain_of, two_tasks_measured}
+use Rattle.cl_examples.specs.Examples.{two_tasks, two_tasks_run, two_tasks_moments, from_a_to_b, two_job_chain, two_tasks_measured}
 use Rattle.cl_runs.proofs.ChainsUnique.{forward_once, age_once, reduced_once}
 use Rattle.cl_runs.proofs.OrderedMoments.{run_unique}
-use Rattle.cl_examples.proofs.ExampleRun.{both, reads_a, writes_a, reads_b, writes_b, write_of_a, read_of_b, write_of_b}
+use Rattle.cl_examples.proofs.ExampleFacts.{both}
+use Rattle.cl_examples.proofs.ExampleRun.{reads_a, writes_a, reads_b, writes_b, write_of_a, read_of_b, write_of_b}
 
 -- ---- forward
 
@@ -35,7 +36,7 @@ reads_first m k hm hk after before = record {
 }
 
 -- job 1 of B is the earliest reader of the jobs 1 and 2 of A
-forward_chain : (m from : ℕ) → 1 ≤ m → m < 3 → from ≡ 10 * (m - 1) → IsForwardChain two_tasks_moments from_a_to_b (chain_of m 1 from 37)
+forward_chain : (m from : ℕ) → 1 ≤ m → m < 3 → from ≡ 10 * (m - 1) → IsForwardChain two_tasks_moments from_a_to_b (two_job_chain m 1 from 37)
 unfolding run_moments
 forward_chain m from some few at = record {
   some_group = omega arith;
@@ -50,15 +51,15 @@ forward_chain m from some few at = record {
   to = writes_b 1 (omega arith);
 }
 
-pub longer_forward : IsForwardChain two_tasks_moments from_a_to_b (chain_of 1 1 0 37)
+pub longer_forward : IsForwardChain two_tasks_moments from_a_to_b (two_job_chain 1 1 0 37)
 longer_forward = forward_chain 1 0 (omega arith) (omega arith) refl
 
-pub shorter_forward : IsForwardChain two_tasks_moments from_a_to_b (chain_of 2 1 10 37)
+pub shorter_forward : IsForwardChain two_tasks_moments from_a_to_b (two_job_chain 2 1 10 37)
 shorter_forward = forward_chain 2 10 (omega arith) (omega arith) refl
 
 -- what a complete forward chain of two groups is
 pub only_forward : (chain : JobChain) → IsForwardChain two_tasks_moments from_a_to_b chain
-    → (chain ≡ chain_of 1 1 0 37) ⊎ (chain ≡ chain_of 2 1 10 37)
+    → (chain ≡ two_job_chain 1 1 0 37) ⊎ (chain ≡ two_job_chain 2 1 10 37)
 unfolding run_moments
 only_forward chain forward =
     let first = write_of_a (first_job chain) _ (forward.written 0 (omega arith)).writes in
@@ -69,8 +70,8 @@ only_forward chain forward =
     let few : first_job chain < 3 = omega (arith, writes.1, reads.1, second.0, link.after) in
     let some : 1 ≤ first_job chain = forward.not_first 0 (omega arith) in
     elim (cases_eq (first_job chain) 1) [
-      | inl one ↦ inl (forward_once two_tasks_moments from_a_to_b (run_unique two_tasks two_tasks_run from_a_to_b) chain (chain_of 1 1 0 37) forward longer_forward one)
-      | inr other ↦ inr (forward_once two_tasks_moments from_a_to_b (run_unique two_tasks two_tasks_run from_a_to_b) chain (chain_of 2 1 10 37) forward shorter_forward (omega arith))
+      | inl one ↦ inl (forward_once two_tasks_moments from_a_to_b (run_unique two_tasks two_tasks_run from_a_to_b) chain (two_job_chain 1 1 0 37) forward longer_forward one)
+      | inr other ↦ inr (forward_once two_tasks_moments from_a_to_b (run_unique two_tasks two_tasks_run from_a_to_b) chain (two_job_chain 2 1 10 37) forward shorter_forward (omega arith))
     ]
 
 -- the start-up chain: job 0 of B is the earliest reader of job 0 of A, and no complete chain begins with that job
@@ -105,11 +106,11 @@ backward_links = record {
   next_written = b_written 1 (omega arith);
 }
 
-pub age_chain : IsAgeChain two_tasks_moments from_a_to_b (chain_of 0 0 0 37)
+pub age_chain : IsAgeChain two_tasks_moments from_a_to_b (two_job_chain 0 0 0 37)
 unfolding run_moments
 age_chain = record { links = backward_links; from = reads_a 0 (omega arith); to = writes_b 1 (omega arith) }
 
-pub reduced_chain : IsReducedChain two_tasks_moments from_a_to_b (chain_of 0 0 0 17)
+pub reduced_chain : IsReducedChain two_tasks_moments from_a_to_b (two_job_chain 0 0 0 17)
 unfolding run_moments
 reduced_chain = record { links = backward_links; from = reads_a 0 (omega arith); to = writes_b 0 (omega arith) }
 
@@ -117,12 +118,12 @@ last_is_zeroth : (jobs : List ℕ) → AreBackwardLinks two_tasks_moments from_a
 unfolding run_moments
 last_is_zeroth jobs links = omega (arith, (write_of_b (slice_index jobs (length jobs - 1) + 1) _ links.next_written.writes).0)
 
-pub only_age : (chain : JobChain) → IsAgeChain two_tasks_moments from_a_to_b chain → chain ≡ chain_of 0 0 0 37
-only_age chain age = age_once two_tasks_moments from_a_to_b (run_unique two_tasks two_tasks_run from_a_to_b) chain (chain_of 0 0 0 37) age age_chain (last_is_zeroth chain.jobs age.links)
+pub only_age : (chain : JobChain) → IsAgeChain two_tasks_moments from_a_to_b chain → chain ≡ two_job_chain 0 0 0 37
+only_age chain age = age_once two_tasks_moments from_a_to_b (run_unique two_tasks two_tasks_run from_a_to_b) chain (two_job_chain 0 0 0 37) age age_chain (last_is_zeroth chain.jobs age.links)
 
-pub only_reduced : (chain : JobChain) → IsReducedChain two_tasks_moments from_a_to_b chain → chain ≡ chain_of 0 0 0 17
+pub only_reduced : (chain : JobChain) → IsReducedChain two_tasks_moments from_a_to_b chain → chain ≡ two_job_chain 0 0 0 17
 only_reduced chain reduced =
-    reduced_once two_tasks_moments from_a_to_b (run_unique two_tasks two_tasks_run from_a_to_b) chain (chain_of 0 0 0 17) reduced reduced_chain (last_is_zeroth chain.jobs reduced.links)
+    reduced_once two_tasks_moments from_a_to_b (run_unique two_tasks two_tasks_run from_a_to_b) chain (two_job_chain 0 0 0 17) reduced reduced_chain (last_is_zeroth chain.jobs reduced.links)
 
 -- ---- what is measured
 
@@ -134,39 +135,39 @@ only_longest IsChain job_of chain is only = record {
   least = λ other h same. omega (arith, ap job_of (only other h));
 }
 
-longest_forward : IsLongest (IsForwardChain two_tasks_moments from_a_to_b) first_job (chain_of 1 1 0 37)
+longest_forward : IsLongest (IsForwardChain two_tasks_moments from_a_to_b) first_job (two_job_chain 1 1 0 37)
 longest_forward = record {
   is_chain = longer_forward;
   longest = λ other h. elim (only_forward other h) [ inl one ↦ omega (arith, ap chain_length one) | inr two ↦ omega (arith, ap chain_length two) ];
   least = λ other h same. elim (only_forward other h) [ inl one ↦ omega (arith, ap first_job one) | inr two ↦ omega (arith, ap first_job two) ];
 }
 
-each_forward : All (IsForwardChain two_tasks_moments from_a_to_b) (chain_of 1 1 0 37 ∷ chain_of 2 1 10 37 ∷ [])
+each_forward : All (IsForwardChain two_tasks_moments from_a_to_b) (two_job_chain 1 1 0 37 ∷ two_job_chain 2 1 10 37 ∷ [])
 each_forward zero d h = longer_forward
 each_forward (suc zero) d h = shorter_forward
 each_forward (suc (suc i)) d h = absurd (omega arith)
 
 two_forward : IsCountOf (IsForwardChain two_tasks_moments from_a_to_b) 2
 two_forward = record {
-  chains = chain_of 1 1 0 37 ∷ chain_of 2 1 10 37 ∷ [];
+  chains = two_job_chain 1 1 0 37 ∷ two_job_chain 2 1 10 37 ∷ [];
   sound = each_forward;
   complete = λ chain h. elim (only_forward chain h) [ inl one ↦ (0, omega arith, sym one) | inr two ↦ (1, omega arith, sym two) ];
   once = λ i j d lt h same.
       let first : i ≡ 0 = omega arith in
       let second : j ≡ 1 = omega arith in
-      let e : chain_of 1 1 0 37 ≡ chain_of 2 1 10 37 = subst (λ n. get_or (chain_of 1 1 0 37 ∷ chain_of 2 1 10 37 ∷ []) 0 d ≡ get_or (chain_of 1 1 0 37 ∷ chain_of 2 1 10 37 ∷ []) n d) second
-      (subst (λ n. get_or (chain_of 1 1 0 37 ∷ chain_of 2 1 10 37 ∷ []) n d ≡ get_or (chain_of 1 1 0 37 ∷ chain_of 2 1 10 37 ∷ []) j d) first same) in
+      let e : two_job_chain 1 1 0 37 ≡ two_job_chain 2 1 10 37 = subst (λ n. get_or (two_job_chain 1 1 0 37 ∷ two_job_chain 2 1 10 37 ∷ []) 0 d ≡ get_or (two_job_chain 1 1 0 37 ∷ two_job_chain 2 1 10 37 ∷ []) n d) second
+      (subst (λ n. get_or (two_job_chain 1 1 0 37 ∷ two_job_chain 2 1 10 37 ∷ []) n d ≡ get_or (two_job_chain 1 1 0 37 ∷ two_job_chain 2 1 10 37 ∷ []) j d) first same) in
       omega (arith, ap (λ (c : JobChain). c.from) e);
   counted = refl;
 }
 
-each_age : All (IsAgeChain two_tasks_moments from_a_to_b) (chain_of 0 0 0 37 ∷ [])
+each_age : All (IsAgeChain two_tasks_moments from_a_to_b) (two_job_chain 0 0 0 37 ∷ [])
 each_age zero d h = age_chain
 each_age (suc i) d h = absurd (omega arith)
 
 one_backward : IsCountOf (IsAgeChain two_tasks_moments from_a_to_b) 1
 one_backward = record {
-  chains = chain_of 0 0 0 37 ∷ [];
+  chains = two_job_chain 0 0 0 37 ∷ [];
   sound = each_age;
   complete = λ chain h. (0, omega arith, sym (only_age chain h));
   once = λ i j d lt h same. absurd (omega arith);
@@ -176,8 +177,8 @@ one_backward = record {
 pub measured : IsMeasured two_tasks_moments from_a_to_b two_tasks_measured
 measured = record {
   is_reaction = longest_forward;
-  is_age = only_longest (IsAgeChain two_tasks_moments from_a_to_b) last_job (chain_of 0 0 0 37) age_chain only_age;
-  is_reduced = only_longest (IsReducedChain two_tasks_moments from_a_to_b) last_job (chain_of 0 0 0 17) reduced_chain only_reduced;
+  is_age = only_longest (IsAgeChain two_tasks_moments from_a_to_b) last_job (two_job_chain 0 0 0 37) age_chain only_age;
+  is_reduced = only_longest (IsReducedChain two_tasks_moments from_a_to_b) last_job (two_job_chain 0 0 0 17) reduced_chain only_reduced;
   forward_count = two_forward;
   backward_count = one_backward;
 }

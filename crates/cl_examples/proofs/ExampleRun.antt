@@ -2,9 +2,9 @@
 use Rattle.std.proofs.Common.{◌≡◌, ℕ, zero, suc, ◌+◌, ◌*◌, ◌<◌, ◌≤◌, inr, true, false, cond, Option, Some, None, [], ◌∷◌, length, get_or, map, take, refl, sym, ap, ◌∙◌, subst, arith, nat_lt}
 use Rattle.std.specs.List.{range_with_len}
 use Rattle.std.proofs.lemmas.List.Elements.{All-from_recursion}
-use Rattle.std.specs.Prelude.{All}
 use Rattle.std.proofs.lemmas.Bool.{cond_both, ltb-true, ltb-false}
 use Rattle.std.proofs.lemmas.List.FromFn.{get_or-map-range_with_len}
+use Rattle.cl_model.specs.declared.task.AccessKind.TheVariants.{Implicit}
 use Rattle.cl_runs.specs.TaskTiming.{TimeRange, timing_at, range_at, no_range, IsSoundTask, IsSound}
 use Rattle.cl_runs.specs.Table.{job_at, table_jobs, HasTimes, AreLawfulJobs, IsLawful}
 use Rattle.cl_runs.specs.Run.{jobs_of, core_entries, entry_at, executed, IsEntryOf, IsInForm}
@@ -13,20 +13,10 @@ use Rattle.cl_runs.specs.Held.{IsHeld}
 use Rattle.cl_runs.specs.Work.{work_before}
 use Rattle.cl_runs.specs.Moments.{Starts, Finishes, Reads, Writes}
 use Rattle.cl_examples.specs.Examples.{task_a, task_b, two_tasks, jobs_of_a, jobs_of_b, table_with, two_tasks_run}
+use Rattle.cl_examples.proofs.ExampleFacts.{both, plain_task_sound}
 use Rattle.cl_runs.proofs.Climbing.{climb_lt}
 use Rattle.cl_runs.proofs.Executed.{executed_climbs}
 use Rattle.cl_runs.proofs.MomentFacts.{reads_once, writes_once}
-
--- what holds of 0 and of 1 holds of each number below 2
-pub both : (P : ℕ → Type 0) → P 0 → P 1 → (i : ℕ) → i < 2 → P i
-both P zeroth first zero h = zeroth
-both P zeroth first (suc zero) h = first
-both P zeroth first (suc (suc i)) h = absurd (omega arith)
-
--- what holds of one holds of each of a list of that one
-pub only : (P : TimeRange → Type 0) (range : TimeRange) → P range → All P (range ∷ [])
-only P range holds zero d h = holds
-only P range holds (suc n) d h = absurd (omega arith)
 
 -- ---- the system
 
@@ -46,22 +36,8 @@ pub two_tasks_sound : IsSound two_tasks
 unfolding two_tasks
 two_tasks_sound = record {
   tasks = both (λ i. IsSoundTask 2 (timing_at two_tasks i))
-      (record {
-        on_core = omega arith;
-        some_runnable = omega arith;
-        times = only (λ (range : TimeRange). (1 ≤ range.least) × (range.least ≤ range.greatest)) _ (omega arith, omega arith);
-        pattern = omega arith;
-        above_jitter = omega arith;
-        within_distance = omega arith;
-      })
-      (record {
-        on_core = omega arith;
-        some_runnable = omega arith;
-        times = only (λ (range : TimeRange). (1 ≤ range.least) × (range.least ≤ range.greatest)) _ (omega arith, omega arith);
-        pattern = omega arith;
-        above_jitter = omega arith;
-        within_distance = omega arith;
-      });
+      (plain_task_sound 2 0 2 10 10 0 3 Implicit false (omega arith) (omega arith) (omega arith) (omega arith))
+      (plain_task_sound 2 1 1 20 20 12 5 Implicit false (omega arith) (omega arith) (omega arith) (omega arith));
   distinct = λ i j hi hj cores priorities. sym (core_is i hi) ∙ cores ∙ core_is j hj;
 }
 

@@ -1,4 +1,5 @@
--- The chains from A to B of the two timed tasks: their exact lengths, and when the witness of the reduced age is complete.
+-- The chains from A to B of the two timed tasks: their exact lengths, and when the witness of the reduced age is
+-- complete.
 use Rattle.std.proofs.Common.{◌≡◌, ℕ, suc, ◌+◌, ◌-◌, ◌*◌, ◌<◌, ◌≤◌, inl, inr, List, [], ◌∷◌, length, refl, sym, ap, subst, arith}
 use Rattle.std.specs.Prelude.{slice_index}
 use Rattle.std.proofs.lemmas.Bool.{cases_lt}
@@ -11,9 +12,9 @@ use Rattle.cl_runs.specs.Chains.{Moments, HasWritten, IsEarliestReader, IsLatest
 use Rattle.cl_runs.specs.RunChains.{run_moments, ideal_moments}
 use Rattle.cl_exact.specs.ExactLengths.{second_arrival, HaveAllBegun, start_up, AreExactLengths}
 use Rattle.cl_exact.proofs.RunExact.{chains_until_the_end}
-use Rattle.cl_examples.specs.Examples.{from_a_to_b, chain_of}
+use Rattle.cl_examples.specs.Examples.{from_a_to_b, two_job_chain}
 use Rattle.cl_examples.specs.TimedExample.{timed_tasks, timed_lengths}
-use Rattle.cl_examples.proofs.ExampleRun.{both}
+use Rattle.cl_examples.proofs.ExampleFacts.{both}
 use Rattle.cl_examples.proofs.TimedTasks.{timed_sound, timed_settled}
 
 -- ---- moments
@@ -110,7 +111,7 @@ writes_late m k writer = elim (cases_lt (15 * k) (10 * m + 20)) [
 -- ---- chains of jobs m and k
 
 forward_chain : (m k from to : ℕ) → 1 ≤ m → 10 * m + 10 ≤ 15 * k → 15 * k < 10 * m + 25 → from ≡ 10 * (m - 1) → to ≡ 15 * k + 15
-    → IsForwardChain ideal from_a_to_b (chain_of m k from to)
+    → IsForwardChain ideal from_a_to_b (two_job_chain m k from to)
 forward_chain m k from to some after before begins ends = record {
   some_group = omega arith;
   one_a_group = refl;
@@ -138,10 +139,10 @@ backward_links m k before after = record {
 }
 
 -- the chain of an age, and that of a reduced age
-age_chain : IsAgeChain ideal from_a_to_b (chain_of 6 5 60 105)
+age_chain : IsAgeChain ideal from_a_to_b (two_job_chain 6 5 60 105)
 age_chain = record { links = backward_links 6 5 (omega arith) (omega arith); from = reads_a 6 60 refl; to = writes_b 6 105 refl }
 
-reduced_chain : IsReducedChain ideal from_a_to_b (chain_of 6 5 60 90)
+reduced_chain : IsReducedChain ideal from_a_to_b (two_job_chain 6 5 60 90)
 reduced_chain = record { links = backward_links 6 5 (omega arith) (omega arith); from = reads_a 6 60 refl; to = writes_b 5 90 refl }
 
 -- ---- the exact lengths
@@ -272,13 +273,13 @@ timed_exact = record {
 
 -- the chain of the reduced age is complete in a legal run where job 6 of B has written, at 105, and only there
 pub complete_by : (run : Run) → IsLegal timed_tasks run → 105 ≤ run.table.ticks
-    → IsReducedChain (run_moments timed_tasks run) from_a_to_b (chain_of 6 5 60 90)
+    → IsReducedChain (run_moments timed_tasks run) from_a_to_b (two_job_chain 6 5 60 90)
 unfolding timed_tasks
 complete_by run legal lasts =
-    ((chains_until_the_end timed_tasks timed_sound from_a_to_b timed_settled run legal).reduced (chain_of 6 5 60 90)).1 (reduced_chain, lasts)
+    ((chains_until_the_end timed_tasks timed_sound from_a_to_b timed_settled run legal).reduced (two_job_chain 6 5 60 90)).1 (reduced_chain, lasts)
 
-pub complete_only : (run : Run) → IsLegal timed_tasks run → IsReducedChain (run_moments timed_tasks run) from_a_to_b (chain_of 6 5 60 90)
+pub complete_only : (run : Run) → IsLegal timed_tasks run → IsReducedChain (run_moments timed_tasks run) from_a_to_b (two_job_chain 6 5 60 90)
     → 105 ≤ run.table.ticks
 unfolding timed_tasks
 complete_only run legal complete =
-    (((chains_until_the_end timed_tasks timed_sound from_a_to_b timed_settled run legal).reduced (chain_of 6 5 60 90)).0 complete).1
+    (((chains_until_the_end timed_tasks timed_sound from_a_to_b timed_settled run legal).reduced (two_job_chain 6 5 60 90)).0 complete).1

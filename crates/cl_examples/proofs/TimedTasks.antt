@@ -1,9 +1,10 @@
 -- The two timed tasks: their system is that of a model, sound, and neither is late.
-use Rattle.std.proofs.Common.{◌≡◌, ℕ, ◌<◌, ◌≤◌, refl, sym, ◌∙◌, arith}
+use Rattle.std.proofs.Common.{◌≡◌, ℕ, false, ◌<◌, refl, sym, ◌∙◌, arith}
 use Rattle.std.proofs.lemmas.List.Elements.{All-from_recursion}
 use Rattle.cl_model.specs.declared.group.Group.{Group}
 use Rattle.cl_model.specs.Groups.{groups_of}
-use Rattle.cl_runs.specs.TaskTiming.{TimeRange, timing_at, IsSoundTask, IsSound}
+use Rattle.cl_model.specs.declared.task.AccessKind.TheVariants.{Timed}
+use Rattle.cl_runs.specs.TaskTiming.{timing_at, IsSoundTask, IsSound}
 use Rattle.cl_runs.specs.SystemOf.{system_of}
 use Rattle.cl_resp.specs.Question.{greatest_execution, longest_hold, block_of, question_of}
 use Rattle.cl_resp.specs.Response.{demand, busy_window, IsSettled}
@@ -13,7 +14,7 @@ use Rattle.cl_examples.specs.Examples.{from_a_to_b}
 use Rattle.cl_examples.specs.ExampleModel.{chain_ab, two_tasks_model}
 use Rattle.cl_examples.specs.TimedExample.{timed_tasks}
 use Rattle.cl_examples.specs.TimedModel.{timed_model}
-use Rattle.cl_examples.proofs.ExampleRun.{both, only}
+use Rattle.cl_examples.proofs.ExampleFacts.{both, plain_task_sound}
 
 pub timed_system : system_of timed_model ≡ timed_tasks
 unfolding system_of timed_tasks timed_model two_tasks_model
@@ -31,22 +32,8 @@ pub timed_sound : IsSound timed_tasks
 unfolding timed_tasks
 timed_sound = record {
   tasks = both (λ i. IsSoundTask 2 (timing_at timed_tasks i))
-      (record {
-        on_core = omega arith;
-        some_runnable = omega arith;
-        times = only (λ (range : TimeRange). (1 ≤ range.least) × (range.least ≤ range.greatest)) _ (omega arith, omega arith);
-        pattern = omega arith;
-        above_jitter = omega arith;
-        within_distance = omega arith;
-      })
-      (record {
-        on_core = omega arith;
-        some_runnable = omega arith;
-        times = only (λ (range : TimeRange). (1 ≤ range.least) × (range.least ≤ range.greatest)) _ (omega arith, omega arith);
-        pattern = omega arith;
-        above_jitter = omega arith;
-        within_distance = omega arith;
-      });
+      (plain_task_sound 2 0 2 10 10 0 1 Timed false (omega arith) (omega arith) (omega arith) (omega arith))
+      (plain_task_sound 2 1 1 15 15 0 1 Timed false (omega arith) (omega arith) (omega arith) (omega arith));
   distinct = λ i j hi hj cores priorities. sym (core_is i hi) ∙ cores ∙ core_is j hj;
 }
 

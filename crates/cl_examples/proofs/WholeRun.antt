@@ -1,7 +1,8 @@
 -- The run in which B isn't interrupted is legal, and the one in which it is isn't.
 use Rattle.std.proofs.Common.{◌≡◌, ℕ, zero, suc, ◌<◌, ◌≤◌, inl, inr, true, false, Some, length, refl, sym, ap, ◌∙◌, arith}
 use Rattle.std.proofs.lemmas.List.Elements.{All-from_recursion}
-use Rattle.cl_runs.specs.TaskTiming.{TimeRange, timing_at, range_at, IsSoundTask, IsSound}
+use Rattle.cl_model.specs.declared.task.AccessKind.TheVariants.{Implicit}
+use Rattle.cl_runs.specs.TaskTiming.{timing_at, range_at, IsSoundTask, IsSound}
 use Rattle.cl_runs.specs.Table.{HasTimes, AreLawfulJobs, IsLawful, table_jobs}
 use Rattle.cl_runs.specs.Run.{Run, jobs_of, core_entries, entry_at, executed}
 use Rattle.cl_runs.specs.Work.{work_before, work_through}
@@ -11,7 +12,7 @@ use Rattle.cl_runs.proofs.Filling.{IsFilled, legal_from}
 use Rattle.cl_runs.proofs.OneRun.{one_run}
 use Rattle.cl_runs.proofs.Work.{released_mono}
 use Rattle.cl_examples.specs.WholeExample.{later_a, whole_b, one_core, one_core_table, whole_run, broken_run}
-use Rattle.cl_examples.proofs.ExampleRun.{both, only}
+use Rattle.cl_examples.proofs.ExampleFacts.{both, plain_task_sound}
 
 -- ---- the system
 
@@ -33,22 +34,8 @@ pub one_core_sound : IsSound one_core
 unfolding one_core
 one_core_sound = record {
   tasks = both (λ i. IsSoundTask 1 (timing_at one_core i))
-      (record {
-        on_core = omega arith;
-        some_runnable = omega arith;
-        times = only (λ (range : TimeRange). (1 ≤ range.least) × (range.least ≤ range.greatest)) _ (omega arith, omega arith);
-        pattern = omega arith;
-        above_jitter = omega arith;
-        within_distance = omega arith;
-      })
-      (record {
-        on_core = omega arith;
-        some_runnable = omega arith;
-        times = only (λ (range : TimeRange). (1 ≤ range.least) × (range.least ≤ range.greatest)) _ (omega arith, omega arith);
-        pattern = omega arith;
-        above_jitter = omega arith;
-        within_distance = omega arith;
-      });
+      (plain_task_sound 1 0 2 10 10 1 3 Implicit false (omega arith) (omega arith) (omega arith) (omega arith))
+      (plain_task_sound 1 0 1 20 20 0 6 Implicit true (omega arith) (omega arith) (omega arith) (omega arith));
   distinct = λ i j hi hj cores priorities. differ i j hi hj priorities;
 }
 

@@ -97,15 +97,15 @@ abbrev pub from_a_to_b : List Group
 from_a_to_b = groups (record { task = 0; place = 0 } ∷ record { task = 1; place = 0 } ∷ [])
 
 -- job m of A and job k of B, with the ends of the chain
-abbrev pub chain_of : (m k from to : ℕ) → JobChain
-chain_of m k from to = record { from = from; to = to; jobs = m ∷ k ∷ [] }
+abbrev pub two_job_chain : (m k from to : ℕ) → JobChain
+two_job_chain m k from to = record { from = from; to = to; jobs = m ∷ k ∷ [] }
 
 -- what is measured in the run: a greatest reaction of 37, a greatest age of 37 and a greatest reduced age of 17
 abbrev pub two_tasks_measured : Measured
 two_tasks_measured = record {
-  reaction = Some (chain_of 1 1 0 37);
-  age = Some (chain_of 0 0 0 37);
-  reduced = Some (chain_of 0 0 0 17);
+  reaction = Some (two_job_chain 1 1 0 37);
+  age = Some (two_job_chain 0 0 0 37);
+  reduced = Some (two_job_chain 0 0 0 17);
   forward = 2;
   backward = 1;
 }

@@ -16,7 +16,7 @@ ghost use Rattle.cl_examples.specs.WholeModel.{one_core_model};
 ghost use Rattle.cl_examples.specs.WholeExample.{one_core, one_core_table, whole_run, broken_run, one_core_divided};
 ghost use Rattle.cl_examples.specs.TimedExample.{timed_tasks, timed_lengths};
 ghost use Rattle.cl_examples.specs.TimedModel.{timed_model};
-ghost use Rattle.cl_examples.specs.Examples.{sporadic_task, two_jobs, two_tasks, jobs_of_b, table_with, two_tasks_run, two_tasks_moments, from_a_to_b, chain_of, two_tasks_measured};
+ghost use Rattle.cl_examples.specs.Examples.{sporadic_task, two_jobs, two_tasks, jobs_of_b, table_with, two_tasks_run, two_tasks_moments, from_a_to_b, two_job_chain, two_tasks_measured};
 
 /// With gaps from 5 to 8, arrivals at 0 and 8 are lawful for 16 ticks, and not for 17, since a third was due.
 pub fn arrivals_at_0_and_8()
@@ -45,10 +45,10 @@ pub fn run_of_two_tasks()
 
 /// Its complete forward chains are those of the jobs 1 and 1, with a reaction of 37, and 2 and 1, with one of 27.
 pub fn forward_chains_of_two_tasks()
-    ensures reaction_37 { IsForwardChain two_tasks_moments from_a_to_b (chain_of 1 1 0 37) }
-    ensures reaction_27 { IsForwardChain two_tasks_moments from_a_to_b (chain_of 2 1 10 37) }
+    ensures reaction_37 { IsForwardChain two_tasks_moments from_a_to_b (two_job_chain 1 1 0 37) }
+    ensures reaction_27 { IsForwardChain two_tasks_moments from_a_to_b (two_job_chain 2 1 10 37) }
     ensures no_other { (chain : JobChain) → IsForwardChain two_tasks_moments from_a_to_b chain
-        → (chain ≡ chain_of 1 1 0 37) ⊎ (chain ≡ chain_of 2 1 10 37) }
+        → (chain ≡ two_job_chain 1 1 0 37) ⊎ (chain ≡ two_job_chain 2 1 10 37) }
 {}
 
 /// The start-up chain isn't complete: B's job 0 is the earliest reader of A's job 0, and no complete forward chain
@@ -60,9 +60,9 @@ pub fn start_up_chains_are_not_complete()
 
 /// Its complete backward chain is that of the jobs 0 and 0, with an age of 37 and a reduced age of 17.
 pub fn backward_chain_of_two_tasks()
-    ensures age_37 { IsAgeChain two_tasks_moments from_a_to_b (chain_of 0 0 0 37) }
-    ensures reduced_17 { IsReducedChain two_tasks_moments from_a_to_b (chain_of 0 0 0 17) }
-    ensures no_other { (chain : JobChain) → IsAgeChain two_tasks_moments from_a_to_b chain → chain ≡ chain_of 0 0 0 37 }
+    ensures age_37 { IsAgeChain two_tasks_moments from_a_to_b (two_job_chain 0 0 0 37) }
+    ensures reduced_17 { IsReducedChain two_tasks_moments from_a_to_b (two_job_chain 0 0 0 17) }
+    ensures no_other { (chain : JobChain) → IsAgeChain two_tasks_moments from_a_to_b chain → chain ≡ two_job_chain 0 0 0 37 }
 {}
 
 /// What is measured in that run.
@@ -103,7 +103,7 @@ pub fn exact_lengths_of_timed_tasks()
 /// complete chain of each legal run of 105 ticks, and of none of 90.
 pub fn reduced_witness_of_timed_tasks()
     ensures in_105_ticks { (run : Run) → IsLegal timed_tasks run → run.table.ticks ≡ 105
-        → IsReducedChain (run_moments timed_tasks run) from_a_to_b (chain_of 6 5 60 90) }
+        → IsReducedChain (run_moments timed_tasks run) from_a_to_b (two_job_chain 6 5 60 90) }
     ensures not_in_90_ticks { (run : Run) → IsLegal timed_tasks run → run.table.ticks ≡ 90
-        → IsReducedChain (run_moments timed_tasks run) from_a_to_b (chain_of 6 5 60 90) → ⊥ }
+        → IsReducedChain (run_moments timed_tasks run) from_a_to_b (two_job_chain 6 5 60 90) → ⊥ }
 {}

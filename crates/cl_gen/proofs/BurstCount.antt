@@ -1,55 +1,30 @@
 -- How many jobs of bursts arrive in the first ticks: those of the whole periods, and those of the rest.
-use Rattle.std.proofs.Common.{◌≡◌, ℕ, zero, suc, ◌+◌, ◌-◌, ◌*◌, ◌/◌, ◌%◌, ◌<◌, ◌≤◌, min, inl, inr, nat_lt, refl, sym, ap, ◌∙◌, arith}
+use Rattle.std.proofs.Common.{◌≡◌, ℕ, zero, suc, ◌+◌, ◌-◌, ◌*◌, ◌/◌, ◌%◌, ◌<◌, ◌≤◌, min, inl, inr, refl, sym, ap, arith}
 use Rattle.std.specs.Int.{div_ceil}
 use Rattle.std.proofs.Math.Nat.{mul-le-mul_right}
-use Rattle.std.proofs.lemmas.Bool.{cases_lt, cond_both, ltb-true, ltb-false}
+use Rattle.std.proofs.lemmas.Bool.{cases_lt}
 use Rattle.std.proofs.lemmas.Grind.{div_ceil_times}
-use Rattle.std.proofs.lemmas.Nat.{div-mul-add, mod-mul-add, div-add-mod', mod_below}
+use Rattle.std.proofs.lemmas.Nat.{div-add-mod', mod_below}
 use Rattle.cl_model.specs.declared.stimulus.StimulusKind.TheVariants.{Burst}
-use Rattle.cl_runs.specs.Pattern.{IsPattern, burst_gap}
-use Rattle.cl_runs.proofs.PatternFacts.{burst_fits, gap_positive}
+use Rattle.cl_runs.specs.Pattern.{IsPattern}
+use Rattle.cl_runs.proofs.PatternFacts.{burst_fits}
+use Rattle.cl_runs.proofs.BurstPlaces.{place_in, position_of, position_place, position_rises}
 use Rattle.cl_gen.specs.Arrivals.{arrivals_below}
 use Rattle.cl_gen.specs.Count.{arrival_count}
 use Rattle.cl_gen.proofs.RisingArrivals.{above_from, below_is}
 
 module _ (period offset count distance : ℕ) (well : IsPattern (Burst period offset count distance)) where
-  -- where job r of burst q arrives, and where the job of a number does
-  abbrev pub place : (q r : ℕ) → ℕ
-  place q r = offset + q * period + r * distance
+  abbrev place : (q r : ℕ) → ℕ
+  place = place_in period offset distance
 
-  abbrev pub position : ℕ → ℕ
-  position k = place (k / count) (k % count)
+  abbrev position : ℕ → ℕ
+  position = position_of period offset count distance
 
   position_is : (k q r : ℕ) → k ≡ q * count + r → r < count → position k ≡ place q r
-  position_is k q r is within = ap position is
-      ∙ ap (λ n. place n ((q * count + r) % count)) (div-mul-add q count r within)
-      ∙ ap (λ n. place q n) (mod-mul-add q count r within)
+  position_is = position_place period offset count distance
 
-  rest_within : (k : ℕ) → k % count < count
-  rest_within k = mod_below k count (omega (arith, well.0))
-
-  next_within : (q r k : ℕ) → q * count + r ≡ k → suc r < count → place q r + distance ≡ position (suc k)
-  next_within q r k is within = omega (arith, position_is (suc k) q (suc r) (omega (arith, is)) within)
-
-  next_burst : (q r k : ℕ) → q * count + r ≡ k → suc r ≡ count → place q r + (period - (count - 1) * distance) ≡ position (suc k)
-  next_burst q r k is last =
-      let whole : suc q * count ≡ q * count + count = omega arith in
-      let rest : count - 1 ≡ r = omega arith in
-      omega (
-        arith,
-        position_is (suc k) (suc q) 0 (omega (arith, is, whole, last)) (omega (arith, well.0)),
-        ap (λ n. n * distance) rest,
-        burst_fits period count distance well.0 well.2,
-      )
-
-  -- each job arrives a gap after the one before it, and so later
-  moves : (k : ℕ) → position k + burst_gap period count distance k ≡ position (suc k)
-  moves k = cond_both (nat_lt (suc (k % count)) count) distance (period - (count - 1) * distance) (λ gap. position k + gap ≡ position (suc k))
-      (λ within. next_within (k / count) (k % count) k (div-add-mod' k count) (ltb-true _ _ within))
-      (λ last. next_burst (k / count) (k % count) k (div-add-mod' k count) (omega (arith, rest_within k, ltb-false _ _ last)))
-
-  pub rises : (k : ℕ) → position k < position (suc k)
-  rises k = omega (arith, moves k, gap_positive (Burst period offset count distance) well k)
+  rises : (k : ℕ) → position k < position (suc k)
+  rises = position_rises period offset count distance well
 
   -- of a width of q periods and a rest, in which fit as many distances, rounded up
   module _ (ticks q rest fit : ℕ) (parts : q * period + rest ≡ ticks - offset) (less : rest < period)

@@ -1,5 +1,5 @@
 -- A list of jobs that follows a pattern has at most as many jobs as are counted.
-use Rattle.std.proofs.Common.{◌≡◌, ℕ, zero, suc, ◌+◌, ◌-◌, ◌*◌, ◌/◌, ◌%◌, ◌<◌, ◌≤◌, inl, inr, List, length, refl, sym, ap, subst, arith}
+use Rattle.std.proofs.Common.{◌≡◌, ℕ, zero, suc, ◌+◌, ◌-◌, ◌*◌, ◌/◌, ◌%◌, ◌<◌, ◌≤◌, inl, inr, List, length, refl, arith}
 use Rattle.std.specs.Int.{div_ceil}
 use Rattle.std.proofs.Math.Nat.{mul-le-mul_right}
 use Rattle.std.proofs.lemmas.Bool.{cases_lt}
@@ -9,7 +9,7 @@ use Rattle.cl_model.specs.declared.stimulus.StimulusKind.{StimulusKind}
 use Rattle.cl_model.specs.declared.stimulus.StimulusKind.TheVariants.{Periodic, Sporadic, Burst}
 use Rattle.cl_runs.specs.declared.job.Job.{Job}
 use Rattle.cl_runs.specs.Pattern.{IsPattern}
-use Rattle.cl_runs.specs.Arrivals.{IsArrival, FollowPattern}
+use Rattle.cl_runs.specs.Arrivals.{FollowPattern}
 use Rattle.cl_runs.specs.ArrivalsByKind.{FollowsPeriod, FollowsGaps, FollowsBursts}
 use Rattle.cl_runs.specs.Table.{job_at}
 use Rattle.cl_runs.proofs.PatternLaws.{pattern_period, pattern_gaps}
@@ -17,7 +17,7 @@ use Rattle.cl_runs.proofs.BurstLaws.{pattern_bursts}
 use Rattle.cl_gen.specs.Arrivals.{arrivals_below}
 use Rattle.cl_gen.specs.Count.{arrival_count}
 use Rattle.cl_gen.proofs.RisingArrivals.{end_reached}
-use Rattle.cl_gen.proofs.BurstCount.{position, rises}
+use Rattle.cl_runs.proofs.BurstPlaces.{position_of, position_rises}
 
 -- where n is less than a width divided up, its product is less than the width
 counted : (n width step : ℕ) → 0 < step → n * step < width → n < div_ceil width step
@@ -58,19 +58,19 @@ sporadic_counted ticks least greatest some jobs follows (suc n) is = counted n t
 
 module _ (ticks period offset count distance : ℕ) (well : IsPattern (Burst period offset count distance)) where
   burst_arrives : (jobs : List Job) → FollowsBursts ticks period offset count distance jobs
-      → (k : ℕ) → k < length jobs → position period offset count distance well k < ticks
+      → (k : ℕ) → k < length jobs → position_of period offset count distance k < ticks
   burst_arrives jobs follows k is =
       let parts : k / count * count + k % count ≡ k = div-add-mod' k count in
       let job = follows.each (k / count) (k % count) (mod_below k count (omega (arith, well.0))) (omega (arith, parts, is)) in
       omega (arith, job.not_early, job.arrives)
 
   burst_counted : (jobs : List Job) → FollowsBursts ticks period offset count distance jobs
-      → length jobs ≤ arrivals_below (position period offset count distance well) ticks
-  burst_counted jobs follows = elim (cases_lt (arrivals_below (position period offset count distance well) ticks) (length jobs)) [
+      → length jobs ≤ arrivals_below (position_of period offset count distance) ticks
+  burst_counted jobs follows = elim (cases_lt (arrivals_below (position_of period offset count distance) ticks) (length jobs)) [
     | inl less ↦ absurd (omega (
       arith,
       burst_arrives jobs follows _ less,
-      end_reached (position period offset count distance well) (rises period offset count distance well) ticks,
+      end_reached (position_of period offset count distance) (position_rises period offset count distance well) ticks,
     ))
     | inr enough ↦ enough
   ]

@@ -14,7 +14,8 @@ use Rattle.cl_runs.specs.Pattern.{IsPattern}
 use Rattle.cl_runs.specs.TaskTiming.{TimeRange}
 use Rattle.cl_runs.proofs.PatternFacts.{gap_positive, greatest_within}
 use Rattle.cl_gen.specs.declared.limits.TheConstants.{MOST_RUN_TICKS}
-use Rattle.cl_gen.specs.Drawn.{arrival_words, release_words, job_words, first_arrival, gap_after, release_delay, job_word, drawn_arrival, job_arriving, drawn_job, drawn_count, drawn_jobs, word_after}
+use Rattle.cl_gen.specs.Drawn.{arrival_words, release_words, job_draws, first_arrival, gap_after, release_delay, job_word, drawn_arrival, drawn_job, drawn_count, drawn_jobs, word_after}
+use Rattle.cl_gen.specs.Inner.Arriving.{job_arriving}
 use Rattle.cl_gen.proofs.DrawnJobs.{delay_within, gap_least, gap_greatest, arrivals_rise}
 use Rattle.cl_gen.proofs.RisingArrivals.{number_below, below_is}
 
@@ -45,10 +46,10 @@ one_word (Sporadic least greatest) = omega arith
 one_word (Burst period offset count distance) = omega arith
 
 pub words_few : (pattern : StimulusKind) (ranges : List TimeRange) (n : ℕ) → length ranges ≤ MOST_RUNNABLES → n ≤ MOST_RUN_TICKS
-    → n * job_words pattern ranges + arrival_words pattern ≤ 2 ^ 39
+    → n * job_draws pattern ranges + arrival_words pattern ≤ 2 ^ 39
 words_few pattern ranges n few short =
-    let width : job_words pattern ranges ≤ 257 = omega (arith, one_word pattern) in
-    omega (arith, mul-le n (job_words pattern ranges) MOST_RUN_TICKS 257 short width, one_word pattern)
+    let width : job_draws pattern ranges ≤ 257 = omega (arith, one_word pattern) in
+    omega (arith, mul-le n (job_draws pattern ranges) MOST_RUN_TICKS 257 short width, one_word pattern)
 
 -- ---- job after job
 
@@ -130,7 +131,7 @@ taken_few from pattern ranges n words count long few is short =
 
 pub first_word_is : (from : ℕ) (pattern : StimulusKind) (ranges : List TimeRange) (n more : ℕ) → n ≡ 0
     → from + more ≡ job_word from pattern ranges n + more
-first_word_is from pattern ranges n more none = omega (arith, ap (λ k. k * job_words pattern ranges) none)
+first_word_is from pattern ranges n more none = omega (arith, ap (λ k. k * job_draws pattern ranges) none)
 
 pub few_at_release : (pattern : StimulusKind) → release_words pattern ≤ 1
 few_at_release pattern = omega (arith, one_word pattern)

@@ -15,10 +15,11 @@ use Rattle.cl_model.specs.Named.{same_name, has_name, is_some_and, entry_named, 
 use Rattle.cl_model.specs.Place.{entry_of, at_key, at_spot}
 use Rattle.cl_model.specs.Refusals.{each}
 use Rattle.cl_model.specs.Validity.{step_check, step_of, misses_label, hop_check, lengths_check, chain_check}
+use Rattle.cl_model.proofs.NoRefusals.{none_in_order}
 use Rattle.cl_gen.specs.Generated.{label_name, runnable_name, generated_runnable, generated_chain, model_of_words}
 use Rattle.cl_gen.proofs.GeneratedParts.{runnables_are, runnable_names_are}
 use Rattle.cl_gen.proofs.GeneratedSections.{runnables_apart_below}
-use Rattle.cl_gen.proofs.PassingChecks.{not_refused, passed_by, none_in_order, each_shifted, among, entry_is}
+use Rattle.cl_gen.proofs.PassingChecks.{not_refused, passed_by, each_shifted, among, entry_is}
 
 -- a name is the one name in a list of itself
 alone : (name : List ℕ) → has_name name (name ∷ []) ≡ true

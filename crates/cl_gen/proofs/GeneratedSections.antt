@@ -23,10 +23,11 @@ use Rattle.cl_model.specs.Place.{entry_of, at_key, at_sub}
 use Rattle.cl_model.specs.Refusals.{when, each}
 use Rattle.cl_model.specs.ValidNames.{repeats, section_repeats, runnable_repeats, name_checks, offset_check, distance_check, burst_check, stimulus_checks}
 use Rattle.cl_model.proofs.ListFacts.{both_pass}
+use Rattle.cl_model.proofs.NoRefusals.{none_in_order}
 use Rattle.cl_gen.specs.Generated.{numbered, label_name, runnable_name, periods, generated_stimulus, generated_runnable, generated_task, model_of_words}
 use Rattle.cl_gen.proofs.ApartNames.{numbered_apart, labels_apart, runnables_apart}
 use Rattle.cl_gen.proofs.GeneratedParts.{tasks_are, core_names_are, stimulus_names_are, label_names_are, task_names_are, chain_names_are, first_runnable_names}
-use Rattle.cl_gen.proofs.PassingChecks.{not_refused, none_in_order, each_mapped, AreApartBelow, fresh, repeats_pass, entry_is}
+use Rattle.cl_gen.proofs.PassingChecks.{not_refused, each_mapped, AreApartBelow, fresh, repeats_pass, entry_is}
 
 -- ---- names over numbers in a row
 

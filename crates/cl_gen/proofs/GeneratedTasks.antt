@@ -21,13 +21,15 @@ use Rattle.cl_model.specs.Named.{same_name, has_name, is_some_and, core_names, l
 use Rattle.cl_model.specs.Place.{entry_of, at_key, at_sub, at_spot}
 use Rattle.cl_model.specs.Refusals.{each}
 use Rattle.cl_model.specs.Timing.{least_distance, greatest_jitter, deadline_under}
-use Rattle.cl_model.specs.ValidTasks.{task_key, core_check, stimulus_check, priority_check, late_check, release_check, room_check, empty_check, naming_checks, label_check, times_check, reads_check, writes_check, twice_check, contest_check, runnable_checks, body_checks, count_check, task_check, task_checks, is_outpaced_by, spans_too_many, deadline_check, deadline_checks}
+use Rattle.cl_model.specs.ValidTasks.{task_key, core_check, stimulus_check, priority_check, late_check, release_check, room_check, empty_check, naming_checks, label_check, times_check, reads_check}
+use Rattle.cl_model.specs.ValidTasks.{writes_check, twice_check, contest_check, runnable_checks, body_checks, count_check, task_check, task_checks, is_outpaced_by, spans_too_many, deadline_check, deadline_checks}
+use Rattle.cl_model.proofs.NoRefusals.{none_in_order}
 use Rattle.cl_gen.specs.Words.{draw}
 use Rattle.cl_gen.specs.Generated.{numbered, label_name, labels_read, periods, stimulus_number, generated_runnable, generated_task, model_of_words}
 use Rattle.cl_gen.proofs.ApartNames.{numbered_apart}
 use Rattle.cl_gen.proofs.GeneratedParts.{tasks_are, core_names_are, label_names_are, first_runnables, first_labels}
 use Rattle.cl_gen.proofs.GeneratedSections.{labels_apart_below, period_least, period_greatest, kind_is}
-use Rattle.cl_gen.proofs.PassingChecks.{not_refused, passed_by, none_in_order, each_mapped, among, fresh, none_of_mapped, few_let_through}
+use Rattle.cl_gen.proofs.PassingChecks.{not_refused, passed_by, each_mapped, among, fresh, none_of_mapped, few_let_through}
 use Rattle.cl_gen.proofs.Words.{draw_least, draw_greatest}
 
 -- the number of a task's stimulus

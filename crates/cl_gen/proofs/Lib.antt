@@ -1,5 +1,6 @@
 pub mod Words
 pub mod RisingArrivals
+pub mod DrawnByKind
 pub mod DrawnJobs
 pub mod LawfulTables
 pub mod DrawnSoFar

@@ -12,11 +12,10 @@ use Rattle.cl_model.specs.declared.place.Place.{Place}
 use Rattle.cl_model.specs.declared.refusal.Code.{Code}
 use Rattle.cl_model.specs.declared.refusal.Refusal.{Refusal}
 use Rattle.cl_model.specs.Named.{same_name, has_name, index_of, entry_named}
-use Rattle.cl_model.specs.NameSets.{AreApart}
-use Rattle.cl_model.specs.Refusals.{when, unless, in_order, each_from, each}
+use Rattle.cl_model.specs.NameSets.{AreDistinctNames}
+use Rattle.cl_model.specs.Refusals.{when, unless, each_from, each}
 use Rattle.cl_model.specs.ValidNames.{repeat_check, repeats}
 use Rattle.cl_model.proofs.NamePlaces.{own_place}
-use Rattle.cl_model.proofs.NoRefusals.{AllNone}
 
 -- ---- checks that refuse nothing
 
@@ -25,10 +24,6 @@ not_refused test code place fails = ap (λ b. when b code place) fails
 
 pub passed_by : (test : Bool) (code : Code) (place : Place) → test ≡ true → unless test code place ≡ []
 passed_by test code place passes = ap (λ b. unless b code place) passes
-
-pub none_in_order : (lists : List (List Refusal)) → AllNone lists → in_order lists ≡ []
-none_in_order [] none = refl
-none_in_order (checks ∷ others) none = ap (λ list. list ++ in_order others) none.0 ∙ none_in_order others none.1
 
 -- of items that are mapped over numbers in a row
 pub each_shifted : {X : Type 0} (check : ℕ → X → List Refusal) (f : ℕ → X) (m n a : ℕ) → ((j : ℕ) → j < m → check (n + j) (f (a + j)) ≡ [])
@@ -79,7 +74,7 @@ pub repeats_pass : (code : Code) (place : ℕ → Place) (f : ℕ → List ℕ) 
 repeats_pass code place f n apart = each_mapped (repeat_check code place [] (map f (range_with_len 0 n))) f n
     (λ i lt. not_refused _ code (place i) (ap (has_name (f i)) (take-map-range_with_len f 0 n i (omega arith)) ∙ fresh f n i apart lt))
 
-pub apart_in_list : (f : ℕ → List ℕ) (n : ℕ) → AreApartBelow f n → AreApart (map f (range_with_len 0 n))
+pub apart_in_list : (f : ℕ → List ℕ) (n : ℕ) → AreApartBelow f n → AreDistinctNames (map f (range_with_len 0 n))
 apart_in_list f n apart k within =
     let lt : k < n = omega (arith, within, length-map-range_with_len f 0 n) in
     ap (λ names. has_name (get_or (map f (range_with_len 0 n)) k []) names) (take-map-range_with_len f 0 n k (omega arith))

@@ -1,5 +1,4 @@
--- How many executions of runnables a simulation is counted to have, before anything is drawn. Source: this project's
--- profile
+-- How many executions of runnables a simulation is counted to have, before anything is drawn.
 use Rattle.std.specs.Prelude.{ℕ, ◌+◌, ◌-◌, ◌*◌, ◌/◌, ◌%◌, length, sum_by}
 use Rattle.std.specs.Int.{div_ceil}
 use Rattle.cl_model.specs.declared.model.SystemModel.{SystemModel}

@@ -1,6 +1,5 @@
 -- Drawn job tables: what a lawful table leaves open is drawn with numbered words (`word` gives each its value), task by
--- task and job by job: when a job arrives, when it is released, and then the time of each runnable.
--- Source: this project's profile
+-- task and job by job.
 use Rattle.std.specs.Prelude.{ℕ, zero, suc, ◌+◌, ◌-◌, ◌*◌, List, [], ◌∷◌, length, map}
 use Rattle.std.specs.List.{range_with_len}
 use Rattle.cl_model.specs.declared.model.SystemModel.{SystemModel}
@@ -14,23 +13,26 @@ use Rattle.cl_runs.specs.SystemOf.{system_of}
 use Rattle.cl_gen.specs.Words.{word_of, draw}
 use Rattle.cl_gen.specs.Arrivals.{arrivals_below}
 
--- ---- how many words are taken
+-- ---- the words of a job, in order: for its arrival, for its release, and one for the time of each runnable
+--
+--               arrival  release
+--     periodic     0        1
+--     sporadic     1        0
+--     bursts       0        0
 
--- for the arrival of a job: that of a sporadic task is drawn
 abbrev pub arrival_words : StimulusKind → ℕ
 arrival_words (Periodic period offset jitter) = 0
 arrival_words (Sporadic least greatest) = 1
 arrival_words (Burst period offset count distance) = 0
 
--- for its release: that of a periodic task is drawn
 abbrev pub release_words : StimulusKind → ℕ
 release_words (Periodic period offset jitter) = 1
 release_words (Sporadic least greatest) = 0
 release_words (Burst period offset count distance) = 0
 
--- for a whole job
-abbrev pub job_words : StimulusKind → List TimeRange → ℕ
-job_words pattern ranges = arrival_words pattern + release_words pattern + length ranges
+-- how many a job takes
+abbrev pub job_draws : StimulusKind → List TimeRange → ℕ
+job_draws pattern ranges = arrival_words pattern + release_words pattern + length ranges
 
 -- ---- what a word makes of a job, where one is taken
 
@@ -61,7 +63,7 @@ drawn_times word n (range ∷ ranges) = draw range.least range.greatest (word n)
 
 -- the first word of job k
 abbrev pub job_word : (from : ℕ) → StimulusKind → List TimeRange → (k : ℕ) → ℕ
-job_word from pattern ranges k = from + k * job_words pattern ranges
+job_word from pattern ranges k = from + k * job_draws pattern ranges
 
 -- when job k arrives
 unfoldable pub drawn_arrival : (word : ℕ → ℕ) → (from : ℕ) → StimulusKind → List TimeRange → (k : ℕ) → ℕ
@@ -69,18 +71,16 @@ drawn_arrival word from pattern ranges zero = first_arrival pattern (word from)
 drawn_arrival word from pattern ranges (suc k) =
     drawn_arrival word from pattern ranges k + gap_after pattern k (word (job_word from pattern ranges (suc k)))
 
--- a job that arrives then, where word n is the next one
-abbrev pub job_arriving : (word : ℕ → ℕ) → (n : ℕ) → StimulusKind → List TimeRange → (arrival : ℕ) → Job
-job_arriving word n pattern ranges arrival = record {
-  arrival = arrival;
-  release = arrival + release_delay pattern (word n);
-  times = drawn_times word (n + release_words pattern) ranges;
-}
-
--- job k
+-- job k: behind the words for its arrival stand those for its release, and behind these the ones for its times
 unfoldable pub drawn_job : (word : ℕ → ℕ) → (from : ℕ) → StimulusKind → List TimeRange → (k : ℕ) → Job
 drawn_job word from pattern ranges k =
-    job_arriving word (job_word from pattern ranges k + arrival_words pattern) pattern ranges (drawn_arrival word from pattern ranges k)
+    let arrival = drawn_arrival word from pattern ranges k in
+    let n = job_word from pattern ranges k + arrival_words pattern in
+    record {
+      arrival = arrival;
+      release = arrival + release_delay pattern (word n);
+      times = drawn_times word (n + release_words pattern) ranges;
+    }
 
 -- how many jobs arrive in the first ticks
 unfoldable pub drawn_count : (word : ℕ → ℕ) → (from : ℕ) → StimulusKind → List TimeRange → (ticks : ℕ) → ℕ

@@ -1,6 +1,6 @@
 -- Generated models: each is drawn with numbered words (`word` gives each its value), six words a task. Runnables and
 -- labels are numbered over the whole model: task i has the runnables 2 * i and 2 * i + 1, and runnable k writes label k
--- and reads label k - 1. Source: this project's profile
+-- and reads label k - 1.
 use Rattle.std.specs.Prelude.{ℕ, zero, suc, ◌+◌, ◌-◌, ◌*◌, ◌/◌, ◌%◌, ◌==◌, false, if◌then◌else◌, None, List, [], ◌∷◌, ◌++◌, map, slice_index, codes, decimal}
 use Rattle.std.specs.Int.{div_ceil}
 use Rattle.std.specs.List.{range_with_len}

@@ -1,5 +1,5 @@
 -- The numbered words of a seed, and what a word draws.
--- source: O'Neill's PCG XSL RR 128/64 as the crate `rand_pcg` seeds it; what a word draws is this project's profile
+-- source: O'Neill's PCG XSL RR 128/64 as the crate `rand_pcg` seeds it; what a word draws is said here
 use Rattle.std.specs.Prelude.{ℕ, ◌+◌, ◌-◌, ◌%◌}
 use Rattle.rand_core.specs.Pcg32Seed.{pcg32_seed}
 use Rattle.rand_pcg.specs.Lcg.{Lcg, advance}

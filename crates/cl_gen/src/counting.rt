@@ -3,6 +3,7 @@ ghost use Rattle.std.specs.Prelude.{◌≡◌, ◌+◌, ◌*◌, ◌^◌, ◌<�
 ghost use Rattle.cl_model.specs.declared.stimulus.StimulusKind.TheVariants.{Burst};
 ghost use Rattle.cl_model.specs.Ranges.{IsKindInRange};
 ghost use Rattle.cl_model.specs.Timing.{IsKindOrdered};
+ghost use Rattle.cl_model.specs.Validity.{IsValid};
 ghost use Rattle.cl_runs.specs.TaskTiming.{timing_at};
 ghost use Rattle.cl_runs.specs.SystemOf.{system_of};
 ghost use Rattle.cl_gen.specs.Count.{arrival_count, task_executions, execution_count};
@@ -55,19 +56,16 @@ fn task_executions(model: &ValidModel, task: u32, ticks: u64) -> u64
     ensures count { result ≡ task_executions ticks (timing_at (system_of model.now) task) }
     ensures few { result ≤ 2 ^ 40 }
 {
-    let runnables = model.plain().tasks.as_slice()[task as usize]
-        .runnables
-        .len();
+    let runnables = model.task(task).runnables.len();
     runnables as u64 * arrival_count(model.stimulus_of(task), ticks)
 }
 
 /// How many executions are counted of all tasks.
 pub(crate) fn execution_count(model: &ValidModel, ticks: u64) -> u64
     requires { ticks ≤ MOST_RUN_TICKS }
-    ensures { result ≡ execution_count model.now ticks }
+    ensures count { result ≡ execution_count model.now ticks }
+    ensures valid { IsValid model.now }
 {
-    // read for what it says: the model is valid
-    let _plain = model.plain();
     let mut count = 0;
     for task in 0..model.tasks() {
         count += task_executions(model, task, ticks);

@@ -1,12 +1,13 @@
 //! Job tables that are drawn. Times are in ticks.
-ghost use Rattle.std.specs.Prelude.{◌≡◌, ◌+◌, ◌*◌, ◌<◌, ◌≤◌, ◌^◌, length, map, All, IfOk, OnOk};
+ghost use Rattle.std.specs.Prelude.{◌≡◌, ◌+◌, ◌<◌, ◌≤◌, ◌^◌, length, map, All, IfOk, OnOk};
 ghost use Rattle.cl_model.specs.declared.task.RunnableDef.{RunnableDef};
 ghost use Rattle.cl_model.specs.Ranges.{IsKindInRange, IsRunnableInRange};
 ghost use Rattle.cl_model.specs.Timing.{IsKindOrdered};
 ghost use Rattle.cl_runs.specs.TaskTiming.{timing_at};
 ghost use Rattle.cl_runs.specs.SystemOf.{range_of, system_of};
 ghost use Rattle.cl_gen.specs.Words.{word_of};
-ghost use Rattle.cl_gen.specs.Drawn.{arrival_words, release_words, first_arrival, gap_after, release_delay, drawn_times, job_arriving, drawn_jobs, word_after, drawn_tasks};
+ghost use Rattle.cl_gen.specs.Drawn.{arrival_words, release_words, first_arrival, gap_after, release_delay, drawn_times, drawn_jobs, word_after, drawn_tasks};
+ghost use Rattle.cl_gen.specs.Inner.Arriving.{job_arriving};
 
 use crate::draws::Draws;
 use crate::limits::MOST_RUN_TICKS;
@@ -160,9 +161,7 @@ fn draw_task(
         draws.new ≡ record draws.old { words = word_after (word_of draws.old.seed) draws.old.words timing.pattern timing.ranges ticks }) }
     ensures few { OnOk result (draws.new.words ≤ draws.old.words + 2 ^ 40) }
 {
-    let runnables = model.plain().tasks.as_slice()[task as usize]
-        .runnables
-        .as_slice();
+    let runnables = model.task(task).runnables.as_slice();
     draw_jobs(alloc, draws, model.stimulus_of(task), runnables, ticks)
 }
 
@@ -177,8 +176,6 @@ pub(crate) fn draw_tasks(
     requires all { draws.old.words ≡ 0 }
     ensures { IfOk result (λ jobs. jobs ≡ drawn_tasks (word_of draws.old.seed) ticks 0 (system_of model.now).tasks) }
 {
-    // read for what it says: the model is valid
-    let _plain = model.plain();
     let mut jobs = List::new(alloc);
     for task in 0..model.tasks() {
         jobs.push(draw_task(alloc, draws, model, task, ticks)?)?;

@@ -25,7 +25,7 @@ const PERIODS: [u64; 9] = [
 /// periodic stimuli, two runnables a task, and a chain over each four tasks. Times are in ticks.
 ///
 /// `NoMemory` comes where there is no memory for the model; it leaves nothing. The words are those of the generator PCG
-/// XSL RR 128/64, in order; which word draws what is this project's profile.
+/// XSL RR 128/64, in order; which word draws what is said here.
 pub fn generate(alloc: Global, seed: u64, tasks: u64) -> Result<SystemModel, NoMemory>
     requires some { 1 ≤ tasks }
     requires few { tasks ≤ MOST_TASKS }

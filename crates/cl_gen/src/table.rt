@@ -55,7 +55,7 @@ fn drawn_table(
 /// `SimLimit` comes exactly where more executions of runnables are counted than [`MOST_EXECUTIONS`], with the count and
 /// before anything is drawn. `NoMemory` comes where there is no memory for the table. Either leaves nothing.
 ///
-/// The words are those of the generator PCG XSL RR 128/64, in order; which word draws what is this project's profile.
+/// The words are those of the generator PCG XSL RR 128/64, in order; which word draws what is said here.
 pub fn draw_table(
     alloc: Global,
     model: &ValidModel,
@@ -73,7 +73,5 @@ pub fn draw_table(
     if count > MOST_EXECUTIONS {
         return Err(DrawFault::SimLimit { count });
     }
-    // read for what it says: the model is valid
-    let _plain = model.plain();
     Ok(drawn_table(alloc, model, ticks, seed)?)
 }

@@ -119,40 +119,31 @@ module _ (one other : System) where
 
   -- ---- sums
 
-  same_forward : (x y : Group) (xs ys : List Group) → numbers one x ≡ numbers other y → map (numbers one) xs ≡ map (numbers other) ys
-      → hop_lines_from one x xs ≡ hop_lines_from other y ys
-      → hops forward_hop (settled_timing one x) (settled_timings one xs) ≡ hops forward_hop (settled_timing other y) (settled_timings other ys)
-  same_forward x y [] [] first rest lines = refl
-  same_forward x y [] (s ∷ ys) first rest lines = absurd cc
-  same_forward x y (r ∷ xs) [] first rest lines = absurd cc
-  same_forward x y (r ∷ xs) (s ∷ ys) first rest lines =
-      let next : numbers one r ≡ numbers other s = cc in
-      let distances = ap (λ (n : Numbers). n.distance) next in
-      let line : hop_line one x r ≡ hop_line other y s = cc in
-      let here : forward_hop (settled_timing one x) (settled_timing one r) ≡ forward_hop (settled_timing other y) (settled_timing other s)
-      = same_hop (settled_timing one r).distance (settled_timing other s).distance x r y s distances first next line in
-      let later_numbers : map (numbers one) xs ≡ map (numbers other) ys = cc in
-      let later_lines : hop_lines_from one r xs ≡ hop_lines_from other s ys = cc in
-      let later : hops forward_hop (settled_timing one r) (settled_timings one xs) ≡ hops forward_hop (settled_timing other s) (settled_timings other ys)
-      = same_forward r s xs ys next later_numbers later_lines in
-      cc
+  forward_told : (w r v s : Group) → numbers one w ≡ numbers other v → numbers one r ≡ numbers other s → hop_line one w r ≡ hop_line other v s
+      → forward_hop (settled_timing one w) (settled_timing one r) ≡ forward_hop (settled_timing other v) (settled_timing other s)
+  forward_told w r v s writers readers lines = same_hop _ _ w r v s (ap (λ (n : Numbers). n.distance) readers) writers readers lines
 
-  same_backward : (x y : Group) (xs ys : List Group) → numbers one x ≡ numbers other y → map (numbers one) xs ≡ map (numbers other) ys
+  backward_told : (w r v s : Group) → numbers one w ≡ numbers other v → numbers one r ≡ numbers other s → hop_line one w r ≡ hop_line other v s
+      → backward_hop (settled_timing one w) (settled_timing one r) ≡ backward_hop (settled_timing other v) (settled_timing other s)
+  backward_told w r v s writers readers lines = same_hop _ _ w r v s (ap (λ (n : Numbers). n.distance) writers) writers readers lines
+
+  -- where a kind of hop is told by the numbers of its two groups and by its line, so is the sum of such hops
+  same_hops : (kind : _ → _ → ℤ)
+      → ((w r v s : Group) → numbers one w ≡ numbers other v → numbers one r ≡ numbers other s → hop_line one w r ≡ hop_line other v s
+      → kind (settled_timing one w) (settled_timing one r) ≡ kind (settled_timing other v) (settled_timing other s))
+      → (x y : Group) (xs ys : List Group) → numbers one x ≡ numbers other y → map (numbers one) xs ≡ map (numbers other) ys
       → hop_lines_from one x xs ≡ hop_lines_from other y ys
-      → hops backward_hop (settled_timing one x) (settled_timings one xs) ≡ hops backward_hop (settled_timing other y) (settled_timings other ys)
-  same_backward x y [] [] first rest lines = refl
-  same_backward x y [] (s ∷ ys) first rest lines = absurd cc
-  same_backward x y (r ∷ xs) [] first rest lines = absurd cc
-  same_backward x y (r ∷ xs) (s ∷ ys) first rest lines =
+      → hops kind (settled_timing one x) (settled_timings one xs) ≡ hops kind (settled_timing other y) (settled_timings other ys)
+  same_hops kind told x y [] [] first rest lines = refl
+  same_hops kind told x y [] (s ∷ ys) first rest lines = absurd cc
+  same_hops kind told x y (r ∷ xs) [] first rest lines = absurd cc
+  same_hops kind told x y (r ∷ xs) (s ∷ ys) first rest lines =
       let next : numbers one r ≡ numbers other s = cc in
-      let distances = ap (λ (n : Numbers). n.distance) first in
       let line : hop_line one x r ≡ hop_line other y s = cc in
-      let here : backward_hop (settled_timing one x) (settled_timing one r) ≡ backward_hop (settled_timing other y) (settled_timing other s)
-      = same_hop (settled_timing one x).distance (settled_timing other y).distance x r y s distances first next line in
+      let here = told x r y s first next line in
       let later_numbers : map (numbers one) xs ≡ map (numbers other) ys = cc in
       let later_lines : hop_lines_from one r xs ≡ hop_lines_from other s ys = cc in
-      let later : hops backward_hop (settled_timing one r) (settled_timings one xs) ≡ hops backward_hop (settled_timing other s) (settled_timings other ys)
-      = same_backward r s xs ys next later_numbers later_lines in
+      let later = same_hops kind told r s xs ys next later_numbers later_lines in
       cc
 
   record SameLast (x y : Group) (xs ys : List Group) : Type 0 where
@@ -182,8 +173,8 @@ module _ (one other : System) where
   same_sums (x ∷ xs) (y ∷ ys) all lines =
       let first : numbers one x ≡ numbers other y = cc in
       let rest : map (numbers one) xs ≡ map (numbers other) ys = cc in
-      let forward = same_forward x y xs ys first rest lines in
-      let backward = same_backward x y xs ys first rest lines in
+      let forward = same_hops forward_hop forward_told x y xs ys first rest lines in
+      let backward = same_hops backward_hop backward_told x y xs ys first rest lines in
       let distances = ap (λ (n : Numbers). n.distance) first in
       let reads = ap (λ (n : Numbers). n.read) first in
       let last = same_last x y xs ys first rest in

@@ -1,4 +1,5 @@
--- Groups with equal questions, maybe of two systems: as many, with the same arrivals, deadlines and ways to access labels.
+-- Groups with equal questions, maybe of two systems: as many, with the same arrivals, deadlines and ways to access
+-- labels.
 use Rattle.std.proofs.Common.{◌≡◌, ℕ, ◌+◌, ◌<◌, Bool, List, [], ◌∷◌, length, get_or, refl, sym, ap, ◌∙◌, arith}
 use Rattle.std.specs.Prelude.{map, sum_by}
 use Rattle.std.specs.List.{list_all}

@@ -6,13 +6,13 @@ use Rattle.cl_model.specs.declared.group.Group.{Group}
 use Rattle.cl_model.specs.declared.stimulus.StimulusKind.{StimulusKind}
 use Rattle.cl_model.specs.Groups.{no_group, group_at}
 use Rattle.cl_model.specs.Timing.{least_distance}
+use Rattle.cl_model.specs.Kinds.{is_timed, is_periodic}
 use Rattle.cl_runs.specs.Pattern.{first_least}
 use Rattle.cl_runs.specs.TaskTiming.{System}
 use Rattle.cl_runs.specs.Chains.{JobChain, first_group, last_group, first_job, last_job}
-use Rattle.cl_comm.specs.AccessMoments.{is_timed}
 use Rattle.cl_exact.specs.declared.limit.TheConstants.{MOST_FIRST_JOBS}
 use Rattle.cl_exact.specs.declared.witness.Witness.{Witness}
-use Rattle.cl_exact.specs.TimedPeriodic.{is_periodic, are_timed_periodic}
+use Rattle.cl_exact.specs.TimedPeriodic.{are_timed_periodic}
 use Rattle.cl_exact.specs.Hyperperiod.{period_of, IsMultipleOfPeriods, IsHyperperiod, hyper_limit, IsWithinLimit, IsPastLimit}
 use Rattle.cl_exact.specs.ExactLengths.{HaveAllBegun, start_up, IsSteadyForward, IsSteadyAge, IsSteadyReduced, IsExact, Witnesses, AreExactLengths}
 use Rattle.cl_incr.specs.declared.question.GroupQuestion.{GroupQuestion}

@@ -8,10 +8,10 @@ use Rattle.cl_model.specs.declared.model.SystemModel.{SystemModel}
 use Rattle.cl_model.specs.declared.group.Group.{Group}
 use Rattle.cl_model.specs.ByNumber.{task_at, core_of, chain_at}
 use Rattle.cl_model.specs.Groups.{group_at, groups_at, steps_of}
+use Rattle.cl_model.specs.Kinds.{is_timed}
 use Rattle.cl_runs.specs.SystemOf.{timing_of, system_of}
 use Rattle.cl_runs.specs.TaskTiming.{Timing, System, timing_at}
 use Rattle.cl_runs.proofs.ModelSystem.{timing_is}
-use Rattle.cl_comm.specs.AccessMoments.{is_timed}
 use Rattle.cl_comm.specs.Windows.{spot_at}
 use Rattle.cl_bound.specs.declared.answer.TaskAnswer.{TaskAnswer}
 use Rattle.cl_bound.specs.Answers.{answers_of, answer_at, response_in}

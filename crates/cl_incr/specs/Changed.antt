@@ -1,5 +1,4 @@
 -- Which questions change from one model to another. A task or a chain keeps its name where its number changes.
--- Source: this project's profile.
 use Rattle.std.specs.Prelude.{◌≡◌, ◌≢◌, ℕ, ◌+◌, ◌*◌, ◌<◌, ◌≤◌, List, length, All, Some}
 use Rattle.std.specs.List.Sorted.{IsStrictlyIncreasing}
 use Rattle.cl_model.specs.declared.model.SystemModel.{SystemModel}

@@ -1,5 +1,5 @@
 -- The question of a chain: all that its bounds and its exact lengths depend on. That of a task is the question that its
--- response answers. Source: this project's profile.
+-- response answers.
 use Rattle.std.specs.Prelude.{ℕ, ◌==◌, if◌then◌else◌, List, [], ◌∷◌, map, Option, Some, None}
 use Rattle.cl_model.specs.declared.group.Group.{Group}
 use Rattle.cl_model.specs.declared.model.SystemModel.{SystemModel}
@@ -19,9 +19,9 @@ use Rattle.cl_incr.specs.declared.question.HopLine.TheVariants.{SameTask, Saving
 
 -- ---- groups
 
--- what the lengths of a chain depend on, of one of its groups, where these are the answers for the tasks: how the jobs of
--- its task arrive, their deadline, how they access labels, the least times before its first and after its last runnable,
--- and its response
+-- what the lengths of a chain depend on, of one of its groups, where these are the answers for the tasks: how the jobs
+-- of its task arrive, their deadline, how they access labels, the least times before its first and after its last
+-- runnable, and its response
 unfoldable pub group_question : System → (answers : List TaskAnswer) → Group → GroupQuestion
 group_question system answers group =
     let timing = timing_at system group.task in

@@ -1,7 +1,6 @@
-//! The answers for the chains of an edited model: those that stood before where the questions are the same, and else asked
-//! anew. Times are in ticks.
+//! The answers for the chains of an edited model: those that stood before where the questions are the same, and else
+//! asked anew. Times are in ticks.
 ghost use Rattle.std.specs.Prelude.{◌≡◌, ◌<◌, length, IfOk};
-ghost use Rattle.cl_model.specs.ByNumber.{chain_at};
 ghost use Rattle.cl_runs.specs.SystemOf.{system_of};
 ghost use Rattle.cl_bound.specs.Answers.{answers_of};
 ghost use Rattle.cl_analyse.specs.ChainAnswers.{chain_answers_of, AreExactAnswers};
@@ -13,7 +12,7 @@ ghost use Rattle.cl_incr.specs.Inner.Asked.{AsksOne, AsksChains};
 use crate::comparing::ask_the_same;
 use cl_analyse::{ChainAnswer, ExactAnswer, Findings, answer_chain, answer_exact};
 use cl_bound::TaskAnswer;
-use cl_model::{List, Name, ValidModel};
+use cl_model::{List, ValidModel};
 use cl_time::{NoMemory, Steps};
 use std::alloc::Global;
 use std::sync::ledger::Ledger;
@@ -32,14 +31,6 @@ pub(crate) struct AllChains {
     pub(crate) exacts: List<ExactAnswer>,
 }
 
-/// The name of a chain of a valid model, given by its number.
-fn chain_name(model: &ValidModel, chain: u32) -> &Name
-    requires { chain < length model.now.chains }
-    ensures { result.now ≡ (chain_at model.now chain).name }
-{
-    &model.plain().chains.as_slice()[chain as usize].name
-}
-
 /// What was found of a chain before. It is kept where the chain of that name had the same question.
 fn kept_findings(
     old: &ValidModel,
@@ -53,9 +44,8 @@ fn kept_findings(
     requires chain { chain < length new.now.chains }
     ensures { IsKeptChain old.now new.now chain result }
 {
-    // read for what it says: the old model is valid
-    let _plain = old.plain();
-    let before = old.chain_named(chain_name(new, chain))?;
+    let before = old.chain_named(&new.chain(chain).name)?;
+    prove!(before < old.chains());
     if !ask_the_same(old, &findings.tasks, before, new, tasks, chain) {
         return None;
     }

@@ -2,7 +2,6 @@
 ghost use Rattle.std.specs.Prelude.{◌≡◌, ◌-◌, ◌<◌, ◌↔◌, length, map, IsTrue};
 ghost use Rattle.cl_model.specs.Groups.{group_at, groups_at, IsGroupOf};
 ghost use Rattle.cl_runs.specs.SystemOf.{system_of};
-ghost use Rattle.cl_comm.specs.AccessMoments.{is_timed};
 ghost use Rattle.cl_bound.specs.Answers.{answers_of, answer_at, response_in};
 ghost use Rattle.cl_bound.specs.Bounds.{settled_timing};
 ghost use Rattle.cl_bound.specs.Hops.{saves};
@@ -10,11 +9,10 @@ ghost use Rattle.cl_incr.specs.Questions.{group_question, hop_line, hop_lines, c
 ghost use Rattle.cl_incr.specs.Inner.Kept.{AreBothAsked};
 
 use crate::question::{GroupQuestion, HopLine};
-use crate::tasks::task_of;
 use cl_analyse::first_late;
 use cl_bound::TaskAnswer;
 use cl_comm::spot_of;
-use cl_model::{AccessKind, Group, List, ValidModel};
+use cl_model::{Group, List, ValidModel};
 
 /// The response of a task, and 0 where it is late and has none.
 fn response_of(answers: &List<TaskAnswer>, task: u32) -> u64
@@ -34,7 +32,7 @@ fn group_question(model: &ValidModel, answers: &List<TaskAnswer>, group: Group) 
     GroupQuestion {
         pattern: model.stimulus_of(group.task),
         deadline: model.deadline_of(group.task),
-        access: task_of(model, group.task).access,
+        access: model.task(group.task).access,
         before: spot_of(model, group.task, group.first).before,
         after: spot_of(model, group.task, group.last).after,
         response: response_of(answers, group.task),
@@ -76,13 +74,6 @@ fn have_same_groups(
     true
 }
 
-/// Whether tasks of that kind of access are timed.
-fn is_timed(access: AccessKind) -> bool
-    ensures { result ≡ is_timed access }
-{
-    matches!(access, AccessKind::Timed)
-}
-
 /// Whether a hop between the groups saves the writer's time.
 fn saves(model: &ValidModel, writer: Group, reader: Group) -> bool
     requires writer { IsGroupOf model.now writer }
@@ -92,12 +83,12 @@ fn saves(model: &ValidModel, writer: Group, reader: Group) -> bool
     if model.core_of(writer.task) != model.core_of(reader.task) {
         return false;
     }
-    let from = task_of(model, writer.task);
-    let to = task_of(model, reader.task);
+    let from = model.task(writer.task);
+    let to = model.task(reader.task);
     if from.priority <= to.priority {
         return false;
     }
-    !is_timed(from.access) && !is_timed(to.access)
+    !from.access.is_timed() && !to.access.is_timed()
 }
 
 /// How the hop from a group to the next is bounded.

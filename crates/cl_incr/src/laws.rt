@@ -1,5 +1,5 @@
-//! Equal questions have equal answers, so an answer may be kept as long as its question stays the same, whatever else of
-//! the model changes.
+//! Equal questions have equal answers, so an answer may be kept as long as its question stays the same, whatever else
+//! of the model changes.
 ghost use Rattle.std.specs.Prelude.{◌≡◌, ℕ, ◌<◌, length, Some, None};
 ghost use Rattle.cl_model.specs.declared.model.SystemModel.{SystemModel};
 ghost use Rattle.cl_model.specs.ByNumber.{chain_at};

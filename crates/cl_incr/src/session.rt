@@ -37,8 +37,8 @@ impl Model for Session {
 }
 
 impl Session {
-    /// A session over a model, which is analysed: a step at most for each task, and two for each chain. `NoMemory` comes
-    /// where there is no memory for the findings or for a question; it leaves nothing.
+    /// A session over a model, which is analysed: a step at most for each task, and two for each chain. `NoMemory`
+    /// comes where there is no memory for the findings or for a question; it leaves nothing.
     pub fn start<L: Ledger>(
         alloc: Global,
         model: ValidModel,
@@ -56,12 +56,13 @@ impl Session {
         })
     }
 
-    /// Edits the model. Its findings are then those of a fresh analysis of the edited model, but only questions that are
-    /// changed are asked: a step at most for each task whose question is changed, and two for each such chain, whatever is
-    /// answered. `Edit::Report` changes nothing, takes no memory and is always Ok.
+    /// Edits the model. Its findings are then those of a fresh analysis of the edited model, but only questions that
+    /// are changed are asked: a step at most for each task whose question is changed, and two for each such chain,
+    /// whatever is answered. `Edit::Report` changes nothing, takes no memory and is always Ok.
     ///
-    /// It is refused exactly where the edited model is, with the first refusal; that counts no step. `NoMemory` comes where
-    /// there is no memory for the edited model, for its findings or for a question. Either leaves the session as it was.
+    /// It is refused exactly where the edited model is, with the first refusal; that counts no step. `NoMemory` comes
+    /// where there is no memory for the edited model, for its findings or for a question. Either leaves the session as
+    /// it was.
     pub fn apply<L: Ledger>(&mut self, edit: &Edit, steps: &mut Steps<L>) -> Result<(), ModelFault>
         requires { IsEditInRange edit.now }
         ensures model { OnOk result (edited self.old.model edit.now ≡ Ok self.new.model) }
@@ -74,7 +75,7 @@ impl Session {
             → AsksForChanges self.old.model changed steps.old steps.new }
         ensures refused_steps { (refusal : Refusal) → edited self.old.model edit.now ≡ Err refusal → steps.new ≡ steps.old }
     {
-        // read for what they say: the model is valid, and the findings are its own
+        // a report keeps the model, since it is valid, and the findings, since they are its own
         let _plain = self.model().plain();
         let _findings = self.findings();
         match edit {

@@ -1,8 +1,7 @@
-//! The answers for the tasks of an edited model: those that stood before where the questions are the same, and else asked
-//! anew. Times are in ticks.
+//! The answers for the tasks of an edited model: those that stood before where the questions are the same, and else
+//! asked anew. Times are in ticks.
 ghost use Rattle.std.specs.Prelude.{◌≡◌, ℕ, ◌<◌, ◌↔◌, length, IfOk, IsTrue};
 ghost use Rattle.cl_model.specs.declared.model.SystemModel.{SystemModel};
-ghost use Rattle.cl_model.specs.ByNumber.{task_at};
 ghost use Rattle.cl_runs.specs.SystemOf.{system_of};
 ghost use Rattle.cl_runs.specs.TaskTiming.{timing_at};
 ghost use Rattle.cl_bound.specs.Answers.{answer_to, answers_of};
@@ -13,19 +12,11 @@ ghost use Rattle.cl_incr.specs.Inner.Asked.{AsksOne, AsksTasks};
 
 use cl_analyse::answer_question;
 use cl_bound::TaskAnswer;
-use cl_model::{List, TaskDef, ValidModel};
+use cl_model::{List, ValidModel};
 use cl_resp::{Question, ask};
 use cl_time::{NoMemory, Steps};
 use std::alloc::Global;
 use std::sync::ledger::Ledger;
-
-/// A task of a valid model, given by its number.
-pub(crate) fn task_of(model: &ValidModel, task: u32) -> &TaskDef
-    requires { task < length model.now.tasks }
-    ensures { result.now ≡ task_at model.now task }
-{
-    &model.plain().tasks.as_slice()[task as usize]
-}
 
 /// Whether two questions of tasks of models are the same.
 fn is_same_question(one: &Question, other: &Question) -> bool
@@ -35,8 +26,8 @@ fn is_same_question(one: &Question, other: &Question) -> bool
     one == other
 }
 
-/// The answer that stood before for a task, which has this question now. It is kept where the task of that name had the same
-/// question.
+/// The answer that stood before for a task, which has this question now. It is kept where the task of that name had the
+/// same question.
 fn kept_answer(
     alloc: Global,
     old: &ValidModel,
@@ -50,7 +41,7 @@ fn kept_answer(
     requires question { question.now ≡ question_at new.now task }
     ensures { IfOk result (IsKeptTask old.now new.now task) }
 {
-    let Some(before) = old.task_named(&task_of(new, task).name) else {
+    let Some(before) = old.task_named(&new.task(task).name) else {
         return Ok(None);
     };
     let question_before = ask(alloc, old, before)?;

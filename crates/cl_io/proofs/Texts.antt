@@ -26,7 +26,9 @@ text_changes bytes old new value updates = record {
 }
 
 -- where a text that has no value is given the default, what is found or the default is the same at every text
-pub default_stays : {X Y : Type 0} (default : X) (bytes : List ℕ) (old new : BTreeMap (String Y) X) → get_by_text old bytes ≡ None → ChangesAlone bytes (Some default) (get_by_text old) (get_by_text new) → (other : List ℕ) → unwrap_or (get_by_text new other) default ≡ unwrap_or (get_by_text old other) default
+pub default_stays : {X Y : Type 0} (default : X) (bytes : List ℕ) (old new : BTreeMap (String Y) X) → get_by_text old bytes ≡ None
+    → ChangesAlone bytes (Some default) (get_by_text old) (get_by_text new) → (other : List ℕ)
+    → unwrap_or (get_by_text new other) default ≡ unwrap_or (get_by_text old other) default
 default_stays {X} default bytes old new absent changes other = by_cases (bytes_eq bytes other) refl
   where
     found : Option X → X

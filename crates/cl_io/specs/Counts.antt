@@ -1,4 +1,4 @@
--- Counts that only rise (this project's profile).
+-- Counts that only rise.
 use Rattle.std.specs.Prelude.{◌≡◌, ◌≢◌, ℕ, ◌+◌, ◌-◌, ◌<◌, ◌≤◌, ◌^◌, min, List}
 
 -- one more, up to the greatest u64

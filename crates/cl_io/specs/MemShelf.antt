@@ -1,4 +1,4 @@
--- Shelves in memory (this project's profile).
+-- Shelves in memory.
 use Rattle.std.specs.Prelude.{◌≡◌, ℕ, Bool, true, false, ◌||◌, ◌==◌, List, [], unwrap_or, is_none, Result, Ok, Err, Vec}
 use Rattle.std.specs.List.{list_any}
 use Rattle.std.specs.Option.{option_map_or}
@@ -38,8 +38,8 @@ abbrev pub sure_longest : SureShelf → List ℕ → ℕ
 sure_longest shelf name = longest_of shelf.numbers name
 
 -- The next fetch of the name fails: there is no file of that name, or it is one of those that are to fail.
-abbrev pub fails_next : MemShelf → List ℕ → Bool
-fails_next shelf name = is_none (file_of shelf.files name) || list_any (λ call. call == calls_made shelf) (failing_calls shelf)
+abbrev pub fetch_fails_next : MemShelf → List ℕ → Bool
+fetch_fails_next shelf name = is_none (file_of shelf.files name) || list_any (λ call. call == calls_made shelf) (failing_calls shelf)
 
 -- A fetch that is to fail does, and no other does. Memory may run out in either.
 abbrev pub FailsExactly : Bool → Result (Vec ℕ Global) FetchFault → Type 0

@@ -1,4 +1,4 @@
--- What is kept for each name, as a function of the name's bytes (this project's profile).
+-- What is kept for each name, as a function of the name's bytes.
 use Rattle.std.specs.Prelude.{◌≡◌, ◌≢◌, ℕ, List}
 
 -- It has become this at one name, and is as it was at every other.

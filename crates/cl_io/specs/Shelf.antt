@@ -1,4 +1,4 @@
--- What lies under a name, and what a fetch of it may answer (this project's profile).
+-- What lies under a name, and what a fetch of it may answer.
 use Rattle.std.specs.Prelude.{◌≡◌, ◌⊎◌, ℕ, ◌<◌, ◌≤◌, max, List, length, Result, Ok, Err, Vec}
 use Rattle.std.specs.declared.alloc.Global.{Global}
 use Rattle.cl_io.specs.declared.fault.FetchFault.{FetchFault}

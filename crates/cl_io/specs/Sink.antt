@@ -1,4 +1,4 @@
--- What a sink may do with a piece (this project's profile).
+-- What a sink may do with a piece.
 use Rattle.std.specs.Prelude.{◌≡◌, ℕ, ◌<◌, ◌≤◌, List, ◌++◌, length, take, Option, Result, Ok, Err}
 use Rattle.std.specs.Option.{option_map}
 use Rattle.cl_io.specs.Counts.{Rose}

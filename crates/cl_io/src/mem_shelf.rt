@@ -4,7 +4,7 @@ ghost use Rattle.cl_io.specs.Names.{ChangesAlone, SameAtEach};
 ghost use Rattle.cl_io.specs.NameNumbers.{no_numbers, faults_of, longest_of, IsEntered};
 ghost use Rattle.cl_io.specs.Shelf.{Absent, Content, MayAnswer};
 ghost use Rattle.cl_io.specs.Inner.Giving.{IsGiven};
-ghost use Rattle.cl_io.specs.MemShelf.{mem_held, mem_numbers, failing_calls, calls_made, fails_next, FailsExactly, CountsFaults};
+ghost use Rattle.cl_io.specs.MemShelf.{mem_held, mem_numbers, failing_calls, calls_made, fetch_fails_next, FailsExactly, CountsFaults};
 
 use crate::files::Files;
 use crate::{FetchFault, NameNumbers, Shelf};
@@ -37,7 +37,8 @@ impl MemShelf {
         }
     }
 
-    /// Puts a file on the shelf, in place of what stood under the name. Where memory runs out, the shelf holds what it held.
+    /// Puts a file on the shelf, in place of what stood under the name. Where memory runs out, the shelf holds what it
+    /// held.
     pub fn put(&mut self, name: &str, content: &[u8]) -> Result<(), NoMemory>
         ensures ok { OnOk result (ChangesAlone name.now (Content content.now) (mem_held self.old) (mem_held self.new)) }
         ensures err { OnErr result (SameAtEach (mem_held self.old) (mem_held self.new)) }
@@ -76,7 +77,7 @@ impl Shelf for MemShelf {
             (mem_numbers self.old name.now) (mem_numbers self.new name.now) result }
 
         // As it was told to, and nothing is forgotten of that.
-        ensures scripted { FailsExactly (fails_next self.old name.now) result }
+        ensures scripted { FailsExactly (fetch_fails_next self.old name.now) result }
         ensures counted { CountsFaults (mem_numbers self.old name.now).faults (mem_numbers self.new name.now).faults result }
         ensures failing { failing_calls self.new ≡ failing_calls self.old }
         ensures calls { calls_made self.new ≡ min (calls_made self.old + 1) (2 ^ 64 - 1) }

@@ -1,4 +1,5 @@
-ghost use Rattle.std.specs.Prelude.{◌≡◌, [], ◌∷◌, ◌++◌, ◌<◌, ◌≤◌, Some, IfOk, OnOk, OnErr};
+ghost use Rattle.std.specs.Prelude.{◌≡◌, ◌↔◌, IsTrue, [], ◌∷◌, ◌++◌, ◌<◌, ◌≤◌, Some, IsErr, IfOk, OnOk, OnErr};
+ghost use Rattle.cl_io.specs.Counts.{counted};
 ghost use Rattle.cl_io.specs.Sink.{MayTake};
 ghost use Rattle.cl_io.specs.MemSink.{new_sink, answer_of, after_write};
 
@@ -7,7 +8,8 @@ use cl_time::NoMemory;
 use std::alloc::Global;
 use std::marker::Model;
 
-/// A sink in memory, with room for so many bytes, that takes at most a step of them at a time and fails where it is told to.
+/// A sink in memory, with room for so many bytes, that takes at most a step of them at a time and fails where it is
+/// told to.
 #[derive(Drop)]
 pub struct MemSink {
     bytes: Vec<u8>,
@@ -16,11 +18,13 @@ pub struct MemSink {
     failing: Vec<u64>,
     calls: u64,
     faults: u64,
+    last_failed: bool,
 }
 
 impl Model for MemSink {
     ghost use Rattle.std.specs.Prelude.{◌≤◌, ◌<◌, vec_len, vec_capacity};
-    ghost use Rattle.cl_io.specs.MemSink.{MemSinkState, IsRoomy};
+    ghost use Rattle.cl_io.specs.MemSink.{MemSinkState};
+    ghost use Rattle.cl_io.specs.Inner.Room.{IsRoomy};
 
     ghost Value = { MemSinkState };
 
@@ -31,6 +35,7 @@ impl Model for MemSink {
       failing = s.failing.items;
       calls = s.calls;
       faults = s.faults;
+      last_failed = s.last_failed;
     } };
 
     ghost invariant = { λ s. IsRoomy (vec_len s.bytes) s.room (vec_capacity s.bytes) s.step };
@@ -49,6 +54,7 @@ impl MemSink {
             failing: Vec::new(alloc),
             calls: 0,
             faults: 0,
+            last_failed: false,
         })
     }
 
@@ -74,16 +80,21 @@ impl Sink for MemSink {
 
     ghost faults = { λ s. s.faults };
 
+    ghost last_failed = { λ s. s.last_failed };
+
     fn write(&mut self, piece: &[u8]) -> Result<usize, SinkFault>
         ensures faults { self.old.faults ≤ self.new.faults }
         ensures answer { MayTake piece.now self.old.faults self.new.faults (Some self.old.written) (Some self.new.written) result }
+        ensures one_more { OnErr result (self.new.faults ≡ counted self.old.faults) }
+        ensures last { IsTrue self.new.last_failed ↔ IsErr result }
         ensures scripted { result ≡ answer_of self.old piece.now }
         ensures after { self.new ≡ after_write self.old piece.now }
     {
         let call = self.calls;
         self.calls = call.saturating_add(1);
         let left = self.room - self.bytes.len();
-        if left == 0 || self.failing.contains(&call) {
+        self.last_failed = left == 0 || self.failing.contains(&call);
+        if self.last_failed {
             self.faults = self.faults.saturating_add(1);
             return Err(SinkFault::Failed);
         }

@@ -28,7 +28,8 @@ impl SureShelf {
         }
     }
 
-    /// Puts a file on the shelf, in place of what stood under the name. Where memory runs out, the shelf holds what it held.
+    /// Puts a file on the shelf, in place of what stood under the name. Where memory runs out, the shelf holds what it
+    /// held.
     pub fn put(&mut self, name: &str, content: &[u8]) -> Result<(), NoMemory>
         ensures ok { OnOk result (ChangesAlone name.now (Content content.now) (sure_held self.old) (sure_held self.new)) }
         ensures err { OnErr result (SameAtEach (sure_held self.old) (sure_held self.new)) }

@@ -1,4 +1,5 @@
-ghost use Rattle.std.specs.Prelude.{◌≡◌, ◌+◌, ◌-◌, ◌^◌, ◌≤◌, List, ℕ, None, Ok, min, length};
+ghost use Rattle.std.specs.Prelude.{◌≡◌, ◌↔◌, ◌+◌, ◌-◌, ◌^◌, ◌≤◌, IsTrue, false, List, ℕ, None, Ok, IsErr, OnErr, min, length};
+ghost use Rattle.cl_io.specs.Counts.{counted};
 ghost use Rattle.cl_io.specs.Sink.{MayTake};
 
 use crate::{Sink, SinkFault};
@@ -37,9 +38,13 @@ impl Sink for SureSink {
 
     ghost faults = { λ _. 0 };
 
+    ghost last_failed = { λ _. false };
+
     fn write(&mut self, piece: &[u8]) -> Result<usize, SinkFault>
         ensures faults { 0 ≤ 0 }
         ensures answer { MayTake piece.now 0 0 None None result }
+        ensures one_more { OnErr result (0 ≡ counted 0) }
+        ensures last { IsTrue false ↔ IsErr result }
         ensures whole { result ≡ Ok (length piece.now) }
         ensures taken { self.new ≡ min (self.old + length piece.now) (2 ^ 64 - 1) }
     {

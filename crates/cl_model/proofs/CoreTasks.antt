@@ -22,6 +22,7 @@ use Rattle.cl_model.proofs.Refused.{when_none, each_none}
 use Rattle.cl_model.proofs.NamesKnown.{core_known, stimulus_known}
 use Rattle.cl_model.proofs.PassedChecks.{deadlines_pass}
 use Rattle.cl_model.proofs.ValidTasks.{some_fails, other_priorities, room_left}
+use Rattle.cl_model.proofs.ListFacts.{same_tests}
 
 -- ---- the lists of the tasks of each core
 
@@ -98,11 +99,6 @@ any_among p q (x ∷ xs) (suc i) d lt is_q is_p =
     cond_both (q x) (x ∷ filter q xs) (filter q xs) (λ ys. list_any p ys ≡ true)
     (λ _. or_right (p x) (list_any p (filter q xs)) (any_among p q xs i d (omega arith) is_q is_p))
     (λ _. any_among p q xs i d (omega arith) is_q is_p)
-
-same_tests : (a b : Bool) → (a ≡ true → b ≡ true) → (b ≡ true → a ≡ true) → a ≡ b
-same_tests true b there back = sym (there refl)
-same_tests false true there back = back refl
-same_tests false false there back = refl
 
 added : (xs : List ℕ) (b : Bool) (n : ℕ) → length (xs ++ cond b (n ∷ []) []) ≡ length xs + cond b 1 0
 added xs true n = length_push xs n

@@ -16,5 +16,7 @@ pub mod StepsApart
 pub mod Links
 pub mod GroupFacts
 pub mod MaximalRuns
+pub mod GroupsOfParts
+pub mod DocumentTexts
 pub mod ValidTasks
 pub mod CoreTasks

@@ -1,4 +1,5 @@
--- What the names in a valid model stand for: parts of tasks, the runnables and labels of chains, the chains of requirements.
+-- What the names in a valid model stand for: parts of tasks, the runnables and labels of chains, the chains of
+-- requirements.
 use Rattle.std.proofs.Common.{◌≡◌, ℕ, ◌+◌, ◌<◌, Bool, true, false, not, ◌||◌, Option, Some, None, List, [], ◌∷◌, length, get_or, refl, sym, ap, ◌∙◌, arith}
 use Rattle.std.specs.Prelude.{All, Contains, is_some, slice_get, unwrap_or}
 use Rattle.std.specs.Option.{option_map, option_and_then}

@@ -1,5 +1,5 @@
 -- The groups of a list of steps are its maximal runs, and nothing else is.
-use Rattle.std.proofs.Common.{◌≡◌, ℕ, zero, suc, ◌+◌, ◌-◌, ◌<◌, Bool, true, false, cond, ◌&&◌, ◌==◌, inl, inr, List, [], ◌∷◌, ◌++◌, length, refl, sym, ap, ◌∙◌, subst, arith, nat_lt, append_assoc}
+use Rattle.std.proofs.Common.{◌≡◌, ℕ, zero, suc, ◌+◌, ◌-◌, ◌<◌, true, false, cond, ◌==◌, inl, inr, List, [], ◌∷◌, ◌++◌, length, refl, sym, ap, ◌∙◌, subst, arith, nat_lt, append_assoc}
 use Rattle.std.specs.List.{flat_map}
 use Rattle.std.proofs.lemmas.Bool.{cases_lt, cond-true, cond-false, ltb-true, lt-ltb, eqb-true, eq-eqb, false_from_ne_true}
 use Rattle.std.proofs.lemmas.List.{get_or_append_left, length_push}
@@ -8,14 +8,11 @@ use Rattle.cl_model.specs.declared.group.Group.{Group}
 use Rattle.cl_model.specs.declared.group.Step.{Step}
 use Rattle.cl_model.specs.Groups.{is_inner, group_of_step, groups_from, groups, no_step, step_at, group_at}
 use Rattle.cl_model.specs.MaximalRuns.{IsInnerHop, first_step, last_step, IsGroupOfPiece, piece_at, AreMaximalRuns}
-use Rattle.cl_model.proofs.ListFacts.{both_pass}
+use Rattle.cl_model.proofs.ListFacts.{both_pass, both_true}
 
 -- a group with one more step at its end
 abbrev longer : Group → Step → Group
 longer group step = record { task = group.task; first = group.first; last = step.place }
-
-both_true : (a b : Bool) → a ≡ true → b ≡ true → (a && b) ≡ true
-both_true a b a_is b_is = cc
 
 -- ---- the pieces that the groups stand for
 

@@ -15,7 +15,7 @@ use Rattle.std.proofs.Math.ListN.{length-map}
 use Rattle.std.proofs.Math.Seq.{take-append-add}
 use Rattle.cl_model.specs.KnownNames.{AreFound}
 use Rattle.cl_model.specs.Named.{same_name, has_name, index_of}
-use Rattle.cl_model.specs.NameSets.{names_with, AreApart, AreNew}
+use Rattle.cl_model.specs.NameSets.{names_with, AreDistinctNames, AreNew}
 
 -- ---- names that are in a list
 
@@ -66,7 +66,7 @@ found_stands name names k found =
 -- ---- names that are apart
 
 -- an earlier name is another
-earlier_differs : (names : List (List ℕ)) → AreApart names → (k : ℕ) → k < length names → (j : ℕ) → j < k → same_name (get_or names k []) (get_or names j []) ≡ false
+earlier_differs : (names : List (List ℕ)) → AreDistinctNames names → (k : ℕ) → k < length names → (j : ℕ) → j < k → same_name (get_or names k []) (get_or names j []) ≡ false
 earlier_differs names apart k within j before =
     false_from_ne_true _ (λ same.
     let here : same_name (get_or names k []) (get_or (take k names) j []) ≡ true = ap (same_name (get_or names k [])) (get_or-take k names j [] before) ∙ same in
@@ -74,18 +74,18 @@ earlier_differs names apart k within j before =
     false≢true (sym (apart k within) ∙ list_any_at (same_name (get_or names k [])) (take k names) j [] in_front here))
 
 -- each is found at its own place
-pub own_place : (names : List (List ℕ)) → AreApart names → (k : ℕ) → k < length names → index_of (get_or names k []) names ≡ Some k
+pub own_place : (names : List (List ℕ)) → AreDistinctNames names → (k : ℕ) → k < length names → index_of (get_or names k []) names ≡ Some k
 own_place names apart k within =
     let name = get_or names k [] in
     let at : position_or_len (same_name name) names ≡ k
     = position_or_len_is (same_name name) names k [] (omega arith) (earlier_differs names apart k within) (λ _. (bytes_decides name name).1 refl) in
     ap (λ n. cond (nat_lt n (length names)) (Some n) None) at ∙ cond-true (nat_lt k (length names)) (Some k) None (lt-ltb _ _ within)
 
-pub names_found : (names : List (List ℕ)) → AreApart names → AreFound names
+pub names_found : (names : List (List ℕ)) → AreDistinctNames names → AreFound names
 names_found names apart = record { named = λ name k. found_named name names k; own = own_place names apart }
 
 -- two places with one name are one
-pub one_place : (names : List (List ℕ)) → AreApart names → (k j : ℕ) → k < length names → j < length names → get_or names k [] ≡ get_or names j [] → k ≡ j
+pub one_place : (names : List (List ℕ)) → AreDistinctNames names → (k j : ℕ) → k < length names → j < length names → get_or names k [] ≡ get_or names j [] → k ≡ j
 one_place names apart k j k_within j_within same =
     ap (λ o. unwrap_or o 0) (sym (own_place names apart k k_within) ∙ ap (λ name. index_of name names) same ∙ own_place names apart j j_within)
 
@@ -96,12 +96,12 @@ module _ {X : Type 0} (f : X → List ℕ) (entries : List X) where
       let within : k < length entries = omega (arith, found_below name (map f entries) k found, length-map entries f) in
       sym (get_or-map f entries k d [] within) ∙ found_named name (map f entries) k found
 
-  pub own_entry : AreApart (map f entries) → (k : ℕ) (d : X) → k < length entries → index_of (f (get_or entries k d)) (map f entries) ≡ Some k
+  pub own_entry : AreDistinctNames (map f entries) → (k : ℕ) (d : X) → k < length entries → index_of (f (get_or entries k d)) (map f entries) ≡ Some k
   own_entry apart k d within =
       ap (λ name. index_of name (map f entries)) (sym (get_or-map f entries k d [] within)) ∙ own_place (map f entries) apart k (omega (arith, within, length-map entries f))
 
 -- new names behind others that are apart
-pub apart_behind : (names others : List (List ℕ)) → AreApart names → AreNew names others → AreApart (names ++ others)
+pub apart_behind : (names others : List (List ℕ)) → AreDistinctNames names → AreNew names others → AreDistinctNames (names ++ others)
 apart_behind names others apart new k within =
     elim (cases_lt k (length names)) [
       | inl before ↦
@@ -116,11 +116,12 @@ apart_behind names others apart new k within =
     ]
 
 -- one more name of a list without repeats
-pub take_with : (names : List (List ℕ)) (i : ℕ) → AreApart names → i < length names → names_with (get_or names i []) (take i names) ≡ take (i + 1) names
+pub take_with : (names : List (List ℕ)) (i : ℕ) → AreDistinctNames names → i < length names → names_with (get_or names i []) (take i names) ≡ take (i + 1) names
 take_with names i apart lt = rw (apart i lt) (sym (take_more names i [] lt))
 
 -- the same where the names are those of entries
-pub named_more : {X : Type 0} (f : X → List ℕ) (entries : List X) (i : ℕ) (x : X) (name : List ℕ) (old new : List (List ℕ)) → AreApart (map f entries) → i < length entries → x ≡ get_or entries i x → name ≡ f x → old ≡ take i (map f entries) → new ≡ names_with name old → new ≡ take (i + 1) (map f entries)
+pub named_more : {X : Type 0} (f : X → List ℕ) (entries : List X) (i : ℕ) (x : X) (name : List ℕ) (old new : List (List ℕ)) → AreDistinctNames (map f entries)
+    → i < length entries → x ≡ get_or entries i x → name ≡ f x → old ≡ take i (map f entries) → new ≡ names_with name old → new ≡ take (i + 1) (map f entries)
 named_more f entries i x name old new apart lt at called before after =
     let e : name ≡ get_or (map f entries) i [] = called ∙ ap f at ∙ sym (get_or-map f entries i x [] lt) in
     let long : i < length (map f entries) = omega (arith, length-map entries f) in

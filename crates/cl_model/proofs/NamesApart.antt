@@ -8,7 +8,7 @@ use Rattle.cl_model.specs.declared.refusal.Code.{Code}
 use Rattle.cl_model.specs.declared.refusal.Code.TheVariants.{M20, M21, M22, M23, M25, M26}
 use Rattle.cl_model.specs.declared.refusal.Refusal.{Refusal}
 use Rattle.cl_model.specs.Named.{has_name, core_names, stimulus_names, label_names, task_names, chain_names, requirement_names}
-use Rattle.cl_model.specs.NameSets.{AreApart}
+use Rattle.cl_model.specs.NameSets.{AreDistinctNames}
 use Rattle.cl_model.specs.Place.{entry_of, at_key}
 use Rattle.cl_model.specs.Refusals.{each}
 use Rattle.cl_model.specs.ValidNames.{repeat_check, repeats, section_repeats, runnable_repeats, name_checks}
@@ -18,7 +18,7 @@ use Rattle.cl_model.proofs.PassedChecks.{names_pass}
 use Rattle.cl_model.proofs.Refused.{when_none, each_none}
 
 -- names that don't repeat are apart
-pub repeats_none : (code : Code) (place : ℕ → Place) (names : List (List ℕ)) → repeats code place [] names ≡ [] → AreApart names
+pub repeats_none : (code : Code) (place : ℕ → Place) (names : List (List ℕ)) → repeats code place [] names ≡ [] → AreDistinctNames names
 repeats_none code place names none i lt =
     when_none (has_name (get_or names i []) (take i names)) code (place i) (each_none (repeat_check code place [] names) names i [] none lt)
 
@@ -38,26 +38,26 @@ parts : (model : SystemModel) → name_checks model ≡ [] → AllNone (name_lis
 unfolding name_checks
 parts model none = all_none (name_lists model) none
 
-pub cores_differ : (model : SystemModel) → name_checks model ≡ [] → AreApart (core_names model)
+pub cores_differ : (model : SystemModel) → name_checks model ≡ [] → AreDistinctNames (core_names model)
 cores_differ model none = repeats_none M20 (λ i. at_key key.Name (entry_of part.Core i)) (core_names model) (parts model none).0
 
 module _ (model : SystemModel) (valid : IsValid model) where
-  pub cores_apart : AreApart (core_names model)
+  pub cores_apart : AreDistinctNames (core_names model)
   cores_apart = cores_differ model (names_pass model valid)
 
-  pub stimuli_apart : AreApart (stimulus_names model)
+  pub stimuli_apart : AreDistinctNames (stimulus_names model)
   stimuli_apart = repeats_none M21 (λ i. at_key key.Name (entry_of part.Stimulus i)) (stimulus_names model) (parts model (names_pass model valid)).1.0
 
-  pub labels_apart : AreApart (label_names model)
+  pub labels_apart : AreDistinctNames (label_names model)
   labels_apart = repeats_none M22 (λ i. at_key key.Name (entry_of part.Label i)) (label_names model) (parts model (names_pass model valid)).1.1.0
 
-  pub tasks_apart : AreApart (task_names model)
+  pub tasks_apart : AreDistinctNames (task_names model)
   tasks_apart = repeats_none M23 (λ i. at_key key.Name (entry_of part.Task i)) (task_names model) (parts model (names_pass model valid)).1.1.1.0
 
-  pub chains_apart : AreApart (chain_names model)
+  pub chains_apart : AreDistinctNames (chain_names model)
   chains_apart = repeats_none M25 (λ i. at_key key.Name (entry_of part.Chain i)) (chain_names model) (parts model (names_pass model valid)).1.1.1.1.1.0
 
-  pub requirements_apart : AreApart (requirement_names model)
+  pub requirements_apart : AreDistinctNames (requirement_names model)
   requirements_apart = repeats_none M26 (λ i. at_key key.Name (entry_of part.Requirement i)) (requirement_names model) (parts model (names_pass model valid)).1.1.1.1.1.1.0
 
   -- M24

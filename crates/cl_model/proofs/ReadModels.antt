@@ -21,8 +21,10 @@ use Rattle.cl_model.specs.Place.{section_place, top, at_item, at_sub, at_key, at
 use Rattle.cl_model.specs.Ranges.{IsKindInRange, IsRunnableInRange, IsTaskInRange, IsChainInRange, IsCountInRange, IsInRange}
 use Rattle.cl_model.specs.Reading.{sections, section_checks, top_keys, is_format, is_version, version_in, document_of, model_checks, model_meaning, model_in, model_of}
 use Rattle.cl_model.specs.Reading.Checks.{a_name, an_array, a_word, a_table, found_or, meaning_of, value_at, fields_checks, field_checks, a_table_of, keys_of, has_only}
-use Rattle.cl_model.specs.Reading.Meanings.{text_of, list_of, table_of, word_if}
-use Rattle.cl_model.specs.Reading.Tables.{core_fields, core_meaning, label_fields, label_meaning, StimulusForm, stimulus_forms, periodic_form, sporadic_form, burst_form, stimulus_fields, form_checks, stimulus_entry_checks, stimulus_meaning, runnable_fields, runnable_meaning, task_fields, task_meaning, chain_fields, chain_meaning, requirement_fields, requirement_meaning}
+use Rattle.cl_model.specs.Reading.Meanings.{text_in, list_of, table_of, word_if}
+use Rattle.cl_model.specs.Reading.Tables.{core_fields, core_meaning, label_fields, label_meaning, StimulusForm, stimulus_forms, periodic_form, sporadic_form, burst_form, stimulus_fields, form_checks}
+use Rattle.cl_model.specs.Reading.Tables.{stimulus_entry_checks, stimulus_meaning, runnable_fields, runnable_meaning, task_fields, task_meaning, chain_fields, chain_meaning, requirement_fields}
+use Rattle.cl_model.specs.Reading.Tables.{requirement_meaning}
 use Rattle.cl_model.specs.Refusals.{unless, answer}
 use Rattle.cl_model.proofs.NoRefusals.{AllNone, all_none}
 use Rattle.cl_model.proofs.ReadValues.{number_at_between, number_or_zero_between, number_if_between, name_at, names_at, short, all_good, table_good, fields_none}
@@ -55,7 +57,7 @@ word_known version word =
     rw (later_is (version == 2) word) (chosen (bytes_eq (codes "periodic") word) (bytes_eq (codes "sporadic") word) (version == 2) (bytes_eq (codes "burst") word))
 
 -- a kind that isn't refused is one of the three
-kind_known : (version : ℕ) (place : Place) (d : Data) → a_word (stimulus_forms version) place d ≡ [] → IsForm (meaning_of (stimulus_forms version) (text_of d))
+kind_known : (version : ℕ) (place : Place) (d : Data) → a_word (stimulus_forms version) place d ≡ [] → IsForm (meaning_of (stimulus_forms version) (text_in d))
 kind_known version place (string word) h = word_known version word (unless_none _ _ place h)
 kind_known version place (integer z) h = absurd cc
 kind_known version place (float x) h = absurd cc
@@ -65,7 +67,7 @@ kind_known version place (array ds) h = absurd cc
 kind_known version place (table ms) h = absurd cc
 
 kind_at_known : (version : ℕ) (place : Place) (o : Option Data) → found_or (unless false M5 place) (a_word (stimulus_forms version) place) o ≡ []
-    → IsForm (found_or None (λ d. meaning_of (stimulus_forms version) (text_of d)) o)
+    → IsForm (found_or None (λ d. meaning_of (stimulus_forms version) (text_in d)) o)
 kind_at_known version place None h = absurd cc
 kind_at_known version place (Some d) h = kind_known version place d h
 
@@ -140,8 +142,8 @@ runnable_read place ms h =
       in_range = record {
         least = number_at_between 1 MOST_TICKS (at_key key.Least place) (value_at key.Least ms) none.1.0;
         greatest = number_at_between 1 MOST_TICKS (at_key key.Greatest place) (value_at key.Greatest ms) none.1.1.0;
-        reads = short MOST_ACCESSES at_spot a_name text_of (at_key key.Reads place) (value_at key.Reads ms) none.1.1.1.1.0;
-        writes = short MOST_ACCESSES at_spot a_name text_of (at_key key.Writes place) (value_at key.Writes ms) none.1.1.1.1.1.0;
+        reads = short MOST_ACCESSES at_spot a_name text_in (at_key key.Reads place) (value_at key.Reads ms) none.1.1.1.1.0;
+        writes = short MOST_ACCESSES at_spot a_name text_in (at_key key.Writes place) (value_at key.Writes ms) none.1.1.1.1.1.0;
       };
       named = record {
         name = name_at (at_key key.Name place) (value_at key.Name ms) none.0;
@@ -187,8 +189,8 @@ chain_read place ms h =
     let none = fields_none chain_fields place ms h in
     record {
       in_range = record {
-        runnables = short MOST_STEPS at_spot a_name text_of (at_key key.Runnables place) (value_at key.Runnables ms) none.1.0;
-        labels = short MOST_HOPS at_spot a_name text_of (at_key key.Labels place) (value_at key.Labels ms) none.1.1.0;
+        runnables = short MOST_STEPS at_spot a_name text_in (at_key key.Runnables place) (value_at key.Runnables ms) none.1.0;
+        labels = short MOST_HOPS at_spot a_name text_in (at_key key.Labels place) (value_at key.Labels ms) none.1.1.0;
       };
       named = record {
         name = name_at (at_key key.Name place) (value_at key.Name ms) none.0;

@@ -1,4 +1,5 @@
--- What the values of a document mean where their checks refuse nothing: numbers in range, names, short arrays of good members.
+-- What the values of a document mean where their checks refuse nothing: numbers in range, names, short arrays of good
+-- members.
 use Rattle.std.proofs.Common.{◌≡◌, ℕ, ◌+◌, ◌≤◌, pos, negsuc, false, leb, List, [], ◌∷◌, length, map, All, Option, Some, None, arith}
 use Rattle.std.specs.Prelude.{IfSome}
 use Rattle.std.specs.List.{AllByRecursion}
@@ -12,7 +13,7 @@ use Rattle.cl_model.specs.declared.refusal.Refusal.{Refusal}
 use Rattle.cl_model.specs.Name.{IsName}
 use Rattle.cl_model.specs.Refusals.{unless, each_from}
 use Rattle.cl_model.specs.Reading.Checks.{Check, a_name, a_number, a_table, an_array, found_or, members_of, fields_checks, field_checks, Field, keys_of, has_only}
-use Rattle.cl_model.specs.Reading.Meanings.{text_of, number_of, list_of, table_of}
+use Rattle.cl_model.specs.Reading.Meanings.{text_in, number_in, list_of, table_of}
 use Rattle.cl_model.proofs.ListFacts.{both_pass}
 use Rattle.cl_model.proofs.NoRefusals.{AllNone, all_none}
 use Rattle.cl_model.proofs.Refused.{none_before, none_behind, unless_none}
@@ -22,7 +23,7 @@ use Rattle.cl_model.proofs.Refused.{none_before, none_behind, unless_none}
 abbrev pub IsBetween : ℕ → ℕ → ℕ → Type 0
 IsBetween low high n = (low ≤ n) × (n ≤ high)
 
-number_between : (low high : ℕ) (place : Place) (d : Data) → a_number low high place d ≡ [] → IsBetween low high (number_of d)
+number_between : (low high : ℕ) (place : Place) (d : Data) → a_number low high place d ≡ [] → IsBetween low high (number_in d)
 number_between low high place (integer (pos n)) h =
     let t = both_pass (leb low n) (leb n high) (unless_none _ _ place h) in
     (leb-true low n t.0, leb-true n high t.1)
@@ -34,21 +35,21 @@ number_between low high place (datetime x) h = absurd cc
 number_between low high place (array ds) h = absurd cc
 number_between low high place (table ms) h = absurd cc
 
-pub number_at_between : (low high : ℕ) (place : Place) (o : Option Data) → found_or (unless false M5 place) (a_number low high place) o ≡ [] → IsBetween low high (found_or 0 number_of o)
+pub number_at_between : (low high : ℕ) (place : Place) (o : Option Data) → found_or (unless false M5 place) (a_number low high place) o ≡ [] → IsBetween low high (found_or 0 number_in o)
 number_at_between low high place None h = absurd cc
 number_at_between low high place (Some d) h = number_between low high place d h
 
-pub number_or_zero_between : (high : ℕ) (place : Place) (o : Option Data) → found_or [] (a_number 0 high place) o ≡ [] → found_or 0 number_of o ≤ high
+pub number_or_zero_between : (high : ℕ) (place : Place) (o : Option Data) → found_or [] (a_number 0 high place) o ≡ [] → found_or 0 number_in o ≤ high
 number_or_zero_between high place None h = omega arith
 number_or_zero_between high place (Some d) h = (number_between 0 high place d h).1
 
-pub number_if_between : (low high : ℕ) (place : Place) (o : Option Data) → found_or [] (a_number low high place) o ≡ [] → IfSome (found_or None (λ d. Some (number_of d)) o) (IsBetween low high)
+pub number_if_between : (low high : ℕ) (place : Place) (o : Option Data) → found_or [] (a_number low high place) o ≡ [] → IfSome (found_or None (λ d. Some (number_in d)) o) (IsBetween low high)
 number_if_between low high place None h = tt
 number_if_between low high place (Some d) h = number_between low high place d h
 
 -- ---- names
 
-name_read : (place : Place) (d : Data) → a_name place d ≡ [] → IsName (text_of d)
+name_read : (place : Place) (d : Data) → a_name place d ≡ [] → IsName (text_in d)
 name_read place (string word) h = unless_none _ _ place h
 name_read place (integer z) h = absurd cc
 name_read place (float x) h = absurd cc
@@ -58,7 +59,7 @@ name_read place (array ds) h = absurd cc
 name_read place (table ms) h = absurd cc
 
 -- the name at a key that must be there
-pub name_at : (place : Place) (o : Option Data) → found_or (unless false M5 place) (a_name place) o ≡ [] → IsName (found_or [] text_of o)
+pub name_at : (place : Place) (o : Option Data) → found_or (unless false M5 place) (a_name place) o ≡ [] → IsName (found_or [] text_in o)
 name_at place None h = absurd cc
 name_at place (Some d) h = name_read place d h
 
@@ -107,8 +108,8 @@ module _ {X : Type 0} (P : X → Type 0) (check : Check) (meaning : Data → X) 
 
 -- the names in the array at a key
 pub names_at : (limit : ℕ) (place_in : ℕ → Place → Place) (place : Place) (o : Option Data)
-    → found_or [] (an_array limit place_in a_name place) o ≡ [] → All IsName (found_or [] (λ d. map text_of (list_of d)) o)
-names_at = all_good IsName a_name text_of name_read
+    → found_or [] (an_array limit place_in a_name place) o ≡ [] → All IsName (found_or [] (λ d. map text_in (list_of d)) o)
+names_at = all_good IsName a_name text_in name_read
 
 -- ---- tables
 

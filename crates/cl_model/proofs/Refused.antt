@@ -1,5 +1,5 @@
 -- Lists of refusals, by their first and by their parts.
-use Rattle.std.proofs.Common.{◌≡◌, ℕ, zero, suc, ◌+◌, ◌<◌, Bool, true, false, List, [], ◌∷◌, ◌++◌, length, get_or, Some, refl, ap, ◌∙◌, arith}
+use Rattle.std.proofs.Common.{◌≡◌, ℕ, zero, suc, ◌+◌, ◌<◌, Bool, true, false, List, [], ◌∷◌, ◌++◌, length, get_or, Some, None, refl, ap, ◌∙◌, arith}
 use Rattle.cl_model.specs.declared.place.Place.{Place}
 use Rattle.cl_model.specs.declared.refusal.Code.{Code}
 use Rattle.cl_model.specs.declared.refusal.Refusal.{Refusal}
@@ -9,6 +9,11 @@ use Rattle.cl_model.specs.Refusals.{when, unless, each_from, each, first}
 pub first_with_more : (a b : List Refusal) (r : Refusal) → first a ≡ Some r → first (a ++ b) ≡ Some r
 first_with_more [] b r h = cc
 first_with_more (x ∷ a) b r h = h
+
+-- a list without a first refusal is empty
+pub none_refused : (refusals : List Refusal) → first refusals ≡ None → refusals ≡ []
+none_refused [] none = refl
+none_refused (refusal ∷ refusals) none = absurd cc
 
 -- of two lists that together are empty each is
 pub none_before : (a b : List Refusal) → a ++ b ≡ [] → a ≡ []

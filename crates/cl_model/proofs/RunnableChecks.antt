@@ -1,4 +1,5 @@
--- What the checks of a runnable of a valid model leave: its times are in order, its labels are known and apart, and what it writes isn't written yet.
+-- What the checks of a runnable of a valid model leave: its times are in order, its labels are known and apart, and
+-- what it writes isn't written yet.
 use Rattle.std.proofs.Common.{◌≡◌, ℕ, ◌<◌, ◌≤◌, false, List, [], ◌∷◌, ◌++◌, length, get_or, take, subst}
 use Rattle.std.specs.Prelude.{All, Contains}
 use Rattle.std.proofs.lemmas.Bool.{ltb-false}

@@ -10,7 +10,7 @@ use Rattle.cl_model.specs.declared.task.RunnableDef.{RunnableDef}
 use Rattle.cl_model.specs.declared.model.SystemModel.{SystemModel}
 use Rattle.cl_model.specs.ByNumber.{no_task}
 use Rattle.cl_model.specs.Named.{runnable_names, all_runnables}
-use Rattle.cl_model.specs.NameSets.{AreApart, AreNew}
+use Rattle.cl_model.specs.NameSets.{AreDistinctNames, AreNew}
 use Rattle.cl_model.specs.Place.{entry_of, at_key, at_sub}
 use Rattle.cl_model.specs.Refusals.{each}
 use Rattle.cl_model.specs.ValidNames.{repeat_check, runnable_repeats}
@@ -26,7 +26,9 @@ runnables_more tasks i task lt is =
     ∙ ap (λ l. all_runnables (take i tasks) ++ l) (append-nil (get_or tasks i task).runnables) ∙ ap (λ t. all_runnables (take i tasks) ++ t.runnables) (sym is)
 
 -- their names
-pub runnable_names_more : (tasks : List TaskDef) (i : ℕ) (task : TaskDef) (body : List RunnableDef) (old new : List (List ℕ)) → i < length tasks → task ≡ get_or tasks i task → body ≡ task.runnables → old ≡ runnable_names (all_runnables (take i tasks)) → new ≡ old ++ runnable_names body
+pub runnable_names_more : (tasks : List TaskDef) (i : ℕ) (task : TaskDef) (body : List RunnableDef) (old new : List (List ℕ))
+    → i < length tasks → task ≡ get_or tasks i task → body ≡ task.runnables
+    → old ≡ runnable_names (all_runnables (take i tasks)) → new ≡ old ++ runnable_names body
     → new ≡ runnable_names (all_runnables (take (i + 1) tasks))
 runnable_names_more tasks i task body old new lt is same so_far added =
     added ∙ ap (λ o. o ++ runnable_names body) so_far ∙ ap (λ b. runnable_names (all_runnables (take i tasks)) ++ runnable_names b) same
@@ -47,18 +49,18 @@ runnables_new tasks i task body before none lt is same so_far =
     rw (so_far, here) (runnables_are_new tasks none i task lt)
 
 -- the names of the runnables of the first tasks are apart
-apart_below : (tasks : List TaskDef) → each (runnable_repeats tasks) tasks ≡ [] → (n : ℕ) → n ≤ length tasks → AreApart (runnable_names (all_runnables (take n tasks)))
+apart_below : (tasks : List TaskDef) → each (runnable_repeats tasks) tasks ≡ [] → (n : ℕ) → n ≤ length tasks → AreDistinctNames (runnable_names (all_runnables (take n tasks)))
 apart_below tasks none zero le = λ k within. absurd (omega arith)
 apart_below tasks none (suc n) le =
     let d : TaskDef = no_task in
     let task = get_or tasks n d in
     let more : n + 1 ≡ suc n = omega arith in
-    let behind : AreApart (runnable_names (all_runnables (take n tasks)) ++ runnable_names task.runnables)
+    let behind : AreDistinctNames (runnable_names (all_runnables (take n tasks)) ++ runnable_names task.runnables)
     = apart_behind _ _ (apart_below tasks none n (omega arith)) (runnables_are_new tasks none n d (omega arith)) in
     let joined = runnable_names_more tasks n (get_or tasks n d) task.runnables (runnable_names (all_runnables (take n tasks))) _ (omega arith) (get_or_default tasks n d task (omega arith)) refl refl refl in
-    subst AreApart (joined ∙ ap (λ m. runnable_names (all_runnables (take m tasks))) more) behind
+    subst AreDistinctNames (joined ∙ ap (λ m. runnable_names (all_runnables (take m tasks))) more) behind
 
-pub runnables_apart : (model : SystemModel) → IsValid model → AreApart (runnable_names (all_runnables model.tasks))
+pub runnables_apart : (model : SystemModel) → IsValid model → AreDistinctNames (runnable_names (all_runnables model.tasks))
 runnables_apart model valid =
-    subst (λ tasks. AreApart (runnable_names (all_runnables tasks))) (take_all (length model.tasks) model.tasks (omega arith))
+    subst (λ tasks. AreDistinctNames (runnable_names (all_runnables tasks))) (take_all (length model.tasks) model.tasks (omega arith))
     (apart_below model.tasks (runnables_pass model valid) (length model.tasks) (omega arith))

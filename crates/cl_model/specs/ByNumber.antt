@@ -2,6 +2,7 @@
 use Rattle.std.specs.Prelude.{ℕ, ◌==◌, false, List, [], length, slice_index_or, filter, sum_by, Option, None, unwrap_or}
 use Rattle.std.specs.List.{range_with_len}
 use Rattle.cl_model.specs.declared.model.SystemModel.{SystemModel}
+use Rattle.cl_model.specs.declared.model.CoreDef.{CoreDef}
 use Rattle.cl_model.specs.declared.chain.ChainDef.{ChainDef}
 use Rattle.cl_model.specs.declared.group.Step.{Step}
 use Rattle.cl_model.specs.declared.stimulus.StimulusKind.{StimulusKind}
@@ -19,6 +20,10 @@ no_task = record { name = []; core = []; stimulus = []; priority = 0; access = E
 -- stands for a chain past the last one
 unfoldable pub no_chain : ChainDef
 no_chain = record { name = []; runnables = []; labels = [] }
+
+-- stands for a core past the last one
+unfoldable pub no_core : CoreDef
+no_core = record { name = [] }
 
 -- stands for a runnable past the last one of its task
 unfoldable pub no_runnable : RunnableDef
@@ -39,6 +44,10 @@ runnable_at model step = slice_index_or (task_at model step.task).runnables step
 -- the chain of that number
 abbrev pub chain_at : SystemModel → (chain : ℕ) → ChainDef
 chain_at model chain = slice_index_or model.chains chain no_chain
+
+-- the core of that number
+abbrev pub core_at : SystemModel → (core : ℕ) → CoreDef
+core_at model core = slice_index_or model.cores core no_core
 
 -- the number of the core that a task names
 abbrev pub core_number : SystemModel → TaskDef → ℕ

@@ -1,4 +1,4 @@
--- Chains of steps, and their groups. Source: this project's profile.
+-- Chains of steps, and their groups.
 use Rattle.std.specs.Prelude.{ℕ, ◌+◌, ◌-◌, ◌<◌, ◌≤◌, Bool, ◌==◌, ◌&&◌, nat_lt, if◌then◌else◌, List, [], ◌∷◌, length, map, slice_index_or, unwrap_or}
 use Rattle.cl_model.specs.declared.model.SystemModel.{SystemModel}
 use Rattle.cl_model.specs.declared.task.TaskDef.{TaskDef}

@@ -7,7 +7,7 @@ use Rattle.cl_model.specs.declared.chain.ChainDef.{ChainDef}
 use Rattle.cl_model.specs.ByNumber.{runnable_at}
 use Rattle.cl_model.specs.Groups.{step_named}
 use Rattle.cl_model.specs.Named.{index_of, core_names, stimulus_names, label_names, runnable_names, all_runnables}
-use Rattle.cl_model.specs.NameSets.{AreApart}
+use Rattle.cl_model.specs.NameSets.{AreDistinctNames}
 
 -- ---- look-ups
 
@@ -27,8 +27,8 @@ pub record HasKnownParts (model : SystemModel) (task : TaskDef) : Type 0 where
 pub record HasKnownLabels (model : SystemModel) (runnable : RunnableDef) : Type 0 where
   pub reads : All (Contains (label_names model)) runnable.reads
   pub writes : All (Contains (label_names model)) runnable.writes
-  pub reads_apart : AreApart runnable.reads
-  pub writes_apart : AreApart runnable.writes
+  pub reads_apart : AreDistinctNames runnable.reads
+  pub writes_apart : AreDistinctNames runnable.writes
 
 -- ---- chains
 

@@ -9,12 +9,15 @@ pub mod Ranges
 pub mod Named
 pub mod NameSets
 pub mod Timing
+pub mod Kinds
+pub mod Holds
 pub mod ValidNames
 pub mod ValidTasks
 pub mod Validity
 pub mod ByNumber
 pub mod Groups
 pub mod MaximalRuns
+pub mod GroupCuts
 pub mod KnownNames
 pub mod Inner
 pub mod ListLends

@@ -1,4 +1,4 @@
--- The groups of a list of steps in words: they cut it into its longest pieces of inner hops. Source: this project's profile.
+-- The groups of a list of steps in words: they cut it into its longest pieces of inner hops.
 use Rattle.std.specs.Prelude.{◌≡◌, ℕ, ◌+◌, ◌-◌, ◌<◌, List, [], length, slice_index_or}
 use Rattle.std.specs.List.{flat_map}
 use Rattle.cl_model.specs.declared.group.Group.{Group}

@@ -1,4 +1,4 @@
--- The grammar of names. Source: this project's profile.
+-- The grammar of names.
 use Rattle.std.specs.Prelude.{ℕ, Bool, List, length, IsTrue, nat_lt, nat_le, ◌==◌, ◌&&◌, ◌||◌}
 use Rattle.std.specs.Char.{is_ascii_alphanumeric}
 use Rattle.std.specs.List.{list_all}

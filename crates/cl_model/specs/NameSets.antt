@@ -7,8 +7,8 @@ abbrev pub names_with : List ℕ → List (List ℕ) → List (List ℕ)
 names_with name names = if has_name name names then names else names ++ name ∷ []
 
 -- no name stands earlier in the list
-abbrev pub AreApart : List (List ℕ) → Type 0
-AreApart names = EachIndex names (λ n. has_name (slice_index_or names n []) (take n names) ≡ false)
+abbrev pub AreDistinctNames : List (List ℕ) → Type 0
+AreDistinctNames names = EachIndex names (λ n. has_name (slice_index_or names n []) (take n names) ≡ false)
 
 -- no name of the list is among the others or stands earlier in the list
 abbrev pub AreNew : List (List ℕ) → List (List ℕ) → Type 0

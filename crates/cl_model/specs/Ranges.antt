@@ -1,5 +1,4 @@
 -- The ranges of a model: how many entries each part may have, and which numbers. Times are in ticks.
--- Source: this project's profile.
 use Rattle.std.specs.Prelude.{ℕ, ◌≤◌, length, All, IfSome}
 use Rattle.cl_model.specs.declared.limits.TheConstants.{MOST_TICKS, MOST_REQUIRED, MOST_PRIORITY, MOST_CORES, MOST_STIMULI, MOST_LABELS, MOST_TASKS, MOST_RUNNABLES, MOST_ACCESSES, MOST_CHAINS, MOST_STEPS, MOST_HOPS, MOST_REQUIREMENTS, LEAST_JOBS_OF_BURST, MOST_JOBS_OF_BURST}
 use Rattle.cl_model.specs.declared.model.SystemModel.{SystemModel}

@@ -1,5 +1,5 @@
 -- The reading of a model file: the model that its bytes write, or the first refusal.
--- Source: TOML 1.1, as the crate `toml` defines it, and this project's profile.
+-- Source: TOML 1.1, as the crate `toml` defines it.
 pub mod Checks
 pub mod Meanings
 pub mod Tables

@@ -1,4 +1,4 @@
--- What a stimulus says of the jobs of a task. Times are in ticks. Source: this project's profile.
+-- What a stimulus says of the jobs of a task. Times are in ticks.
 use Rattle.std.specs.Prelude.{ℕ, ◌-◌, ◌*◌, ◌<◌, ◌≤◌, unwrap_or}
 use Rattle.cl_model.specs.declared.stimulus.StimulusKind.{StimulusKind}
 use Rattle.cl_model.specs.declared.stimulus.StimulusKind.TheVariants.{Periodic, Sporadic, Burst}
@@ -16,7 +16,8 @@ greatest_distance (Periodic period offset jitter) = period
 greatest_distance (Sporadic least greatest) = greatest
 greatest_distance (Burst period offset count distance) = period - (count - 1) * distance
 
--- the numbers of a stimulus are in order: the offset lies below the period, the least distance isn't above the greatest, a burst fits its period
+-- the numbers of a stimulus are in order: the offset lies below the period, the least distance isn't above the
+-- greatest, a burst fits its period
 abbrev pub IsKindOrdered : StimulusKind → Type 0
 IsKindOrdered (Periodic period offset jitter) = offset < period
 IsKindOrdered (Sporadic least greatest) = least ≤ greatest

@@ -1,4 +1,4 @@
--- The checks of the names and of the stimuli of a model. Source: this project's profile.
+-- The checks of the names and of the stimuli of a model.
 use Rattle.std.specs.Prelude.{ℕ, ◌*◌, Bool, false, nat_lt, nat_le, List, [], ◌∷◌, ◌++◌, take}
 use Rattle.cl_model.specs.declared.place.Part.{Part}
 use Rattle.cl_model.specs.declared.place.Part.TheVariants as part

@@ -1,4 +1,4 @@
--- The checks of the tasks of a model. Source: this project's profile.
+-- The checks of the tasks of a model.
 use Rattle.std.specs.Prelude.{ℕ, ◌+◌, ◌*◌, Bool, ◌&&◌, ◌==◌, nat_lt, nat_le, List, [], ◌∷◌, ◌++◌, length, take, Option, is_some}
 use Rattle.std.specs.List.{list_any}
 use Rattle.cl_model.specs.declared.limits.TheConstants.{MOST_TASKS_OF_CORE, MOST_RUNNABLES_OF_MODEL, MOST_DISTANCES}

@@ -1,4 +1,4 @@
--- Which models are valid, and the first refusal of one that isn't. Source: this project's profile.
+-- Which models are valid, and the first refusal of one that isn't.
 use Rattle.std.specs.Prelude.{◌≡◌, ℕ, ◌+◌, Bool, ◌||◌, ◌==◌, not, List, [], ◌∷◌, length, slice_get, Option}
 use Rattle.std.specs.Option.{option_and_then}
 use Rattle.cl_model.specs.declared.place.Part.TheVariants as part

@@ -1,6 +1,6 @@
 //! The names of the entries of a section.
 ghost use Rattle.std.specs.Prelude.{◌≡◌, List, ℕ, ◌++◌, map, IfOk, OnOk};
-ghost use Rattle.cl_model.specs.NameSets.{AreApart, AreNew};
+ghost use Rattle.cl_model.specs.NameSets.{AreDistinctNames, AreNew};
 
 use crate::chain::{ChainDef, RequirementDef};
 use crate::model::{CoreDef, LabelDef};
@@ -32,7 +32,7 @@ pub fn add_names<T: Named>(names: &mut NameSet, entries: &[T]) -> Result<(), NoM
 
 /// The names of entries that have different ones, numbered as the entries.
 pub fn name_numbers<T: Named>(alloc: Global, entries: &[T]) -> Result<NameSet, NoMemory>
-    requires { AreApart (map T.name_of entries.now) }
+    requires { AreDistinctNames (map T.name_of entries.now) }
     ensures { IfOk result (λ names. names ≡ map T.name_of entries.now) }
 {
     let mut names = NameSet::new(alloc);

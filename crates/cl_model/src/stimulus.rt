@@ -1,5 +1,6 @@
 //! Stimuli: the patterns by which jobs of tasks arrive. Times are in ticks.
 ghost use Rattle.std.specs.Prelude.{◌≡◌};
+ghost use Rattle.cl_model.specs.Kinds.{is_periodic};
 ghost use Rattle.cl_model.specs.Timing.{least_distance, greatest_distance, greatest_jitter};
 
 use crate::copying::TryCopy;
@@ -39,6 +40,13 @@ pub struct StimulusDef {
 }
 
 impl StimulusKind {
+    /// Whether jobs arrive by one period.
+    pub fn is_periodic(self) -> bool
+        ensures { result ≡ is_periodic self }
+    {
+        matches!(self, StimulusKind::Periodic { .. })
+    }
+
     /// The least distance between two arrivals.
     pub fn least_distance(self) -> u64
         ensures { result ≡ least_distance self }

@@ -1,5 +1,9 @@
 //! Tasks and the runnables that a job of a task executes. Times are in ticks.
-ghost use Rattle.std.specs.Prelude.{◌≡◌};
+ghost use Rattle.std.specs.Prelude.{◌≡◌, ◌<◌, ◌^◌};
+ghost use Rattle.cl_model.specs.Holds.{runnable_hold, task_hold};
+ghost use Rattle.cl_model.specs.Kinds.{access_word, is_timed};
+ghost use Rattle.cl_model.specs.Reading.Checks.{meaning_of};
+ghost use Rattle.cl_model.specs.Reading.Tables.{access_words};
 ghost use Rattle.cl_model.specs.Timing.{deadline_under};
 
 use crate::copying::TryCopy;
@@ -18,6 +22,38 @@ pub enum AccessKind {
     Implicit,
     /// A job reads at its arrival and writes at its deadline.
     Timed,
+}
+
+impl AccessKind {
+    /// Whether tasks of this kind are timed.
+    pub fn is_timed(self) -> bool
+        ensures { result ≡ is_timed self }
+    {
+        matches!(self, AccessKind::Timed)
+    }
+
+    /// The word of this kind in a model file and in a list of edits.
+    pub fn word(self) -> &'static str
+        ensures { result.now ≡ access_word self }
+    {
+        match self {
+            AccessKind::Explicit => "explicit",
+            AccessKind::Implicit => "implicit",
+            AccessKind::Timed => "timed",
+        }
+    }
+
+    /// The kind of this word. There is none exactly where no kind has it.
+    pub fn of_word(word: &[u8]) -> Option<AccessKind>
+        ensures { result ≡ meaning_of access_words word.now }
+    {
+        match word {
+            b"explicit" => Some(AccessKind::Explicit),
+            b"implicit" => Some(AccessKind::Implicit),
+            b"timed" => Some(AccessKind::Timed),
+            _ => None,
+        }
+    }
 }
 
 /// A step of a job: how long it executes, and which labels it reads and writes.
@@ -49,7 +85,32 @@ pub struct TaskDef {
     pub runnables: List<RunnableDef>,
 }
 
+impl RunnableDef {
+    /// How long the runnable may hold its core once it has begun: its greatest time without its first tick, in ticks,
+    /// where it is whole, and else 0.
+    pub fn hold(&self) -> u64
+        ensures { result ≡ runnable_hold self.now }
+    {
+        if self.whole {
+            self.greatest.saturating_sub(1)
+        } else {
+            0
+        }
+    }
+}
+
 impl TaskDef {
+    /// How long a runnable of the task may hold its core once it has begun, in ticks.
+    pub fn longest_hold(&self) -> u64
+        ensures { result ≡ task_hold self.now }
+    {
+        let mut longest = 0;
+        for runnable in self.runnables.as_slice() {
+            longest = longest.max(runnable.hold());
+        }
+        longest
+    }
+
     /// The deadline that is given, or else the least distance of the task's stimulus.
     pub fn deadline_under(&self, kind: StimulusKind) -> u64
         ensures { result ≡ deadline_under kind self.now }

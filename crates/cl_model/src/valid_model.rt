@@ -2,14 +2,16 @@
 ghost use Rattle.std.specs.Prelude.{◌≡◌, ◌<◌, ◌≤◌, length, slice_index_or, IfOk, IfErr, IfSome, All};
 ghost use Rattle.cl_model.specs.declared.limits.TheConstants.{MOST_STEPS};
 ghost use Rattle.cl_model.specs.Groups.{no_group, groups_at, IsGroupOf};
-ghost use Rattle.cl_model.specs.ByNumber.{core_of, stimulus_of, deadline_of, jitter_of, time_of, tasks_of_core, task_named, chain_named};
+ghost use Rattle.cl_model.specs.ByNumber.{task_at, chain_at, core_at, core_of, stimulus_of, deadline_of, jitter_of, time_of, tasks_of_core, task_named, chain_named};
 ghost use Rattle.cl_model.specs.Validity.{IsValid};
 
+use crate::chain::ChainDef;
 use crate::group::Group;
 use crate::look_ups::{LookUps, look_ups_of};
-use crate::model::SystemModel;
+use crate::model::{CoreDef, SystemModel};
 use crate::name::Name;
 use crate::stimulus::StimulusKind;
+use crate::task::TaskDef;
 use cl_time::NoMemory;
 use std::alloc::Global;
 use std::marker::Model;
@@ -57,23 +59,53 @@ impl ValidModel {
 
     /// The number of tasks.
     pub fn tasks(&self) -> u32
-        ensures { result ≡ length self.now.tasks }
+        ensures count { result ≡ length self.now.tasks }
+        ensures valid { IsValid self.now }
     {
         self.model.tasks.len() as u32
     }
 
+    /// The task of a number.
+    pub fn task(&self, task: u32) -> &TaskDef
+        requires { task < length self.now.tasks }
+        ensures task { result.now ≡ task_at self.now task }
+        ensures valid { IsValid self.now }
+    {
+        &self.model.tasks.as_slice()[task as usize]
+    }
+
     /// The number of cores.
     pub fn cores(&self) -> u32
-        ensures { result ≡ length self.now.cores }
+        ensures count { result ≡ length self.now.cores }
+        ensures valid { IsValid self.now }
     {
         self.model.cores.len() as u32
     }
 
+    /// The core of a number.
+    pub fn core(&self, core: u32) -> &CoreDef
+        requires { core < length self.now.cores }
+        ensures core { result.now ≡ core_at self.now core }
+        ensures valid { IsValid self.now }
+    {
+        &self.model.cores.as_slice()[core as usize]
+    }
+
     /// The number of chains.
     pub fn chains(&self) -> u32
-        ensures { result ≡ length self.now.chains }
+        ensures count { result ≡ length self.now.chains }
+        ensures valid { IsValid self.now }
     {
         self.model.chains.len() as u32
+    }
+
+    /// The chain of a number.
+    pub fn chain(&self, chain: u32) -> &ChainDef
+        requires { chain < length self.now.chains }
+        ensures chain { result.now ≡ chain_at self.now chain }
+        ensures valid { IsValid self.now }
+    {
+        &self.model.chains.as_slice()[chain as usize]
     }
 
     /// The number of the core of a task.
@@ -98,7 +130,7 @@ impl ValidModel {
         requires { task < length self.now.tasks }
         ensures { result ≡ deadline_of self.now task }
     {
-        self.model.tasks.as_slice()[task as usize].deadline_under(self.stimulus_of(task))
+        self.task(task).deadline_under(self.stimulus_of(task))
     }
 
     /// The greatest jitter of a task in ticks: how long after its arrival a job may be released.

@@ -1,14 +1,10 @@
--- The document of a text, and of bytes that are no text.
+-- The document of bytes that are no text.
 use Rattle.std.proofs.Common.{◌≡◌, ℕ, Bool, true, false, cond, List, Option, None, refl}
-use Rattle.std.proofs.lemmas.Str.{is_utf8-from_IsUtf8, IsUtf8-from_is_utf8}
+use Rattle.std.proofs.lemmas.Str.{IsUtf8-from_is_utf8}
 use Rattle.std.specs.Str.{IsUtf8, is_utf8}
 use Rattle.toml.specs.Data.{Members}
 use Rattle.toml.specs.Parse.{parse_document}
 use Rattle.cl_model.specs.Reading.{document_of}
-
-pub document_of-text : (bytes : List ℕ) → IsUtf8 bytes → document_of bytes ≡ parse_document bytes
-unfolding document_of
-document_of-text bytes text = rw (is_utf8-from_IsUtf8 bytes text) refl
 
 chosen : (t : Bool) (found : Option Members) → (t ≡ true → ⊥) → cond t found None ≡ None
 chosen true found denied = absurd (denied refl)

@@ -5,12 +5,13 @@ ghost use Rattle.cl_model.specs.declared.limits.TheConstants.{MOST_RUNNABLES};
 ghost use Rattle.cl_model.specs.declared.place.Key.TheVariants as key;
 ghost use Rattle.cl_model.specs.Place.{at_item, at_sub, at_spot};
 ghost use Rattle.cl_model.specs.Reading.Checks.{a_name, a_table_of, fields_checks, field_checks, optional, names};
-ghost use Rattle.cl_model.specs.Reading.Meanings.{text_of, table_of, names_at, tables_at};
+ghost use Rattle.cl_model.specs.Reading.Meanings.{text_in, table_of, names_at, tables_at};
 ghost use Rattle.cl_model.specs.Reading.Tables.{core_fields, core_meaning, label_fields, label_meaning, runnable_fields, runnables, runnable_meaning, task_fields, task_meaning, chain_fields, chain_meaning, requirement_fields, requirement_meaning};
 ghost use Rattle.cl_model.specs.Answers.{Answers};
 
 use crate::arrays::{Member, array_or_none};
 use crate::keys::{has_only, value_at};
+use crate::values::table_in;
 use crate::{fields, values};
 use cl_model::{
     ChainDef, Code, CoreDef, Key, LabelDef, List, MOST_ACCESSES, MOST_HOPS, MOST_PRIORITY,
@@ -23,7 +24,7 @@ use toml::{Table, Value};
 impl Member for Name {
     ghost checks = { λ version. a_name };
 
-    ghost meaning = { λ version. text_of };
+    ghost meaning = { λ version. text_in };
 
     ghost place_in = { at_spot };
 
@@ -58,10 +59,7 @@ impl Member for CoreDef {
         place: Place,
         value: &Value,
     ) -> Result<CoreDef, ModelFault> {
-        match value {
-            Value::Table(table) => core(place, table),
-            _ => Err(ModelFault::refused(Code::M6, place)),
-        }
+        core(place, table_in(place, value)?)
     }
 }
 
@@ -82,10 +80,7 @@ impl Member for LabelDef {
         place: Place,
         value: &Value,
     ) -> Result<LabelDef, ModelFault> {
-        match value {
-            Value::Table(table) => label(place, table),
-            _ => Err(ModelFault::refused(Code::M6, place)),
-        }
+        label(place, table_in(place, value)?)
     }
 }
 
@@ -106,10 +101,7 @@ impl Member for RunnableDef {
         place: Place,
         value: &Value,
     ) -> Result<RunnableDef, ModelFault> {
-        match value {
-            Value::Table(table) => runnable(alloc, version, place, table),
-            _ => Err(ModelFault::refused(Code::M6, place)),
-        }
+        runnable(alloc, version, place, table_in(place, value)?)
     }
 }
 
@@ -130,10 +122,7 @@ impl Member for TaskDef {
         place: Place,
         value: &Value,
     ) -> Result<TaskDef, ModelFault> {
-        match value {
-            Value::Table(table) => task(alloc, version, place, table),
-            _ => Err(ModelFault::refused(Code::M6, place)),
-        }
+        task(alloc, version, place, table_in(place, value)?)
     }
 }
 
@@ -154,10 +143,7 @@ impl Member for ChainDef {
         place: Place,
         value: &Value,
     ) -> Result<ChainDef, ModelFault> {
-        match value {
-            Value::Table(table) => chain(alloc, version, place, table),
-            _ => Err(ModelFault::refused(Code::M6, place)),
-        }
+        chain(alloc, version, place, table_in(place, value)?)
     }
 }
 
@@ -178,10 +164,7 @@ impl Member for RequirementDef {
         place: Place,
         value: &Value,
     ) -> Result<RequirementDef, ModelFault> {
-        match value {
-            Value::Table(table) => requirement(place, table),
-            _ => Err(ModelFault::refused(Code::M6, place)),
-        }
+        requirement(place, table_in(place, value)?)
     }
 }
 

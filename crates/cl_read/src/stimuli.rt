@@ -13,6 +13,7 @@ ghost use Rattle.cl_model.specs.Answers.{Answers};
 use crate::arrays::Member;
 use crate::fields;
 use crate::keys::{has_only, value_at};
+use crate::values::table_in;
 use cl_model::{
     Code, Key, LEAST_JOBS_OF_BURST, MOST_JOBS_OF_BURST, MOST_TICKS, ModelFault, Place, StimulusDef,
     StimulusKind,
@@ -37,10 +38,7 @@ impl Member for StimulusDef {
         place: Place,
         value: &Value,
     ) -> Result<StimulusDef, ModelFault> {
-        match value {
-            Value::Table(table) => stimulus(version, place, table),
-            _ => Err(ModelFault::refused(Code::M6, place)),
-        }
+        stimulus(version, place, table_in(place, value)?)
     }
 }
 

@@ -1,19 +1,33 @@
-//! Single values of a document: names, numbers, booleans and words.
-ghost use Rattle.std.specs.Prelude.{◌≡◌, unwrap_or};
-ghost use Rattle.toml.specs.View.{view};
+//! Single values of a document: tables, names, numbers, booleans and words.
+ghost use Rattle.std.specs.Prelude.{◌≡◌, unwrap_or, IfOk, IfErr, List};
+ghost use Rattle.toml.specs.Data.{Members, table};
+ghost use Rattle.toml.specs.View.{view, table_view};
+ghost use Rattle.cl_model.specs.declared.place.Place.{Place as Spot};
+ghost use Rattle.cl_model.specs.declared.refusal.Refusal.{Refusal};
 ghost use Rattle.cl_model.specs.declared.task.AccessKind.TheVariants.{Explicit};
 ghost use Rattle.cl_model.specs.declared.chain.LengthKind.TheVariants.{Reaction};
-ghost use Rattle.cl_model.specs.Reading.Checks.{a_name, a_number, a_boolean, a_word, meaning_of};
-ghost use Rattle.cl_model.specs.Reading.Meanings.{text_of, number_of, boolean_of};
+ghost use Rattle.cl_model.specs.Reading.Checks.{a_table, a_name, a_number, a_boolean, a_word, meaning_of};
+ghost use Rattle.cl_model.specs.Reading.Meanings.{text_in, number_in, boolean_of};
 ghost use Rattle.cl_model.specs.Reading.Tables.{access_words, length_words};
-ghost use Rattle.cl_model.specs.Answers.{Answers};
+ghost use Rattle.cl_model.specs.Answers.{Answers, IsFaultOf};
 
 use cl_model::{AccessKind, Code, LengthKind, ModelFault, Name, Place};
-use toml::Value;
+use toml::{Table, Value};
+
+/// The table that a value is. What isn't a table is refused, whatever is asked of the table.
+pub(crate) fn table_in(place: Place, value: &Value) -> Result<&Table, ModelFault>
+    ensures found { IfOk result (λ found. view value.now ≡ table (table_view found.now)) }
+    ensures refused { IfErr result (λ fault. (asked : Spot → Members → List Refusal) → IsFaultOf (a_table asked place (view value.now)) fault) }
+{
+    match value {
+        Value::Table(table) => Ok(table),
+        _ => Err(ModelFault::refused(Code::M6, place)),
+    }
+}
 
 pub(crate) fn name(place: Place, value: &Value) -> Result<Name, ModelFault>
     ensures { let d = view value.now in
-        Answers result (a_name place d) (text_of d) }
+        Answers result (a_name place d) (text_in d) }
 {
     match value {
         Value::String(word) => match Name::read(word.as_bytes()) {
@@ -27,7 +41,7 @@ pub(crate) fn name(place: Place, value: &Value) -> Result<Name, ModelFault>
 /// A whole number from `low` to `high`.
 pub(crate) fn number(place: Place, low: u64, high: u64, value: &Value) -> Result<u64, ModelFault>
     ensures { let d = view value.now in
-        Answers result (a_number low high place d) (number_of d) }
+        Answers result (a_number low high place d) (number_in d) }
 {
     match value {
         Value::Integer(number) => match u64::try_from(*number) {
@@ -48,25 +62,14 @@ pub(crate) fn boolean(place: Place, value: &Value) -> Result<bool, ModelFault>
     }
 }
 
-fn access_of(word: &str) -> Option<AccessKind>
-    ensures { result ≡ meaning_of access_words word.now }
-{
-    match word {
-        "explicit" => Some(AccessKind::Explicit),
-        "implicit" => Some(AccessKind::Implicit),
-        "timed" => Some(AccessKind::Timed),
-        _ => None,
-    }
-}
-
 pub(crate) fn access(place: Place, value: &Value) -> Result<AccessKind, ModelFault>
     ensures { let d = view value.now in
         Answers result
         (a_word access_words place d)
-        (unwrap_or (meaning_of access_words (text_of d)) Explicit) }
+        (unwrap_or (meaning_of access_words (text_in d)) Explicit) }
 {
     match value {
-        Value::String(word) => match access_of(word.as_str()) {
+        Value::String(word) => match AccessKind::of_word(word.as_bytes()) {
             Some(access) => Ok(access),
             None => Err(ModelFault::refused(Code::M9, place)),
         },
@@ -89,7 +92,7 @@ pub(crate) fn length(place: Place, value: &Value) -> Result<LengthKind, ModelFau
     ensures { let d = view value.now in
         Answers result
         (a_word length_words place d)
-        (unwrap_or (meaning_of length_words (text_of d)) Reaction) }
+        (unwrap_or (meaning_of length_words (text_in d)) Reaction) }
 {
     match value {
         Value::String(word) => match length_of(word.as_str()) {

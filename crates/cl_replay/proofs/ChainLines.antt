@@ -9,12 +9,12 @@ use Rattle.cl_analyse.specs.ChainAnswers.{chain_answer_at}
 use Rattle.cl_chain.specs.declared.job_chain.Measured as own
 use Rattle.cl_chain.specs.JobChains.{measured_of}
 use Rattle.cl_replay.specs.Margins.{ChainHasMargins, HaveMargins}
-use Rattle.cl_replay.specs.Replay.{measured_at, lines_of, chain_lines}
+use Rattle.cl_replay.specs.Replay.{measured_at, measured_lines, measured_chain_lines}
 
 module _ (model : SystemModel) (findings : Findings) (measured : List own.Measured) (i : ℕ) (answer : ChainAnswer) (found : own.Measured)
     (is_answer : answer ≡ chain_answer_at findings.chains i) (is_measured : measured_of found ≡ measured_at (map measured_of measured) i) where
-  pub lines_at : lines_of model i answer (measured_of found) ≡ chain_lines model findings (map measured_of measured) i
-  lines_at = ap (λ (a : ChainAnswer). lines_of model i a (measured_of found)) is_answer ∙ ap (λ (m : Measured). lines_of model i (chain_answer_at findings.chains i) m) is_measured
+  pub lines_at : measured_lines model i answer (measured_of found) ≡ measured_chain_lines model findings (map measured_of measured) i
+  lines_at = ap (λ (a : ChainAnswer). measured_lines model i a (measured_of found)) is_answer ∙ ap (λ (m : Measured). measured_lines model i (chain_answer_at findings.chains i) m) is_measured
 
   pub margins_at : HaveMargins model findings (map measured_of measured) → i < length model.chains → ChainHasMargins (groups_at model i) answer (measured_of found)
   margins_at have within =

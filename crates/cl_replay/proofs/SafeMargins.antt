@@ -24,8 +24,8 @@ use Rattle.cl_analyse.specs.Findings.{AreFindings}
 use Rattle.cl_analyse.specs.Headline.{IsChainOfKind}
 use Rattle.cl_analyse.specs.Verdicts.{bound_of_kind, bound_value}
 use Rattle.cl_analyse.proofs.SafeFindings.{findings_safe}
-use Rattle.cl_replay.specs.Margins.{HasMargin, LongestHasMargin, HaveMargins}
-use Rattle.cl_replay.specs.Replay.{AreMeasured, measured_at, longest_of_kind}
+use Rattle.cl_replay.specs.Margins.{HasMargin, LongestHasMargin, HaveMargins, IsReplayWithMargins}
+use Rattle.cl_replay.specs.Replay.{AreMeasured, measured_at, longest_of_kind, IsReplayOf}
 
 some_same : (m n : ℕ) → Some m ≡ Some n → m ≡ n
 some_same m n is = cc
@@ -95,6 +95,14 @@ pub have_margins : (model : SystemModel) → IsValid model → (findings : Findi
     → (measured : List Measured) → AreMeasured model run measured → HaveMargins model findings measured
 have_margins model valid findings found run legal measured are = λ i within kind.
     longest_margin model valid run legal i findings found within (measured_at measured i) (are.each i within) kind (longest_of_kind kind (measured_at measured i)) refl
+
+-- so is each replay of a legal run one with margins
+pub with_margins : (model : SystemModel) → IsValid model → (run : Run) → IsLegal (system_of model) run → (text : List ℕ) → IsReplayOf model run text
+    → IsReplayWithMargins model run text
+with_margins model valid run legal text is = record {
+  is_replay = is;
+  margins = have_margins model valid is.findings is.found run legal is.measured is.are_measured;
+}
 
 -- a length that has a margin is within the bound
 pub within_most : (length most : ℕ) → length + (most - length) ≡ most → length ≤ most

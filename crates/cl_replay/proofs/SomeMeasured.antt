@@ -1,13 +1,11 @@
 -- What is measured exists: of moments that can be decided, and so of every run.
-use Rattle.std.proofs.Common.{◌≡◌, ℕ, zero, suc, ◌+◌, ◌-◌, ◌<◌, ◌≤◌, ◌⊎◌, inl, inr, Option, List, [], ◌∷◌, length, get_or, map, refl, sym, ap, ◌∙◌, subst, arith}
+use Rattle.std.proofs.Common.{◌≡◌, ℕ, ◌+◌, ◌-◌, ◌<◌, inl, inr, List, [], length, refl, sym, ap, ◌∙◌, subst, arith}
 use Rattle.std.specs.Prelude.{slice_index, sum_by}
-use Rattle.std.specs.List.{range_with_len}
 use Rattle.std.proofs.lemmas.Bool.{cases_lt}
 use Rattle.std.proofs.lemmas.List.{get_or_past}
 use Rattle.std.proofs.lemmas.List.Sums.{get_or-le-sum_by}
 use Rattle.cl_model.specs.declared.group.Group.{Group}
 use Rattle.cl_model.specs.Groups.{group_at}
-use Rattle.cl_runs.specs.declared.job.Job.{Job}
 use Rattle.cl_runs.specs.TaskTiming.{System}
 use Rattle.cl_runs.specs.Run.{Run, jobs_of}
 use Rattle.cl_runs.specs.Chains.{Moments, HasWritten, JobChain, first_group, last_group, first_job, last_job, IsForwardChain, AreBackwardLinks, IsAgeChain, IsReducedChain}
@@ -19,7 +17,7 @@ use Rattle.cl_runs.proofs.FirstBelow.{both_or_not}
 use Rattle.cl_runs.proofs.MomentFacts.{reads_once, writes_once}
 use Rattle.cl_replay.proofs.ChainsByJob.{HasChain, some_count, some_measured}
 use Rattle.cl_replay.proofs.DecidedMoments.{Decided, some_read, some_write}
-use Rattle.cl_replay.proofs.LinkedJobs.{AreDecided, IsForward, HasForward, forward_or_not, IsBackward, HasBackward, backward_or_not, backward_once}
+use Rattle.cl_replay.proofs.LinkedJobs.{AreDecided, HasForward, forward_or_not, HasBackward, backward_or_not, backward_once}
 
 module _ (moments : Moments) (bound : ℕ) (are : AreDecided moments bound) (groups : List Group) (some : 0 < length groups) where
   unique : AreUnique moments groups

@@ -1,5 +1,5 @@
 -- Each run has a replay.
-use Rattle.std.proofs.Common.{◌≡◌, ℕ, ◌+◌, ◌<◌, ◌⊎◌, inl, inr, List, length, map, refl, ap, subst, sym, arith}
+use Rattle.std.proofs.Common.{ℕ, ◌<◌, inl, inr, List, length, map, refl, subst, sym, arith}
 use Rattle.std.specs.List.{range_with_len}
 use Rattle.std.proofs.lemmas.List.FromFn.{get_or-map-range_with_len, length-map-range_with_len}
 use Rattle.cl_model.specs.declared.model.SystemModel.{SystemModel}

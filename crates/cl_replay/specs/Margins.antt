@@ -1,19 +1,20 @@
--- The margins of a replay. Times are in ticks. Source: this project's profile.
+-- The margins of a replay. Times are in ticks.
 use Rattle.std.specs.Prelude.{◌≡◌, ℕ, ◌+◌, ◌<◌, ◌≤◌, Option, Some, None, List, length}
 use Rattle.cl_model.specs.declared.model.SystemModel.{SystemModel}
 use Rattle.cl_model.specs.declared.chain.LengthKind.{LengthKind}
 use Rattle.cl_model.specs.declared.group.Group.{Group}
 use Rattle.cl_model.specs.Groups.{groups_at}
 use Rattle.cl_runs.specs.Chains.{JobChain, chain_length}
+use Rattle.cl_runs.specs.Run.{Run}
 use Rattle.cl_runs.specs.Measured.{Measured}
 use Rattle.cl_analyse.specs.declared.findings.ChainAnswer.{ChainAnswer}
 use Rattle.cl_analyse.specs.declared.findings.Findings.{Findings}
 use Rattle.cl_analyse.specs.ChainAnswers.{chain_answer_at}
 use Rattle.cl_analyse.specs.Verdicts.{bound_value}
-use Rattle.cl_replay.specs.Replay.{measured_at, longest_of_kind, margin}
+use Rattle.cl_replay.specs.Replay.{measured_at, longest_of_kind, margin, IsReplayOf}
 
--- A measured chain has a job for each group and ends no earlier than it begins. It is at most as long as the bound, where
--- there is one: with its margin it is as long as the bound, so that the margin isn't negative.
+-- A measured chain has a job for each group and ends no earlier than it begins. It is at most as long as the bound,
+-- where there is one: with its margin it is as long as the bound, so that the margin isn't negative.
 pub record HasMargin (groups : List Group) (bound : Option ℕ) (chain : JobChain) : Type 0 where
   pub one_a_group : length chain.jobs ≡ length groups
   pub in_order : chain.from ≤ chain.to
@@ -32,3 +33,9 @@ ChainHasMargins groups answer measured = (kind : LengthKind) → LongestHasMargi
 abbrev pub HaveMargins : SystemModel → Findings → List Measured → Type 0
 HaveMargins model findings measured =
     (i : ℕ) → i < length model.chains → ChainHasMargins (groups_at model i) (chain_answer_at findings.chains i) (measured_at measured i)
+
+-- the text is the replay of a run, and with the margins that it prints each length that has a bound is as long as the
+-- bound
+pub record IsReplayWithMargins (model : SystemModel) (run : Run) (text : List ℕ) : Type 0 where
+  pub is_replay : IsReplayOf model run text
+  pub margins : HaveMargins model is_replay.findings is_replay.measured

@@ -1,5 +1,5 @@
 -- The replay of a run: a title, and for each chain of the model three lines, one for each kind of length, with what is
--- measured in the run against the bound that was found. Times are in ticks. Source: this project's profile.
+-- measured in the run against the bound that was found. Times are in ticks.
 use Rattle.std.specs.Prelude.{◌≡◌, ℕ, ◌-◌, ◌<◌, Option, Some, None, List, ◌++◌, length, slice_index_or, codes, decimal}
 use Rattle.std.specs.List.{flat_map, range_with_len}
 use Rattle.cl_text.specs.Line.{line}
@@ -55,7 +55,9 @@ abbrev pub bound_words : (bound : Option ℕ) → List ℕ
 bound_words None = codes " late"
 bound_words (Some bound) = codes " bound " ++ decimal bound
 
--- the margin that a length leaves: the bound minus the length
+-- The margin that a length leaves: the bound minus the length. The subtraction is cut off at 0 where the length is
+-- greater, which never is: in a legal run no measured chain is longer than its bound, and so length and margin make the
+-- bound.
 abbrev pub margin : (bound length : ℕ) → ℕ
 margin bound length = bound - length
 
@@ -84,18 +86,18 @@ kind_line model i answer measured kind =
 -- ---- the replay
 
 -- the lines of chain i, by what was found of the chain and what is measured
-abbrev pub lines_of : SystemModel → (i : ℕ) → ChainAnswer → Measured → List ℕ
-lines_of model i answer measured =
+abbrev pub measured_lines : SystemModel → (i : ℕ) → ChainAnswer → Measured → List ℕ
+measured_lines model i answer measured =
     kind_line model i answer measured Reaction ++ kind_line model i answer measured Age ++ kind_line model i answer measured Reduced
 
 -- the lines of chain i of a model with these findings
-abbrev pub chain_lines : SystemModel → Findings → List Measured → (i : ℕ) → List ℕ
-chain_lines model findings measured i = lines_of model i (chain_answer_at findings.chains i) (measured_at measured i)
+abbrev pub measured_chain_lines : SystemModel → Findings → List Measured → (i : ℕ) → List ℕ
+measured_chain_lines model findings measured i = measured_lines model i (chain_answer_at findings.chains i) (measured_at measured i)
 
 -- the replay of a model with these findings, and with what is measured of its chains
 unfoldable pub replay_text : SystemModel → Findings → List Measured → List ℕ
 replay_text model findings measured =
-    line (codes "chainlat replay 1") ++ flat_map (chain_lines model findings measured) (range_with_len 0 (length model.chains))
+    line (codes "chainlat replay 1") ++ flat_map (measured_chain_lines model findings measured) (range_with_len 0 (length model.chains))
 
 -- the text is the replay of a run: by the model's findings, and by what is measured in the run
 pub record IsReplayOf (model : SystemModel) (run : Run) (text : List ℕ) : Type 0 where

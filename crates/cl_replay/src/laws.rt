@@ -8,7 +8,7 @@ ghost use Rattle.cl_runs.specs.Legal.{IsLegal};
 ghost use Rattle.cl_runs.specs.Measured.{Measured};
 ghost use Rattle.cl_analyse.specs.declared.findings.Findings.{Findings};
 ghost use Rattle.cl_analyse.specs.Findings.{AreFindings};
-ghost use Rattle.cl_replay.specs.Margins.{HaveMargins};
+ghost use Rattle.cl_replay.specs.Margins.{HaveMargins, IsReplayWithMargins};
 ghost use Rattle.cl_replay.specs.Replay.{AreMeasured, IsReplayOf};
 
 /// Two texts that are the replay of one run are equal.
@@ -16,8 +16,8 @@ pub fn replays_are_unique()
     ensures { (model : SystemModel) (run : Run) (one other : List ℕ) → IsReplayOf model run one → IsReplayOf model run other → one ≡ other }
 {}
 
-/// In a legal run of a valid model each measured chain that has a bound is, with its margin, as long as the bound. So no
-/// margin is negative.
+/// In a legal run of a valid model each measured chain that has a bound is, with its margin, as long as the bound. So
+/// no margin is negative.
 pub fn margins_are_not_negative()
     ensures { (model : SystemModel) → IsValid model → (findings : Findings) → AreFindings model findings
         → (run : Run) → IsLegal (system_of model) run → (measured : List Measured) → AreMeasured model run measured
@@ -27,4 +27,10 @@ pub fn margins_are_not_negative()
 /// Each run of a valid model has a replay.
 pub fn runs_have_replays()
     ensures { (model : SystemModel) → IsValid model → (run : Run) → (text : List ℕ) × IsReplayOf model run text }
+{}
+
+/// So the replay of a legal run of a valid model is one with margins, whatever wrote it.
+pub fn replays_have_margins()
+    ensures { (model : SystemModel) → IsValid model → (run : Run) → IsLegal (system_of model) run
+        → (text : List ℕ) → IsReplayOf model run text → IsReplayWithMargins model run text }
 {}

@@ -3,9 +3,9 @@ ghost use Rattle.std.specs.Prelude.{◌≡◌, ℕ, Some, ◌<◌, ◌≤◌, �
 ghost use Rattle.std.specs.List.{flat_map, range_with_len};
 ghost use Rattle.cl_model.specs.Groups.{groups_at};
 ghost use Rattle.cl_analyse.specs.Findings.{AreFindings};
-ghost use Rattle.cl_chain.specs.JobChains.{chain_of, option_of, measured_of};
+ghost use Rattle.cl_chain.specs.JobChains.{job_chain_of, option_of, measured_of};
 ghost use Rattle.cl_replay.specs.Margins.{HasMargin, LongestHasMargin, ChainHasMargins, HaveMargins};
-ghost use Rattle.cl_replay.specs.Replay.{bound_words, margin_words, longest_words, found_words, kind_line, lines_of, chain_lines};
+ghost use Rattle.cl_replay.specs.Replay.{bound_words, margin_words, longest_words, found_words, kind_line, measured_lines, measured_chain_lines};
 
 use crate::pieces::{count_of_kind, longest_of_kind};
 use cl_analyse::{ChainAnswer, Findings};
@@ -26,7 +26,7 @@ pub(crate) fn put_chains(
     requires one_a_chain { length measured.now ≡ length model.now.chains }
     requires margins { HaveMargins model.now findings.now (map measured_of measured.now) }
     ensures { OnOk result (text.new ≡ text.old
-        ++ flat_map (chain_lines model.now findings.now (map measured_of measured.now)) (range_with_len 0 (length model.now.chains))) }
+        ++ flat_map (measured_chain_lines model.now findings.now (map measured_of measured.now)) (range_with_len 0 (length model.now.chains))) }
 {
     for chain in 0..model.chains() {
         let answer = &findings.chains.as_slice()[chain as usize];
@@ -45,7 +45,7 @@ fn put_chain(
 ) -> Result<(), NoMemory>
     requires within { chain < length model.now.chains }
     requires margins { ChainHasMargins (groups_at model.now chain) answer.now (measured_of measured.now) }
-    ensures { OnOk result (text.new ≡ text.old ++ lines_of model.now chain answer.now (measured_of measured.now)) }
+    ensures { OnOk result (text.new ≡ text.old ++ measured_lines model.now chain answer.now (measured_of measured.now)) }
 {
     put_kind(text, model, chain, LengthKind::Reaction, answer, measured)?;
     put_kind(text, model, chain, LengthKind::Age, answer, measured)?;
@@ -107,8 +107,8 @@ fn put_longest(
     longest: &JobChain,
 ) -> Result<(), NoMemory>
     requires within { chain < length model.now.chains }
-    requires margin { HasMargin (groups_at model.now chain) bound (chain_of longest.now) }
-    ensures { OnOk result (text.new ≡ text.old ++ longest_words model.now chain count bound (chain_of longest.now)) }
+    requires margin { HasMargin (groups_at model.now chain) bound (job_chain_of longest.now) }
+    ensures { OnOk result (text.new ≡ text.old ++ longest_words model.now chain count bound (job_chain_of longest.now)) }
 {
     let length = longest.to - longest.from;
     text.put(b" ")?;

@@ -2,7 +2,10 @@
 ghost use Rattle.std.specs.Prelude.{map, IfOk};
 ghost use Rattle.cl_runs.specs.SystemOf.{system_of};
 ghost use Rattle.cl_runs.specs.Legal.{IsLegal};
+ghost use Rattle.cl_analyse.specs.declared.findings.Findings.{Findings};
+ghost use Rattle.cl_analyse.specs.Findings.{AreFindings};
 ghost use Rattle.cl_chain.specs.JobChains.{measured_of};
+ghost use Rattle.cl_replay.specs.Margins.{HaveMargins};
 ghost use Rattle.cl_replay.specs.Replay.{AreMeasured};
 
 use cl_chain::{Measured, measure};
@@ -11,14 +14,17 @@ use cl_run_data::RunData;
 use cl_time::NoMemory;
 use std::alloc::Global;
 
-/// What is measured of each chain in a run, in file order.
+/// What is measured of each chain in a run, in file order. No measured chain is longer than a bound that is found of
+/// it.
 pub(crate) fn measure_all(
     alloc: Global,
     model: &ValidModel,
     run: &RunData,
 ) -> Result<List<Measured>, NoMemory>
     requires { IsLegal (system_of model.now) run.now }
-    ensures { IfOk result (λ measured. AreMeasured model.now run.now (map measured_of measured)) }
+    ensures measured { IfOk result (λ measured. AreMeasured model.now run.now (map measured_of measured)) }
+    ensures margins { IfOk result (λ measured. (findings : Findings) → AreFindings model.now findings
+        → HaveMargins model.now findings (map measured_of measured)) }
 {
     let mut measured = List::new(alloc);
     for chain in 0..model.chains() {

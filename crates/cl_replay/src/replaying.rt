@@ -2,7 +2,7 @@
 ghost use Rattle.std.specs.Prelude.{◌≡◌, length, map, IfOk};
 ghost use Rattle.cl_analyse.specs.Findings.{AreFindings};
 ghost use Rattle.cl_chain.specs.JobChains.{measured_of};
-ghost use Rattle.cl_replay.specs.Margins.{HaveMargins};
+ghost use Rattle.cl_replay.specs.Margins.{HaveMargins, IsReplayWithMargins};
 ghost use Rattle.cl_replay.specs.Replay.{replay_text, IsReplayOf};
 ghost use Rattle.cl_runs.specs.Legal.{IsLegal};
 ghost use Rattle.cl_runs.specs.SystemOf.{system_of};
@@ -18,12 +18,12 @@ use cl_time::NoMemory;
 use std::alloc::Global;
 
 /// The replay of a run: a title, and for each chain in file order the longest complete chains that the run has of each
-/// kind, each with the bound that was found and the margin that it leaves. A margin is the bound minus what is measured,
-/// and never negative. Times are in ticks.
+/// kind, each with the bound that was found and the margin that it leaves. A margin is the bound minus what is
+/// measured, and never negative. Times are in ticks.
 ///
 /// The findings are those of the model, and the run is legal for it. `NoMemory` comes where there is no memory for what
-/// is measured or for the text; it leaves nothing. It takes a time proportional to the jobs of the chains' groups and the
-/// stretches of their cores, whatever the number of ticks.
+/// is measured or for the text; it leaves nothing. It takes a time proportional to the jobs of the chains' groups and
+/// the stretches of their cores, whatever the number of ticks.
 pub fn replay(
     alloc: Global,
     model: &ValidModel,
@@ -32,10 +32,9 @@ pub fn replay(
 ) -> Result<Text, NoMemory>
     requires found { AreFindings model.now findings.now }
     requires legal { IsLegal (system_of model.now) run.now }
-    ensures { IfOk result (IsReplayOf model.now run.now) }
+    ensures text { IfOk result (IsReplayOf model.now run.now) }
+    ensures margins { IfOk result (IsReplayWithMargins model.now run.now) }
 {
-    // read for what it says: the model is valid
-    let _plain = model.plain();
     let measured = measure_all(alloc, model, run)?;
     text_of(alloc, model, findings, measured.as_slice())
 }

@@ -1,3 +1,4 @@
+pub mod Beginnings
 pub mod ReportLines
 pub mod OneReport
 pub mod SmallSums

@@ -1,11 +1,11 @@
 -- The sums of the bounds of a valid model are small.
-use Rattle.std.proofs.Common.{◌≡◌, ℕ, zero, suc, ◌+◌, ◌*◌, ◌^◌, ◌<◌, ◌≤◌, Some, None, Option, List, [], ◌∷◌, length, get_or, map, refl, sym, ap, ◌∙◌, subst, arith}
+use Rattle.std.proofs.Common.{◌≡◌, ℕ, suc, ◌*◌, ◌^◌, ◌<◌, ◌≤◌, Some, None, Option, List, [], ◌∷◌, length, get_or, map, refl, ap, subst, arith}
 use Rattle.std.specs.Prelude.{All, unwrap_or, sum_by}
 use Rattle.std.proofs.Math.ListN.{length-map}
 use Rattle.std.proofs.lemmas.List.{get_or_default}
 use Rattle.std.proofs.lemmas.List.Elements.{All-map}
 use Rattle.std.proofs.lemmas.List.Sums.{sum_by-cons}
-use Rattle.cl_model.specs.declared.limits.TheConstants.{MOST_TICKS, MOST_STEPS, MOST_CHAINS}
+use Rattle.cl_model.specs.declared.limits.TheConstants.{MOST_TICKS, MOST_STEPS}
 use Rattle.cl_model.specs.declared.chain.ChainDef.{ChainDef}
 use Rattle.cl_model.specs.declared.chain.LengthKind.{LengthKind}
 use Rattle.cl_model.specs.declared.chain.LengthKind.TheVariants.{Reaction, Age, Reduced}
@@ -24,7 +24,7 @@ use Rattle.cl_bound.specs.Answers.{answers_of}
 use Rattle.cl_bound.specs.Hops.{group_timing}
 use Rattle.cl_bound.specs.Bounds.{Lengths, bounds_of}
 use Rattle.cl_bound.specs.SettledChains.{AreWithin}
-use Rattle.cl_bound.proofs.SettledChains.{AreLimited, limited}
+use Rattle.cl_bound.proofs.SettledChains.{limited}
 use Rattle.cl_analyse.specs.declared.findings.ChainAnswer.{ChainAnswer}
 use Rattle.cl_analyse.specs.declared.findings.Findings.{Findings}
 use Rattle.cl_analyse.specs.ChainAnswers.{first_late, chain_answer, chain_answer_of}

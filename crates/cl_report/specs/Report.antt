@@ -1,5 +1,4 @@
 -- The report of a model: a title, a line for each task, the lines of each chain, and a line for each requirement.
--- Source: this project's profile.
 use Rattle.std.specs.Prelude.{◌≡◌, ℕ, List, [], ◌++◌, length, slice_index, codes, decimal, Some, None}
 use Rattle.std.specs.List.{flat_map, range_with_len}
 use Rattle.cl_text.specs.Line.{line}

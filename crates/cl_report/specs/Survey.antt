@@ -1,5 +1,4 @@
--- The survey of a model: how many of its tasks and chains were found how, and the sums of the bounds. Source: this
--- project's profile
+-- The survey of a model: how many of its tasks and chains were found how, and the sums of the bounds.
 use Rattle.std.specs.Prelude.{◌≡◌, ℕ, Bool, true, false, not, List, ◌++◌, length, count_by, sum_by, codes, decimal, unwrap_or}
 use Rattle.cl_text.specs.Line.{line}
 use Rattle.cl_model.specs.declared.chain.LengthKind.{LengthKind}
@@ -51,26 +50,26 @@ bound_sum kind answers = sum_by (λ answer. unwrap_or (bound_value kind answer) 
 -- ---- lines
 
 -- a word and a number
-abbrev pub counted : (word : List ℕ) (n : ℕ) → List ℕ
-counted word n = word ++ decimal n
+abbrev pub counted_line : (word : List ℕ) (n : ℕ) → List ℕ
+counted_line word n = word ++ decimal n
 
 unfoldable pub tasks_line : List TaskAnswer → List ℕ
 tasks_line answers =
-    line (counted (codes "tasks ") (length answers) ++ counted (codes " settled ") (count_by is_settled answers)
-    ++ counted (codes " late ") (count_by is_late answers))
+    line (counted_line (codes "tasks ") (length answers) ++ counted_line (codes " settled ") (count_by is_settled answers)
+    ++ counted_line (codes " late ") (count_by is_late answers))
 
 unfoldable pub chains_line : List ChainAnswer → List ℕ
 chains_line answers =
-    line (counted (codes "chains ") (length answers) ++ counted (codes " bounded ") (count_by is_bounded answers)
-    ++ counted (codes " late ") (count_by is_unbounded answers))
+    line (counted_line (codes "chains ") (length answers) ++ counted_line (codes " bounded ") (count_by is_bounded answers)
+    ++ counted_line (codes " late ") (count_by is_unbounded answers))
 
 unfoldable pub exacts_line : List ExactAnswer → List ℕ
-exacts_line answers = line (counted (codes "exact ") (count_by is_exact answers) ++ counted (codes " past ") (count_by is_past answers))
+exacts_line answers = line (counted_line (codes "exact ") (count_by is_exact answers) ++ counted_line (codes " past ") (count_by is_past answers))
 
 unfoldable pub sums_line : List ChainAnswer → List ℕ
 sums_line answers =
-    line (counted (codes "sums reaction ") (bound_sum Reaction answers) ++ counted (codes " age ") (bound_sum Age answers)
-    ++ counted (codes " reduced ") (bound_sum Reduced answers))
+    line (counted_line (codes "sums reaction ") (bound_sum Reaction answers) ++ counted_line (codes " age ") (bound_sum Age answers)
+    ++ counted_line (codes " reduced ") (bound_sum Reduced answers))
 
 -- ---- the survey
 

@@ -7,7 +7,7 @@ ghost use Rattle.cl_report.specs.Report.{task_words, task_line, bounds_words, ch
 
 use crate::exact_lines::put_exact;
 use crate::requirement_lines::put_requirements;
-use crate::words::{put_chain_name, put_task_name};
+use crate::words::{put_name, put_task_name};
 use cl_analyse::{ChainAnswer, Findings};
 use cl_bound::{Bounds, TaskAnswer};
 use cl_model::ValidModel;
@@ -15,8 +15,8 @@ use cl_text::Text;
 use cl_time::NoMemory;
 use std::alloc::Global;
 
-/// The report of a model: a title, a line for each task, a line for each chain with those of its exact lengths after it,
-/// and a line for each requirement, each in file order. Times are in ticks. The findings are those of the model.
+/// The report of a model: a title, a line for each task, a line for each chain with those of its exact lengths after
+/// it, and a line for each requirement, each in file order. Times are in ticks. The findings are those of the model.
 ///
 /// `NoMemory` comes where there is no memory for the text; it leaves nothing.
 pub fn report(alloc: Global, model: &ValidModel, findings: &Findings) -> Result<Text, NoMemory>
@@ -97,10 +97,8 @@ fn put_chain(
     requires within { chain < length model.now.chains }
     ensures { OnOk result (text.new ≡ text.old ++ chain_line model.now findings.now chain) }
 {
-    // read for what it says: the model is valid
-    let _plain = model.plain();
     text.put(b"chain ")?;
-    put_chain_name(text, model, chain)?;
+    put_name(text, &model.chain(chain).name)?;
     put_chain_answer(text, model, &findings.chains.as_slice()[chain as usize])?;
     text.put(b"\n")
 }

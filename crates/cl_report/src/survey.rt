@@ -4,7 +4,7 @@ ghost use Rattle.cl_model.specs.declared.chain.LengthKind.TheVariants.{Reaction,
 ghost use Rattle.cl_analyse.specs.Findings.{AreFindings};
 ghost use Rattle.cl_analyse.specs.Verdicts.{bound_value};
 ghost use Rattle.cl_bound.specs.Answers.{is_late};
-ghost use Rattle.cl_report.specs.Survey.{is_settled, is_bounded, is_unbounded, is_exact, is_past, bound_sum, counted, tasks_line, chains_line, exacts_line, sums_line, survey_text};
+ghost use Rattle.cl_report.specs.Survey.{is_settled, is_bounded, is_unbounded, is_exact, is_past, bound_sum, counted_line, tasks_line, chains_line, exacts_line, sums_line, survey_text};
 
 use cl_analyse::{ChainAnswer, ExactAnswer, Findings};
 use cl_bound::TaskAnswer;
@@ -22,8 +22,8 @@ pub fn survey_text(alloc: Global, model: &ValidModel, findings: &Findings) -> Re
     requires { AreFindings model.now findings.now }
     ensures { IfOk result (λ text. text ≡ survey_text findings.now) }
 {
-    // read for what it says: the model is valid
-    let _plain = model.plain();
+    let tasks = model.tasks();
+    prove!(findings.tasks.len() == tasks as usize);
     let mut text = Text::new(alloc);
     text.put(b"chainlat survey 1\n")?;
     put_tasks(&mut text, findings.tasks.as_slice())?;
@@ -35,7 +35,7 @@ pub fn survey_text(alloc: Global, model: &ValidModel, findings: &Findings) -> Re
 
 /// Puts a word and a number.
 fn put_count(text: &mut Text, word: &[u8], count: u64) -> Result<(), NoMemory>
-    ensures { OnOk result (text.new ≡ text.old ++ counted word.now count) }
+    ensures { OnOk result (text.new ≡ text.old ++ counted_line word.now count) }
 {
     text.put(word)?;
     text.put_number(count)

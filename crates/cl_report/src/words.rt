@@ -1,45 +1,62 @@
 //! The words that the lines of several texts share: names of a model, kinds of lengths, and the jobs of a chain.
-ghost use Rattle.std.specs.Prelude.{◌≡◌, ◌<◌, ◌++◌, length, OnOk};
+ghost use Rattle.std.specs.Prelude.{◌≡◌, ◌<◌, ◌++◌, length, OnOk, OnErr};
 ghost use Rattle.cl_model.specs.ByNumber.{task_at, chain_at};
 ghost use Rattle.cl_model.specs.Groups.{groups_at};
-ghost use Rattle.cl_report.specs.Report.{kind_word, jobs_words};
+ghost use Rattle.cl_report.specs.Beginnings.{PutsPart};
+ghost use Rattle.cl_report.specs.Report.{kind_word, job_words, jobs_words};
 
 use cl_model::{LengthKind, Name, ValidModel};
 use cl_text::Text;
 use cl_time::NoMemory;
 
-/// Puts a name behind a text.
-///
-/// `NoMemory` comes where there is no memory for it; no clause says what the text then holds.
+/// Puts a name behind a text. `NoMemory` leaves the text as it was.
 pub fn put_name(text: &mut Text, name: &Name) -> Result<(), NoMemory>
-    ensures { OnOk result (text.new ≡ text.old ++ name.now) }
+    ensures ok { OnOk result (text.new ≡ text.old ++ name.now) }
+    ensures err { OnErr result (text.new ≡ text.old) }
 {
     text.put(name.as_slice())
 }
 
-/// Puts the name of a task behind a text.
-///
-/// `NoMemory` comes where there is no memory for it; no clause says what the text then holds.
+/// Puts the name of a task behind a text. `NoMemory` leaves the text as it was.
 pub fn put_task_name(text: &mut Text, model: &ValidModel, task: u32) -> Result<(), NoMemory>
     requires { task < length model.now.tasks }
-    ensures { OnOk result (text.new ≡ text.old ++ (task_at model.now task).name) }
+    ensures ok { OnOk result (text.new ≡ text.old ++ (task_at model.now task).name) }
+    ensures err { OnErr result (text.new ≡ text.old) }
 {
-    put_name(text, &model.plain().tasks.as_slice()[task as usize].name)
+    put_name(text, &model.task(task).name)
 }
 
-/// Puts the name of a chain behind a text.
-///
-/// `NoMemory` comes where there is no memory for it; no clause says what the text then holds.
+/// Puts the name of a chain behind a text. `NoMemory` leaves the text as it was.
 pub fn put_chain_name(text: &mut Text, model: &ValidModel, chain: u32) -> Result<(), NoMemory>
     requires { chain < length model.now.chains }
-    ensures { OnOk result (text.new ≡ text.old ++ (chain_at model.now chain).name) }
+    ensures ok { OnOk result (text.new ≡ text.old ++ (chain_at model.now chain).name) }
+    ensures err { OnErr result (text.new ≡ text.old) }
 {
-    put_name(text, &model.plain().chains.as_slice()[chain as usize].name)
+    put_name(text, &model.chain(chain).name)
 }
 
-/// Puts the jobs of a chain behind a text, one for each group.
-///
-/// `NoMemory` comes where there is no memory for them; no clause says what the text then holds, which may be some of them.
+/// Puts the job of a group of a chain behind a text. `NoMemory` leaves the text with a beginning of the words after it.
+fn put_job(
+    text: &mut Text,
+    model: &ValidModel,
+    chain: u32,
+    jobs: &[u64],
+    place: u32,
+) -> Result<(), NoMemory>
+    requires within { chain < length model.now.chains }
+    requires jobs { length jobs.now ≡ length (groups_at model.now chain) }
+    requires place { place < length (groups_at model.now chain) }
+    ensures ok { OnOk result (text.new ≡ text.old ++ job_words model.now chain jobs.now place) }
+    ensures err { OnErr result (PutsPart text.old text.new (job_words model.now chain jobs.now place)) }
+{
+    text.put(b" ")?;
+    put_task_name(text, model, model.group(chain, place).task)?;
+    text.put(b":")?;
+    text.put_number(jobs[place as usize])
+}
+
+/// Puts the jobs of a chain behind a text, one for each group. `NoMemory` leaves the text with a beginning of the words
+/// after it.
 pub fn put_jobs(
     text: &mut Text,
     model: &ValidModel,
@@ -48,13 +65,11 @@ pub fn put_jobs(
 ) -> Result<(), NoMemory>
     requires within { chain < length model.now.chains }
     requires jobs { length jobs.now ≡ length (groups_at model.now chain) }
-    ensures { OnOk result (text.new ≡ text.old ++ jobs_words model.now chain jobs.now) }
+    ensures ok { OnOk result (text.new ≡ text.old ++ jobs_words model.now chain jobs.now) }
+    ensures err { OnErr result (PutsPart text.old text.new (jobs_words model.now chain jobs.now)) }
 {
     for place in 0..model.group_count(chain) {
-        text.put(b" ")?;
-        put_task_name(text, model, model.group(chain, place).task)?;
-        text.put(b":")?;
-        text.put_number(jobs[place as usize])?;
+        put_job(text, model, chain, jobs, place)?;
     }
     Ok(())
 }

@@ -1,5 +1,5 @@
--- What the window of a settled task holds: what blocks the task, its greatest execution time, and the most that those above
--- it can take.
+-- What the window of a settled task holds: what blocks the task, its greatest execution time, and the most that those
+-- above it can take.
 use Rattle.std.proofs.Common.{ℕ, ◌+◌, ◌*◌, ◌≤◌, length, ap, arith}
 use Rattle.std.specs.Prelude.{sum_by, filter}
 use Rattle.std.proofs.lemmas.List.Sums.{sum_by-le-sum_by}
@@ -21,8 +21,8 @@ use Rattle.cl_resp.proofs.SettledTasks.{settled_window}
 abbrev pub most_taken : System → (width j : ℕ) → ℕ
 most_taken system width j = most_releases (timing_at system j).pattern width * greatest_execution (timing_at system j)
 
--- a window of the task: it lies within the deadline, and holds what blocks the task, its greatest time and what those above
--- can take
+-- a window of the task: it lies within the deadline, and holds what blocks the task, its greatest time and what those
+-- above can take
 pub record HoldsDemand (system : System) (i width : ℕ) : Type 0 where
   pub within : greatest_jitter (timing_at system i).pattern + width ≤ (timing_at system i).deadline
   pub enough : block_of system (timing_at system i) + greatest_execution (timing_at system i)

@@ -1,6 +1,6 @@
--- Held tasks that aren't above a task run only at the beginning of its busy window: each began its whole runnable before
--- the window did, since within it such a task isn't the highest pending one, and no runnable holds its core for longer than
--- what blocks the task.
+-- Held tasks that aren't above a task run only at the beginning of its busy window: each began its whole runnable
+-- before the window did, since within it such a task isn't the highest pending one, and no runnable holds its core for
+-- longer than what blocks the task.
 use Rattle.std.proofs.Common.{◌≡◌, ◌≢◌, ℕ, suc, ◌+◌, ◌<◌, ◌≤◌, ◌⊎◌, inl, inr, true, ◌-◌, length, sym, ◌∙◌, arith}
 use Rattle.std.specs.Prelude.{slice_index}
 use Rattle.std.proofs.lemmas.Bool.{cases_lt, cond-true, and_from, eq-eqb, le-leb}

@@ -1,5 +1,5 @@
--- What a core runs in a tick while a task waits: a task above it, or where none is pending and it is, the task itself; or
--- a held task that isn't above.
+-- What a core runs in a tick while a task waits: a task above it, or where none is pending and it is, the task itself;
+-- or a held task that isn't above.
 use Rattle.std.proofs.Common.{◌≡◌, ℕ, zero, suc, ◌+◌, ◌<◌, ◌≤◌, ◌⊎◌, inl, inr, Option, Some, None, Bool, true, length, refl, ap, ◌∙◌, arith}
 use Rattle.std.proofs.lemmas.Bool.{cases_lt, and_parts, and_from, eqb-true, eq-eqb, ltb-true, lt-ltb}
 use Rattle.cl_runs.specs.TaskTiming.{System, timing_at, IsSound}

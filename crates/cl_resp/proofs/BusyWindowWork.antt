@@ -42,10 +42,6 @@ before_cons : (job : Job) (jobs : List Job) (t : ℕ)
 unfolding released_before
 before_cons job jobs t = sum_by-cons (λ (j : Job). cond (nat_lt j.release t) (sum j.times) 0) job jobs
 
-releases_nil : (start width : ℕ) → releases_in [] start width ≡ 0
-unfolding releases_in
-releases_nil start width = refl
-
 releases_cons : (job : Job) (jobs : List Job) (start width : ℕ)
     → releases_in (job ∷ jobs) start width ≡ cond (nat_le start job.release && nat_lt job.release (start + width)) 1 0 + releases_in jobs start width
 unfolding releases_in

@@ -4,7 +4,7 @@ use Rattle.std.specs.Prelude.{fold, filter, All}
 use Rattle.std.proofs.lemmas.List.Elements.{All-head, All-tail, filter_more}
 use Rattle.std.proofs.lemmas.List.Folds.{fold-map}
 use Rattle.std.proofs.lemmas.List.Sums.{fold-append}
-use Rattle.cl_resp.specs.Question.{greatest_by}
+use Rattle.cl_model.specs.Holds.{greatest_by}
 
 module _ {X : Type 0} (f : X → ℕ) where
   -- from a number on

@@ -2,6 +2,7 @@ pub mod FirstFound
 pub mod StimulusKinds
 pub mod Windows
 pub mod SettledTasks
+pub mod LessAsked
 pub mod BusyWindowTotals
 pub mod BusyWindowStart
 pub mod BusyWindowWork

@@ -11,11 +11,11 @@ use Rattle.std.proofs.lemmas.Simd.{map-map}
 use Rattle.cl_model.specs.declared.limits.TheConstants.{MOST_TICKS, MOST_DISTANCES, MOST_TASKS_OF_CORE}
 use Rattle.cl_model.specs.declared.model.SystemModel.{SystemModel}
 use Rattle.cl_model.specs.declared.stimulus.StimulusKind.{StimulusKind}
-use Rattle.cl_model.specs.declared.task.RunnableDef.{RunnableDef}
 use Rattle.cl_model.specs.ByNumber as tasks
 use Rattle.cl_model.specs.ByNumber.{no_task, task_at, core_of, deadline_of, jitter_of, time_of, tasks_of_core}
 use Rattle.cl_model.specs.Timing.{least_distance, greatest_jitter}
 use Rattle.cl_model.specs.Validity.{IsValid}
+use Rattle.cl_model.specs.Holds.{greatest_by, runnable_hold, task_hold}
 use Rattle.cl_model.proofs.ValidTasks.{kind_in_range, early_enough, released_before, some_time, little_time, runnables_in_range}
 use Rattle.cl_model.proofs.CoreTasks.{below_known, few_tasks, few_distances}
 use Rattle.cl_runs.specs.TaskTiming.{TimeRange, Timing, timing_at}
@@ -24,7 +24,7 @@ use Rattle.cl_runs.proofs.ModelSystem.{timing_is}
 use Rattle.cl_stim.specs.AnyStimulus.{as_stimulus}
 use Rattle.cl_resp.specs.declared.question.Above.{Above}
 use Rattle.cl_resp.specs.declared.question.Question.{Question}
-use Rattle.cl_resp.specs.Question.{greatest_execution, is_above, may_block, greatest_by, hold_of, longest_hold, block_of, taken_by, question_of, IsAboveInRange, IsQuestionInRange}
+use Rattle.cl_resp.specs.Question.{greatest_execution, is_above, may_block, hold_of, longest_hold, block_of, taken_by, question_of, IsAboveInRange, IsQuestionInRange}
 use Rattle.cl_resp.proofs.StimulusKinds.{kind_of-as_stimulus, least_few}
 use Rattle.cl_resp.proofs.Filters.{by_number, maps_agree, filter-map, filter-both, fewer}
 use Rattle.cl_resp.proofs.Greatest.{greatest_within, greatest_agrees, greatest_mapped}
@@ -43,7 +43,7 @@ numbers_above model task = filter (is_higher model task) (tasks_of_core model (c
 
 -- how long a runnable of a task may hold its core, by number
 abbrev pub hold_at : SystemModel → (other : ℕ) → ℕ
-hold_at model other = greatest_by (λ (runnable : RunnableDef). hold_of (range_of runnable)) (task_at model other).runnables
+hold_at model other = task_hold (task_at model other)
 
 -- whether another task has no higher priority, by number
 abbrev pub is_no_higher : SystemModel → (task other : ℕ) → Bool
@@ -66,14 +66,14 @@ question_by_number model task = record {
 -- ---- the question by number is the question
 
 module _ (model : SystemModel) where
-  time_is : (i : ℕ) → greatest_execution (timing_of model (task_at model i)) ≡ time_of model i
+  pub time_is : (i : ℕ) → greatest_execution (timing_of model (task_at model i)) ≡ time_of model i
   unfolding greatest_execution
   time_is i = fold-map (λ (a : ℕ) (range : TimeRange). a + range.greatest) range_of 0 (task_at model i).runnables
 
-  taken_is : (i : ℕ) → taken_by (timing_of model (task_at model i)) ≡ above_at model i
+  pub taken_is : (i : ℕ) → taken_by (timing_of model (task_at model i)) ≡ above_at model i
   taken_is i = ap (λ time. record { stimulus = as_stimulus (tasks.stimulus_of model i); time = time }) (time_is i)
 
-  hold_is : (i : ℕ) → longest_hold (timing_of model (task_at model i)) ≡ hold_at model i
+  pub hold_is : (i : ℕ) → longest_hold (timing_of model (task_at model i)) ≡ hold_at model i
   unfolding longest_hold
   hold_is i = greatest_mapped hold_of range_of (task_at model i).runnables
 
@@ -130,6 +130,16 @@ module _ (model : SystemModel) where
 
 -- ---- the question is in range
 
+-- no runnable in range holds its core for longer than the greatest time
+part_few : (whole : Bool) (greatest : ℕ) → greatest ≤ MOST_TICKS → cond whole (greatest - 1) 0 ≤ MOST_TICKS
+part_few true greatest few = omega (arith, few)
+part_few false greatest few = omega arith
+
+pub hold_few : (model : SystemModel) → IsValid model → (j : ℕ) → j < length model.tasks → hold_at model j ≤ MOST_TICKS
+hold_few model valid j known = greatest_within runnable_hold (task_at model j).runnables MOST_TICKS
+    (λ p d lt. part_few (get_or (task_at model j).runnables p d).whole (get_or (task_at model j).runnables p d).greatest
+    (runnables_in_range model valid j known p d lt).greatest.1)
+
 module _ (model : SystemModel) (valid : IsValid model) (i : ℕ) (h : i < length model.tasks) where
   one_above : (j : ℕ) → j < length model.tasks → core_of model j ≡ core_of model i → (task_at model i).priority < (task_at model j).priority
       → IsAboveInRange (deadline_of model i) (above_at model j)
@@ -162,22 +172,12 @@ module _ (model : SystemModel) (valid : IsValid model) (i : ℕ) (h : i < length
       let less = fewer on_core (is_higher model i) all i 0 (omega (arith, h, length-range_with_len 0 (length model.tasks))) itself not_above in
       omega (arith, less, length-map (numbers_above model i) (above_at model), few_tasks model valid (core_of model i))
 
-  -- no runnable in range holds its core for longer than the greatest time
-  hold_few : (j : ℕ) → j < length model.tasks → hold_at model j ≤ MOST_TICKS
-  hold_few j known = greatest_within (λ (runnable : RunnableDef). hold_of (range_of runnable)) (task_at model j).runnables MOST_TICKS
-      (λ p d lt. part_few (get_or (task_at model j).runnables p d).whole (get_or (task_at model j).runnables p d).greatest
-      (runnables_in_range model valid j known p d lt).greatest.1)
-    where
-      part_few : (whole : Bool) (greatest : ℕ) → greatest ≤ MOST_TICKS → cond whole (greatest - 1) 0 ≤ MOST_TICKS
-      part_few true greatest few = omega (arith, few)
-      part_few false greatest few = omega arith
-
   block_few : longest_no_higher model i ≤ MOST_TICKS
   block_few =
       let on_core : ℕ → Bool = λ j. core_of model j == core_of model i in
       let all = range_with_len 0 (length model.tasks) in
       greatest_within (hold_at model) (filter (is_no_higher model i) (filter on_core all)) MOST_TICKS
-      (λ k d lt. hold_few _ (All-filter (is_no_higher model i) (λ j. j < length model.tasks) (filter on_core all)
+      (λ k d lt. hold_few model valid _ (All-filter (is_no_higher model i) (λ j. j < length model.tasks) (filter on_core all)
       (below_known model (length model.tasks) (core_of model i)) k d lt))
 
   pub question_in_range : IsQuestionInRange (question_by_number model i)

@@ -1,5 +1,5 @@
--- The window and the response of a settled task: the response is the jitter and the window, and lies between the greatest
--- execution time and the deadline.
+-- The window and the response of a settled task: the response is the jitter and the window, and lies between the
+-- greatest execution time and the deadline.
 use Rattle.std.proofs.Common.{◌≡◌, ℕ, ◌+◌, ◌<◌, ◌≤◌, Option, Some, None, List, [], ◌∷◌, length, ap, arith}
 use Rattle.std.specs.Prelude.{sum_by, All}
 use Rattle.std.specs.Option.{option_map}
@@ -12,11 +12,11 @@ use Rattle.cl_resp.specs.Question.{greatest_execution, question_of}
 use Rattle.cl_resp.specs.Response.{Response, demand, busy_window, IsWindow, IsSettled}
 use Rattle.cl_resp.proofs.Windows.{window_is_least}
 
--- the answer of a window
-abbrev answer_of : (jitter width : ℕ) → Response
+-- the answer of a window, and what an answer says of the window
+abbrev pub answer_of : (jitter width : ℕ) → Response
 answer_of jitter width = record { window = width; response = jitter + width }
 
-answer_parts : (jitter : ℕ) (answer : Response) (found : Option ℕ) → option_map (answer_of jitter) found ≡ Some answer
+pub answer_parts : (jitter : ℕ) (answer : Response) (found : Option ℕ) → option_map (answer_of jitter) found ≡ Some answer
     → (found ≡ Some answer.window) × (answer.response ≡ jitter + answer.window)
 answer_parts jitter answer None answered = cc
 answer_parts jitter answer (Some width) answered =

@@ -1,5 +1,5 @@
--- The window of a task: the least width that holds its own demand, which never falls as the width grows, and so the least
--- fixpoint of the demand.
+-- The window of a task: the least width that holds its own demand, which never falls as the width grows, and so the
+-- least fixpoint of the demand.
 use Rattle.std.proofs.Common.{◌≡◌, ℕ, ◌+◌, ◌-◌, ◌*◌, ◌<◌, ◌≤◌, ◌⊎◌, inl, inr, Bool, false, nat_le, Option, Some, None, List, get_or, refl, sym, ap, ◌∙◌, subst, arith}
 use Rattle.std.specs.List.{range_with_len}
 use Rattle.std.proofs.lemmas.Bool.{cases_lt, leb-true, leb-false, le-leb, true≢false}

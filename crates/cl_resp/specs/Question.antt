@@ -1,8 +1,9 @@
 -- The question of a task: what its response depends on.
 -- Source: Audsley et al. 1993, with release jitter, and with blocking by non-preemptive regions.
-use Rattle.std.specs.Prelude.{ℕ, ◌<◌, ◌≤◌, ◌*◌, ◌+◌, ◌-◌, Bool, ◌==◌, ◌&&◌, cond, nat_le, nat_lt, max, List, fold, map, filter, length, sum_by, All}
+use Rattle.std.specs.Prelude.{ℕ, ◌<◌, ◌≤◌, ◌*◌, ◌+◌, ◌-◌, Bool, ◌==◌, ◌&&◌, cond, nat_le, nat_lt, map, filter, length, sum_by, All}
 use Rattle.cl_model.specs.declared.limits.TheConstants.{MOST_TICKS, MOST_RUNNABLES, MOST_DISTANCES, MOST_TASKS_OF_CORE}
 use Rattle.cl_model.specs.Timing.{least_distance, greatest_jitter}
+use Rattle.cl_model.specs.Holds.{greatest_by}
 use Rattle.cl_runs.specs.TaskTiming.{TimeRange, Timing, System}
 use Rattle.cl_stim.specs.AnyStimulus.{kind_of, as_stimulus}
 use Rattle.cl_resp.specs.declared.question.Above.{Above}
@@ -16,13 +17,10 @@ greatest_execution task = sum_by (λ (range : TimeRange). range.greatest) task.r
 abbrev pub is_above : Timing → (other : Timing) → Bool
 is_above task other = (other.core == task.core) && nat_lt task.priority other.priority
 
--- whether the other task may hold the core of the task while that waits: it is the task itself, or one of lower priority
+-- whether the other task may hold the core of the task while that waits: it is the task itself, or one of lower
+-- priority
 abbrev pub may_block : Timing → (other : Timing) → Bool
 may_block task other = (other.core == task.core) && nat_le other.priority task.priority
-
--- the greatest of a list by a number of each, 0 where there is none
-abbrev pub greatest_by : {X : Type 0} → (X → ℕ) → List X → ℕ
-greatest_by number xs = fold (λ greatest x. max greatest (number x)) 0 xs
 
 -- how long a runnable that has begun may hold its core: its greatest time without its first tick, where it is whole
 abbrev pub hold_of : TimeRange → ℕ
@@ -40,8 +38,8 @@ block_of system task = greatest_by longest_hold (filter (may_block task) system.
 abbrev pub taken_by : Timing → Above
 taken_by other = record { stimulus = as_stimulus other.pattern; time = greatest_execution other }
 
--- the question of a task: whole runnables of its core block it, but for those of higher priority, and above it stand the
--- tasks of higher priority on its core, in file order
+-- the question of a task: whole runnables of its core block it, but for those of higher priority, and above it stand
+-- the tasks of higher priority on its core, in file order
 unfoldable pub question_of : System → Timing → Question
 question_of system task = record {
   time = greatest_execution task;

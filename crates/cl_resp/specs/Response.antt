@@ -48,6 +48,22 @@ pub record IsLeastFixpoint (question : Question) (width : ℕ) : Type 0 where
   pub fixpoint : demand question width ≡ width
   pub least : (other : ℕ) → 1 ≤ other → demand question other ≡ other → width ≤ other
 
--- there is no fixpoint within the deadline: no width from 1 tick up to the deadline without the jitter is its own demand
+-- there is no fixpoint within the deadline: no width from 1 tick up to the deadline without the jitter is its own
+-- demand
 abbrev pub HasNoFixpoint : Question → Type 0
 HasNoFixpoint question = (width : ℕ) → 1 ≤ width → width ≤ question.deadline - question.jitter → demand question width ≢ width
+
+-- ---- a question that asks no more
+
+-- a question asks no more than another: its task has as long, and no window of a tick or more holds a greater demand
+pub record AsksNoMore (question other : Question) : Type 0 where
+  pub deadline : question.deadline ≡ other.deadline
+  pub jitter : question.jitter ≡ other.jitter
+  pub needs : (width : ℕ) → 1 ≤ width → demand question width ≤ demand other width
+
+-- a question has a response, and one that is no later than this
+pub record IsAnsweredBy (question : Question) (latest : Response) : Type 0 where
+  pub answer : Response
+  pub answered : response_to question ≡ Some answer
+  pub no_wider : answer.window ≤ latest.window
+  pub no_later : answer.response ≤ latest.response

@@ -8,9 +8,9 @@ use Rattle.cl_run_data.specs.Inner.StretchPlaces.{end_from}
 use Rattle.cl_run_data.proofs.StretchFacts.{head_of, tail_of, length-entries, entry_in}
 
 -- the stretches end no earlier than they begin
-end_after : (ss : List Stretch) (from : ℕ) → AreLongest from ss → from ≤ end_from from ss
-end_after [] from longest = omega arith
-end_after (s ∷ ss) from longest = omega (arith, head_of from s ss longest, end_after ss s.end (tail_of from s ss longest))
+pub end_least : (ss : List Stretch) (from : ℕ) → AreLongest from ss → from ≤ end_from from ss
+end_least [] from longest = omega arith
+end_least (s ∷ ss) from longest = omega (arith, head_of from s ss longest, end_least ss s.end (tail_of from s ss longest))
 
 module _ (from : ℕ) (s r : Stretch) (ss rs : List Stretch) (longest : AreLongest from (s ∷ ss)) (other : AreLongest from (r ∷ rs))
     (same : entries_from from (s ∷ ss) ≡ entries_from from (r ∷ rs)) where
@@ -29,7 +29,7 @@ not_earlier from s r [] rs longest other same earlier = omega (
   ap length same,
   length-entries (s ∷ []) from longest,
   length-entries (r ∷ rs) from other,
-  end_after rs r.end (tail_of from r rs other),
+  end_least rs r.end (tail_of from r rs other),
 )
 not_earlier from s r (next ∷ ss) rs longest other same earlier =
     let here : get_or (entries_from from (s ∷ next ∷ ss)) (s.end - from) None ≡ next.who
@@ -53,14 +53,14 @@ one_list [] (r ∷ rs) from longest other same = absurd (omega (
   ap length same,
   length-entries (r ∷ rs) from other,
   head_of from r rs other,
-  end_after rs r.end (tail_of from r rs other),
+  end_least rs r.end (tail_of from r rs other),
 ))
 one_list (s ∷ ss) [] from longest other same = absurd (omega (
   arith,
   ap length same,
   length-entries (s ∷ ss) from longest,
   head_of from s ss longest,
-  end_after ss s.end (tail_of from s ss longest),
+  end_least ss s.end (tail_of from s ss longest),
 ))
 one_list (s ∷ ss) (r ∷ rs) from longest other same =
     cons_list s r ss rs first (one_list ss rs s.end (tail_of from s ss longest) rest_longest rest)

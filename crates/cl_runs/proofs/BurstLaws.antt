@@ -1,7 +1,7 @@
 -- What the jobs of bursts look like: job q * count + r arrives r distances after the first of burst q.
-use Rattle.std.proofs.Common.{◌≡◌, ℕ, suc, ◌+◌, ◌-◌, ◌*◌, ◌/◌, ◌%◌, ◌<◌, ◌≤◌, inl, inr, nat_lt, List, length, sym, ap, ◌∙◌, subst, arith}
-use Rattle.std.proofs.lemmas.Bool.{cases_lt, cond_both, ltb-true, ltb-false}
-use Rattle.std.proofs.lemmas.Nat.{div-mul-add, mod-mul-add, div-add-mod'}
+use Rattle.std.proofs.Common.{◌≡◌, ℕ, suc, ◌+◌, ◌*◌, ◌/◌, ◌%◌, ◌<◌, ◌≤◌, inl, inr, List, length, sym, ap, subst, arith}
+use Rattle.std.proofs.lemmas.Bool.{cases_lt}
+use Rattle.std.proofs.lemmas.Nat.{div-add-mod'}
 use Rattle.cl_model.specs.declared.stimulus.StimulusKind.{StimulusKind}
 use Rattle.cl_model.specs.declared.stimulus.StimulusKind.TheVariants.{Burst}
 use Rattle.cl_runs.specs.declared.job.Job.{Job}
@@ -9,25 +9,22 @@ use Rattle.cl_runs.specs.Pattern.{IsPattern, burst_gap}
 use Rattle.cl_runs.specs.Arrivals.{IsArrival, FollowPattern}
 use Rattle.cl_runs.specs.Table.{job_at}
 use Rattle.cl_runs.specs.ArrivalsByKind.{FollowsBursts}
-use Rattle.cl_runs.proofs.PatternFacts.{burst_fits}
 use Rattle.cl_runs.proofs.ArrivalFacts.{arrivals_rise}
+use Rattle.cl_runs.proofs.BurstPlaces.{place_in, position_of, position_place, position_gap}
 use Rattle.cl_runs.proofs.ExactArrivals.{moved, job_moved, exact_each, exact_end, exact_back}
 
 module _ (ticks period offset count distance : ℕ) (well : IsPattern (Burst period offset count distance)) where
   abbrev pattern : StimulusKind
   pattern = Burst period offset count distance
 
-  -- where job r of burst q arrives, and where the job of a number does
   abbrev place : (q r : ℕ) → ℕ
-  place q r = offset + q * period + r * distance
+  place = place_in period offset distance
 
   abbrev position : ℕ → ℕ
-  position k = place (k / count) (k % count)
+  position = position_of period offset count distance
 
   position_is : (k q r : ℕ) → k ≡ q * count + r → r < count → position k ≡ place q r
-  position_is k q r is within = ap position is
-      ∙ ap (λ n. place n ((q * count + r) % count)) (div-mul-add q count r within)
-      ∙ ap (λ n. place q n) (mod-mul-add q count r within)
+  position_is = position_place period offset count distance
 
   burst_and_rest : (k : ℕ) → k / count * count + k % count ≡ k
   burst_and_rest k = div-add-mod' k count
@@ -35,25 +32,8 @@ module _ (ticks period offset count distance : ℕ) (well : IsPattern (Burst per
   rest_within : (k : ℕ) → k % count < count
   rest_within k = omega (arith, well.0)
 
-  next_within : (q r k : ℕ) → q * count + r ≡ k → suc r < count → place q r + distance ≡ position (suc k)
-  next_within q r k is within = omega (arith, position_is (suc k) q (suc r) (omega (arith, is)) within)
-
-  next_burst : (q r k : ℕ) → q * count + r ≡ k → suc r ≡ count → place q r + (period - (count - 1) * distance) ≡ position (suc k)
-  next_burst q r k is last =
-      let whole : suc q * count ≡ q * count + count = omega arith in
-      let rest : count - 1 ≡ r = omega arith in
-      omega (
-        arith,
-        position_is (suc k) (suc q) 0 (omega (arith, is, whole, last)) (omega (arith, well.0)),
-        ap (λ n. n * distance) rest,
-        burst_fits period count distance well.0 well.2,
-      )
-
-  -- each job arrives a gap after the one before it
   moves : (k : ℕ) → position k + burst_gap period count distance k ≡ position (suc k)
-  moves k = cond_both (nat_lt (suc (k % count)) count) distance (period - (count - 1) * distance) (λ gap. position k + gap ≡ position (suc k))
-      (λ within. next_within (k / count) (k % count) k (burst_and_rest k) (ltb-true _ _ within))
-      (λ last. next_burst (k / count) (k % count) k (burst_and_rest k) (omega (arith, rest_within k, ltb-false _ _ last)))
+  moves = position_gap period offset count distance well
 
   begins : offset ≡ position 0
   begins = omega (arith, position_is 0 0 0 (omega arith) well.0)

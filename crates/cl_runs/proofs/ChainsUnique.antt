@@ -7,7 +7,7 @@ use Rattle.cl_model.specs.Groups.{group_at}
 use Rattle.cl_runs.specs.Chains.{Moments, IsEarliestReader, IsLatestWriter, JobChain, first_group, last_group, first_job, last_job, IsForwardChain, AreBackwardLinks, IsAgeChain, IsReducedChain}
 use Rattle.cl_runs.specs.MomentOrder.{AreUnique}
 
-chain_same : (one other : JobChain) → one.from ≡ other.from → one.to ≡ other.to → one.jobs ≡ other.jobs → one ≡ other
+pub chain_same : (one other : JobChain) → one.from ≡ other.from → one.to ≡ other.to → one.jobs ≡ other.jobs → one ≡ other
 chain_same one other from to jobs = λ i. record { from = from i; to = to i; jobs = jobs i }
 
 module _ (moments : Moments) (groups : List Group) (unique : AreUnique moments groups) where

@@ -1,5 +1,5 @@
--- Held tasks in a legal run: at most one of a core, which runs, and ran before. So a whole runnable isn't interrupted, and
--- what starts is the highest pending task.
+-- Held tasks in a legal run: at most one of a core, which runs, and ran before. So a whole runnable isn't interrupted,
+-- and what starts is the highest pending task.
 use Rattle.std.proofs.Common.{◌≡◌, ℕ, zero, suc, ◌+◌, ◌-◌, ◌<◌, ◌≤◌, true, inl, inr, Option, Some, None, length, refl, sym, ap, ◌∙◌, arith}
 use Rattle.std.specs.Prelude.{slice_index}
 use Rattle.cl_runs.specs.TaskTiming.{System, timing_at, range_at, IsSound}
@@ -16,7 +16,7 @@ use Rattle.cl_runs.proofs.LegalFacts.{place_of_task, core_ticks, job_places, tim
 
 module _ (system : System) (sound : IsSound system) (run : Run) (legal : IsLegal system run) where
   -- a task that doesn't run in a tick was held before it, if it is held after it
-  held_before : (i t : ℕ) → i < length system.tasks → t < run.table.ticks → (entry_at run (timing_at system i).core t ≡ Some i → ⊥)
+  pub held_before : (i t : ℕ) → i < length system.tasks → t < run.table.ticks → (entry_at run (timing_at system i).core t ≡ Some i → ⊥)
       → IsHeldAt system run i (suc t) → IsHeldAt system run i t
   held_before i t is h rests held =
       let moved = held_moved (timing_at system i) (jobs_of run i) (jobs_of run i) _ _ refl

@@ -23,6 +23,7 @@ pub mod Extension
 pub mod Agreement
 pub mod ChainsKept
 pub mod Continuing
+pub mod ChainParts
 pub mod ChainsUnique
 pub mod ChainsOrdered
 pub mod GroupPlaces
@@ -31,5 +32,6 @@ pub mod ChainsOfRuns
 pub mod MeasuredOnce
 pub mod ExactArrivals
 pub mod PatternLaws
+pub mod BurstPlaces
 pub mod BurstLaws
 pub mod ModelSystem

@@ -11,7 +11,7 @@ use Rattle.cl_runs.proofs.ChainsUnique.{forward_once, age_once, reduced_once}
 
 module _ (IsChain : JobChain → Type 0) (job_of : JobChain → ℕ)
     (once : (one other : JobChain) → IsChain one → IsChain other → job_of one ≡ job_of other → one ≡ other) where
-  longest_once : (a b : Option JobChain) → IsMeasuredBy IsChain job_of a → IsMeasuredBy IsChain job_of b → a ≡ b
+  pub longest_once : (a b : Option JobChain) → IsMeasuredBy IsChain job_of a → IsMeasuredBy IsChain job_of b → a ≡ b
   longest_once None None one other = refl
   longest_once None (Some chain) one other = absurd (one chain other.is_chain)
   longest_once (Some chain) None one other = absurd (other chain one.is_chain)

@@ -60,6 +60,14 @@ module _ (model : SystemModel) where
   unfolding system_of
   cores_are = refl
 
+-- a task has the range of each of its runnables
+module _ (model : SystemModel) (i : ℕ) (h : i < length model.tasks) where
+  pub ranges_are : (timing_at (system_of model) i).ranges ≡ map range_of (task_at model i).runnables
+  ranges_are = ap (λ (t : Timing). t.ranges) (timing_is model i h)
+
+  pub range_count_is : length (timing_at (system_of model) i).ranges ≡ length (task_at model i).runnables
+  range_count_is = ap length ranges_are ∙ length-map (task_at model i).runnables range_of
+
 module _ (model : SystemModel) (valid : IsValid model) where
   distinct : (i j : ℕ) → i < length model.tasks → j < length model.tasks
       → (timing_at (system_of model) i).core ≡ (timing_at (system_of model) j).core

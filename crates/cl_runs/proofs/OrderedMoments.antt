@@ -1,5 +1,5 @@
--- The moments of a legal run are in order, and so are the ideal moments. Over moments in order the earliest reader rises with
--- the writing job, and the latest writer with the reading one.
+-- The moments of a legal run are in order, and so are the ideal moments. Over moments in order the earliest reader
+-- rises with the writing job, and the latest writer with the reading one.
 use Rattle.std.proofs.Common.{◌≡◌, ℕ, suc, ◌*◌, ◌<◌, ◌≤◌, inl, inr, List, length, sym, ◌∙◌, subst, arith}
 use Rattle.std.proofs.lemmas.Bool.{cases_lt}
 use Rattle.std.proofs.Math.Nat.{mul-le-mul_right}

@@ -1,4 +1,5 @@
--- What follows of a well-formed pattern: its gaps rise, are in order, and lie within the least and the greatest distance.
+-- What follows of a well-formed pattern: its gaps rise, are in order, and lie within the least and the greatest
+-- distance.
 use Rattle.std.proofs.Common.{◌≡◌, ℕ, suc, ◌+◌, ◌-◌, ◌*◌, ◌%◌, ◌≤◌, nat_lt, ap, arith}
 use Rattle.std.proofs.lemmas.Bool.{cond_both}
 use Rattle.cl_model.specs.declared.stimulus.StimulusKind.{StimulusKind}

@@ -1,4 +1,4 @@
--- Which lists of jobs arrive and are released as a pattern says. Execution times play no part. Source: this project's profile.
+-- Which lists of jobs arrive and are released as a pattern says. Execution times play no part.
 use Rattle.std.specs.Prelude.{ℕ, suc, ◌+◌, ◌<◌, ◌≤◌, List, [], ◌∷◌}
 use Rattle.cl_model.specs.declared.stimulus.StimulusKind.{StimulusKind}
 use Rattle.cl_model.specs.Timing.{greatest_jitter}

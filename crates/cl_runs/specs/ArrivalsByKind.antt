@@ -20,8 +20,8 @@ pub record FollowsGaps (ticks least greatest : ℕ) (jobs : List Job) : Type 0 w
   pub none : length jobs ≡ 0 → ticks ≤ greatest - 1
   pub end : (k : ℕ) → suc k ≡ length jobs → ticks ≤ (job_at jobs k).arrival + greatest
 
--- bursts: job `q * count + r` with `r < count` arrives at `offset + q * period + r * distance` and is released there, and
--- the arrival after the last one isn't below `ticks`
+-- bursts: job `q * count + r` with `r < count` arrives at `offset + q * period + r * distance` and is released there,
+-- and the arrival after the last one isn't below `ticks`
 pub record FollowsBursts (ticks period offset count distance : ℕ) (jobs : List Job) : Type 0 where
   pub each : (q r : ℕ) → r < count → q * count + r < length jobs
       → IsArrival (Burst period offset count distance) ticks (offset + q * period + r * distance) (offset + q * period + r * distance)

@@ -1,4 +1,4 @@
--- Job chains over any read and write moments of groups. Source: this project's profile.
+-- Job chains over any read and write moments of groups.
 use Rattle.std.specs.Prelude.{◌≡◌, ℕ, suc, ◌+◌, ◌-◌, ◌<◌, ◌≤◌, List, length, slice_index}
 use Rattle.cl_model.specs.declared.group.Group.{Group}
 use Rattle.cl_model.specs.Groups.{group_at}
@@ -66,7 +66,8 @@ pub record IsForwardChain (moments : Moments) (groups : List Group) (chain : Job
   pub from : moments.reads (first_group groups) (first_job chain - 1) chain.from
   pub to : moments.writes (last_group groups) (last_job chain) chain.to
 
--- each job before the last is the latest writer for the one after it, and the last one and the job after it have written
+-- each job before the last is the latest writer for the one after it, and the last one and the job after it have
+-- written
 pub record AreBackwardLinks (moments : Moments) (groups : List Group) (jobs : List ℕ) : Type 0 where
   pub some_group : 0 < length groups
   pub one_a_group : length jobs ≡ length groups

@@ -1,4 +1,4 @@
--- The measured chains of a run: the longest of each kind, and how many there are. Source: this project's profile.
+-- The measured chains of a run: the longest of each kind, and how many there are.
 use Rattle.std.specs.Prelude.{◌≡◌, ◌≢◌, ℕ, Option, Some, None, ◌<◌, ◌≤◌, List, length, slice_index_or, Contains, All}
 use Rattle.cl_model.specs.declared.group.Group.{Group}
 use Rattle.cl_runs.specs.Chains.{Moments, JobChain, chain_length, first_job, last_job, IsForwardChain, IsAgeChain, IsReducedChain}

@@ -37,7 +37,7 @@ IsEntryOf system core None = Unit {0}
 IsEntryOf system core (Some task) = (task < length system.tasks) × ((timing_at system task).core ≡ core)
 
 -- a run in form for a system: one list of jobs per task, one time per runnable in each job, one list of entries per
--- core with one entry per tick, and each entry a task of that core or idle. Source: this project's profile
+-- core with one entry per tick, and each entry a task of that core or idle.
 pub record IsInForm (system : System) (run : Run) : Type 0 where
   pub tasks : length run.table.jobs ≡ length system.tasks
   pub times : (task job : ℕ) → task < length system.tasks → job < length (jobs_of run task)

@@ -27,7 +27,7 @@ abbrev pub HasTimes : Timing → Job → Type 0
 HasTimes task job = AllZip LiesIn task.ranges job.times
 
 -- the jobs of a task are exactly those of one way to follow its arrival pattern for `ticks` ticks, each with its
--- execution times. Source: this project's profile
+-- execution times.
 pub record AreLawfulJobs (task : Timing) (ticks : ℕ) (jobs : List Job) : Type 0 where
   pub arrivals : FollowPattern task.pattern ticks jobs
   pub times : All (HasTimes task) jobs

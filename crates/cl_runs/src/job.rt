@@ -19,3 +19,16 @@ pub struct JobTable {
     /// For each task, in file order, its jobs in the order of their arrivals.
     pub jobs: List<List<Job>>,
 }
+
+impl JobTable {
+    ghost use Rattle.std.specs.Prelude.{◌≡◌, ◌<◌, length};
+    ghost use Rattle.cl_runs.specs.Table.{table_jobs};
+
+    /// The jobs of a task.
+    pub fn jobs_of(&self, task: u32) -> &[Job]
+        requires { task < length self.now.jobs }
+        ensures { result.now ≡ table_jobs self.now task }
+    {
+        self.jobs.as_slice()[task as usize].as_slice()
+    }
+}

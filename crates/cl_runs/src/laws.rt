@@ -6,6 +6,7 @@ pub mod held;
 pub mod jobs;
 pub mod moments;
 pub mod order;
+pub mod parts;
 pub mod patterns;
 pub mod progress;
 pub mod soundness;

@@ -10,7 +10,8 @@ use Rattle.cl_sched.specs.declared.progress.Progress.{Progress}
 use Rattle.cl_sched.specs.declared.core_progress.CoreProgress.{CoreProgress}
 use Rattle.cl_sched.specs.declared.core_progress.Next.{Next}
 use Rattle.cl_sched.specs.Progress.{IsAtRunnable, HasComeTo}
-use Rattle.cl_sched.specs.CoreProgress.{ticks_of, progress_at, IsOfCore, IsListed, AreOfCore, Holds, IsBestOf, IsChoice, IsReached, IsNext, HasExecuted}
+use Rattle.cl_sched.specs.CoreProgress.{ticks_of, progress_at, IsOfCore, IsListed, AreOfCore, Holds, IsBestOf, IsChoice, IsReached, IsNext}
+use Rattle.cl_sched.specs.Inner.Executing.{HasExecuted}
 use Rattle.cl_sched.proofs.Standing.{some_job_released, some_job_holds}
 use Rattle.cl_sched.proofs.Steady.{own_ticks, others_ticks, idle_ticks}
 

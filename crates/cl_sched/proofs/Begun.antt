@@ -12,7 +12,8 @@ use Rattle.cl_runs.specs.Table.{table_jobs}
 use Rattle.cl_runs.proofs.ModelSystem.{timing_is, count_is}
 use Rattle.cl_sched.specs.declared.progress.Progress.{Progress}
 use Rattle.cl_sched.specs.Progress.{HasComeTo, IsHolding}
-use Rattle.cl_sched.specs.CoreProgress.{progress_at, IsOfCore, IsListed, AreOfCore, IsHeldAt, IsUnbegun}
+use Rattle.cl_sched.specs.CoreProgress.{progress_at, IsOfCore, IsListed, AreOfCore, IsHeldIndex}
+use Rattle.cl_sched.specs.Inner.Executing.{IsUnbegun}
 use Rattle.cl_sched.proofs.CoreLists.{passing, passing_there, passing_fine, passing_rise}
 
 module _ (model : SystemModel) (table : JobTable) (core : ℕ) (tasks : List Progress) (numbers : List ℕ) (are : numbers ≡ tasks_of_core model core)
@@ -89,7 +90,7 @@ nothing_holds task jobs progress (inl at) holding = omega (arith, at.reached, ho
 nothing_holds task jobs progress (inr past) holding = omega (arith, past.past, holding.in_table)
 
 pub none_held_yet : (system : System) (table : JobTable) (core : ℕ) (tasks : List Progress) → AreOfCore system table core [] tasks
-    → IsHeldAt system table tasks None
+    → IsHeldIndex system table tasks None
 none_held_yet system table core tasks of = record {
   within = λ index some. cc;
   holds = λ index some. cc;

@@ -9,7 +9,8 @@ use Rattle.cl_runs.specs.Table.{table_jobs}
 use Rattle.cl_sched.specs.declared.progress.Progress.{Progress}
 use Rattle.cl_sched.specs.declared.core_progress.CoreProgress.{CoreProgress}
 use Rattle.cl_sched.specs.Progress.{IsAtRunnable, HasComeTo}
-use Rattle.cl_sched.specs.CoreProgress.{no_progress, progress_at, Holds, HasExecuted}
+use Rattle.cl_sched.specs.CoreProgress.{no_progress, progress_at, Holds}
+use Rattle.cl_sched.specs.Inner.Executing.{HasExecuted}
 
 -- the progress at an index, read with any default
 pub progress_read : (tasks : List Progress) (index : ℕ) (task : Progress) → index < length tasks → task ≡ get_or tasks index task

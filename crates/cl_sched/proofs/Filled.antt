@@ -8,8 +8,8 @@ use Rattle.cl_runs.specs.declared.job.JobTable.{JobTable}
 use Rattle.cl_runs.specs.Run.{Run, core_entries}
 use Rattle.cl_runs.specs.Legal.{IsScheduled}
 use Rattle.cl_sched.specs.declared.core_progress.CoreProgress.{CoreProgress}
-use Rattle.cl_sched.specs.CoreProgress.{ticks_of, IsReached}
-use Rattle.cl_sched.specs.Filling.{AreScheduled, IsFilled, HasFilled}
+use Rattle.cl_sched.specs.CoreProgress.{ticks_of, IsScheduledUntil, IsReached}
+use Rattle.cl_sched.specs.Inner.Filling.{AreScheduled, IsFilled, HasFilled}
 
 module _ (system : System) (table : JobTable) (core : ℕ) (entries : List (Option ℕ)) (n : ℕ) (who : Option ℕ) where
   abbrev longer : List (Option ℕ)
@@ -26,18 +26,19 @@ module _ (system : System) (table : JobTable) (core : ℕ) (entries : List (Opti
       ∙ get_or-replicate n (tick - length entries) who None (omega (arith, after, before))
 
   -- further entries that are scheduled
-  pub scheduled_longer : AreScheduled system table core entries
-      → ((tick : ℕ) → length entries ≤ tick → tick < length entries + n
-      → IsScheduled system table (ticks_of (entries ++ replicate (tick - length entries) who)) tick core who)
+  pub scheduled_longer : AreScheduled system table core entries → IsScheduledUntil system table core entries (length entries + n) who
       → AreScheduled system table core longer
   scheduled_longer so_far further tick h = elim (cases_lt tick (length entries)) [
     | inl old ↦ subst (λ e. IsScheduled system table (ticks_of (take tick longer)) tick core e) (sym (get_or_append_left entries (replicate n who) None tick old))
         (subst (λ (l : List (Option ℕ)). IsScheduled system table (ticks_of l) tick core (get_or entries tick None))
         (sym (take-append-le tick entries (replicate n who) (omega (arith, old)))) (so_far tick old))
     | inr new ↦
+        let k = tick - length entries in
+        let is : length entries + k ≡ tick = omega (arith, new) in
         let before : tick < length entries + n = omega (arith, h, length-append entries (replicate n who), length-replicate n who) in
         subst (λ e. IsScheduled system table (ticks_of (take tick longer)) tick core e) (sym (further_entry tick new before))
-        (subst (λ (l : List (Option ℕ)). IsScheduled system table (ticks_of l) tick core who) (sym (first_entries tick new before)) (further tick new before))
+        (subst (λ (l : List (Option ℕ)). IsScheduled system table (ticks_of l) tick core who) (sym (first_entries tick new before))
+        (subst (λ t. IsScheduled system table (ticks_of (entries ++ replicate k who)) t core who) is (further k (omega (arith, is, before)))))
   ]
 
 -- ---- a core of a run, filled up to where it is reached
@@ -66,9 +67,7 @@ module _ (system : System) (core : ℕ) (start run : Run) (reached : CoreProgres
   -- filled further
   pub filled_further : (n until : ℕ) (who : Option ℕ) (new : Run) (moved : CoreProgress)
       → new ≡ record run { entries = set run.entries core (core_entries run core ++ replicate n who) }
-      → until ≡ reached.tick + n
-      → ((tick : ℕ) → reached.tick ≤ tick → tick < until
-      → IsScheduled system run.table (ticks_of (core_entries run core ++ replicate (tick - reached.tick) who)) tick core who)
+      → until ≡ reached.tick + n → IsScheduledUntil system run.table core (core_entries run core) until who
       → IsReached system run.table core (core_entries run core ++ replicate n who) moved
       → IsFilledTo system core start new moved
   filled_further n until who new moved is end scheduled at =
@@ -80,8 +79,7 @@ module _ (system : System) (core : ℕ) (start run : Run) (reached : CoreProgres
       = ap (λ (r : Run). core_entries r core) is ∙ get_or-set_same run.entries core (entries ++ replicate n who) [] place in
       let further : AreScheduled system run.table core (entries ++ replicate n who)
       = scheduled_longer system run.table core entries n who filled.scheduled
-      (λ t after before. subst (λ m. IsScheduled system run.table (ticks_of (entries ++ replicate (t - m) who)) t core who) tick
-      (scheduled t (omega (arith, tick, after)) (omega (arith, tick, before, end)))) in
+      (λ k before. scheduled k (omega (arith, tick, before, end))) in
       record {
         is_core = filled.is_core;
         table = table_is ∙ filled.table;

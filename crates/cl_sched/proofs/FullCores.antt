@@ -9,7 +9,7 @@ use Rattle.cl_runs.proofs.Filling.{legal_from}
 use Rattle.cl_runs.proofs.HeldTasks.{held_moved}
 use Rattle.cl_runs.proofs.Scheduling.{AreAlike, scheduled_alike}
 use Rattle.cl_sched.specs.CoreProgress.{ticks_of}
-use Rattle.cl_sched.specs.Filling.{IsFilled}
+use Rattle.cl_sched.specs.Inner.Filling.{IsFilled}
 
 module _ (system : System) (run : Run) where
   own_ticks : (core tick i : ℕ) → (timing_at system i).core ≡ core → ticks_of (take tick (core_entries run core)) i ≡ executed system run i tick

@@ -6,7 +6,7 @@ use Rattle.cl_runs.specs.declared.job.JobTable.{JobTable}
 use Rattle.cl_runs.specs.Table.{no_job, job_at, table_jobs, HasTimes, IsLawful}
 use Rattle.cl_runs.proofs.ArrivalFacts as facts
 use Rattle.cl_runs.proofs.LawfulJobs.{times_length, times_positive}
-use Rattle.cl_sched.specs.Progress.{TakeTime}
+use Rattle.cl_sched.specs.Inner.TakingTime.{TakeTime}
 
 module _ (system : System) (sound : IsSound system) (table : JobTable) (lawful : IsLawful system table) (i : ℕ) (is : i < length system.tasks) where
   times : (k : ℕ) → k < length (table_jobs table i) → HasTimes (timing_at system i) (job_at (table_jobs table i) k)

@@ -13,7 +13,8 @@ use Rattle.cl_runs.specs.Held.{IsHeldIn, IsHeld}
 use Rattle.cl_runs.specs.Legal.{released}
 use Rattle.cl_runs.proofs.Work.{total_time, work_rises, places_rise, through_place, through_job, before_job, before_past, released_total, released_first, released_before}
 use Rattle.cl_sched.specs.declared.progress.Progress.{Progress}
-use Rattle.cl_sched.specs.Progress.{TakeTime, IsAtRunnable, IsPastJobs, HasComeTo, IsHolding}
+use Rattle.cl_sched.specs.Progress.{IsAtRunnable, IsPastJobs, HasComeTo, IsHolding}
+use Rattle.cl_sched.specs.Inner.TakingTime.{TakeTime}
 
 -- ---- the work before a job
 

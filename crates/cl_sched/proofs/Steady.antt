@@ -200,9 +200,15 @@ module _ (system : System) (sound : IsSound system) (table : JobTable) (lawful :
 
   -- ---- in each case
 
-  module _ (next : Next) (is_next : IsNext reached next) (t : ℕ) (first : reached.tick ≤ t) (before : t < next.until) where
+  module _ (next : Next) (is_next : IsNext reached next) (n : ℕ) (before : length entries + n < next.until) where
+    abbrev t : ℕ
+    t = length entries + n
+
+    first : reached.tick ≤ t
+    first = omega (arith, at.tick)
+
     abbrev further : List (Option ℕ)
-    further = entries ++ replicate (t - reached.tick) next.who
+    further = entries ++ replicate n next.who
 
     fits_below : reached.tick < 2 ^ 64 - 1
     fits_below = omega (arith, is_next.some, is_next.fits)
@@ -212,32 +218,32 @@ module _ (system : System) (sound : IsSound system) (table : JobTable) (lawful :
         → IsScheduled system table (ticks_of further) t core (option_map task chosen)
     chosen_scheduled (Some index) None is_held is_chosen choice = cc
     chosen_scheduled None None is_held is_chosen choice = idle_scheduled (ticks_of further)
-        (λ i. ap (λ who. ticks_of (entries ++ replicate (t - reached.tick) who) i) (is_next.who ∙ ap (option_map task) is_chosen)
-        ∙ idle_ticks entries (t - reached.tick) i)
+        (λ i. ap (λ who. ticks_of (entries ++ replicate n who) i) (is_next.who ∙ ap (option_map task) is_chosen)
+        ∙ idle_ticks entries n i)
         t next.until is_held first before choice.0 choice.1
     chosen_scheduled held (Some index) is_held is_chosen choice = by_held held is_held choice
       where
         within : IsIndex index
         within = is_next.in_list index is_chosen
 
-        left : t - reached.tick < (progress index).left
-        left = omega (arith, first, before, is_next.within_left index is_chosen)
+        left : n < (progress index).left
+        left = omega (arith, at.tick, before, is_next.within_left index is_chosen)
 
         who : next.who ≡ Some (task index)
         who = is_next.who ∙ ap (option_map task) is_chosen
 
-        own : ticks_of further (task index) ≡ ticks_of entries (task index) + (t - reached.tick)
-        own = ap (λ (e : Option ℕ). ticks_of (entries ++ replicate (t - reached.tick) e) (task index)) who
-            ∙ own_ticks entries (t - reached.tick) (task index) (task index) refl
+        own : ticks_of further (task index) ≡ ticks_of entries (task index) + n
+        own = ap (λ (e : Option ℕ). ticks_of (entries ++ replicate n e) (task index)) who
+            ∙ own_ticks entries n (task index) (task index) refl
 
         others : (i : ℕ) → (task index ≡ i → ⊥) → ticks_of further i ≡ ticks_of entries i
-        others i apart = ap (λ (e : Option ℕ). ticks_of (entries ++ replicate (t - reached.tick) e) i) who
-            ∙ others_ticks entries (t - reached.tick) i (task index) apart
+        others i apart = ap (λ (e : Option ℕ). ticks_of (entries ++ replicate n e) i) who
+            ∙ others_ticks entries n i (task index) apart
 
         by_held : (held : Option ℕ) → reached.held ≡ held → IsChoice reached.tasks.items held reached.tick (Some index) next.until
             → IsScheduled system table (ticks_of further) t core (Some (task index))
-        by_held (Some other) is choice = held_scheduled index within (ticks_of further) (t - reached.tick) t own others (is ∙ sym choice) left
-        by_held None is choice = best_scheduled index within (ticks_of further) (t - reached.tick) t own others is left next.until fits_below
+        by_held (Some other) is choice = held_scheduled index within (ticks_of further) n t own others (is ∙ sym choice) left
+        by_held None is choice = best_scheduled index within (ticks_of further) n t own others is left next.until fits_below
             first before choice.0 choice.1
 
     pub goes_on_scheduled : IsScheduled system table (ticks_of further) t core next.who

@@ -1,20 +1,24 @@
 -- How far the tasks of a core have come, and what the core does next. Times are in ticks.
-use Rattle.std.specs.Prelude.{◌≡◌, ◌≢◌, ◌↔◌, ℕ, Option, Some, None, ◌+◌, ◌^◌, ◌<◌, ◌≤◌, List, length, slice_index_or, count_by}
+use Rattle.std.specs.Prelude.{◌≡◌, ℕ, Option, Some, None, ◌+◌, ◌^◌, ◌<◌, ◌≤◌, List, ◌++◌, length, slice_index_or, count_by, replicate}
 use Rattle.std.specs.Option.{option_map}
-use Rattle.cl_model.specs.declared.model.SystemModel.{SystemModel}
-use Rattle.cl_model.specs.ByNumber.{task_at}
 use Rattle.cl_runs.specs.TaskTiming.{System, timing_at, IsSound}
 use Rattle.cl_runs.specs.declared.job.JobTable.{JobTable}
 use Rattle.cl_runs.specs.Table.{table_jobs, IsLawful}
 use Rattle.cl_runs.specs.Run.{is_task}
+use Rattle.cl_runs.specs.Legal.{IsScheduled}
 use Rattle.cl_sched.specs.declared.progress.Progress.{Progress}
 use Rattle.cl_sched.specs.declared.core_progress.CoreProgress.{CoreProgress}
 use Rattle.cl_sched.specs.declared.core_progress.Next.{Next}
-use Rattle.cl_sched.specs.Progress.{IsAtRunnable, HasComeTo, IsHolding}
+use Rattle.cl_sched.specs.Progress.{HasComeTo, IsHolding}
 
 -- the ticks of a task among entries of its core
 abbrev pub ticks_of : List (Option ℕ) → (task : ℕ) → ℕ
 ticks_of entries task = count_by (is_task task) entries
+
+-- after these entries of a core, an entry is what is scheduled in each tick of a span: from their end until a tick
+abbrev pub IsScheduledUntil : System → JobTable → (core : ℕ) → List (Option ℕ) → (until : ℕ) → Option ℕ → Type 0
+IsScheduledUntil system table core entries until who = (n : ℕ) → length entries + n < until
+    → IsScheduled system table (ticks_of (entries ++ replicate n who)) (length entries + n) core who
 
 -- what stands past the last task of a core
 unfoldable pub no_progress : Progress
@@ -35,14 +39,6 @@ pub record IsOfCore (system : System) (table : JobTable) (core : ℕ) (entries :
 abbrev pub Holds : System → JobTable → Progress → Type 0
 Holds system table progress = IsHolding (timing_at system progress.task) (table_jobs table progress.task) progress
 
--- a task with some number of executed ticks has come so far
-abbrev pub HasCome : JobTable → Progress → Type 0
-HasCome table progress = (done : ℕ) × HasComeTo (table_jobs table progress.task) done progress
-
--- and a job of it is left
-abbrev pub HasJobLeft : JobTable → Progress → Type 0
-HasJobLeft table progress = (done : ℕ) × IsAtRunnable (table_jobs table progress.task) done progress
-
 -- where a task of a core stands in a list
 pub record IsListed (task : ℕ) (tasks : List Progress) : Type 0 where
   pub index : ℕ
@@ -58,7 +54,7 @@ pub record AreOfCore (system : System) (table : JobTable) (core : ℕ) (entries 
       → (progress_at tasks one).task ≡ (progress_at tasks other).task → one ≡ other
 
 -- the held task of a core is the one at an index, or none is held
-pub record IsHeldAt (system : System) (table : JobTable) (tasks : List Progress) (held : Option ℕ) : Type 0 where
+pub record IsHeldIndex (system : System) (table : JobTable) (tasks : List Progress) (held : Option ℕ) : Type 0 where
   pub within : (index : ℕ) → held ≡ Some index → index < length tasks
   pub holds : (index : ℕ) → held ≡ Some index → Holds system table (progress_at tasks index)
   pub alone : (index : ℕ) → index < length tasks → Holds system table (progress_at tasks index) → held ≡ Some index
@@ -68,12 +64,7 @@ pub record IsReached (system : System) (table : JobTable) (core : ℕ) (entries 
     : Type 0 where
   pub tick : reached.tick ≡ length entries
   pub tasks : AreOfCore system table core entries reached.tasks.items
-  pub held : IsHeldAt system table reached.tasks.items reached.held
-
--- a task has a higher priority than the best so far, if there is one
-abbrev pub IsBetter : List Progress → (best : Option ℕ) → (index : ℕ) → Type 0
-IsBetter tasks best index = (other : ℕ) → best ≡ Some other
-    → (progress_at tasks other).priority < (progress_at tasks index).priority
+  pub held : IsHeldIndex system table reached.tasks.items reached.held
 
 -- of the first n tasks that are released at a tick, the one of highest priority, or none where none is released
 abbrev pub IsBestOf : List Progress → (n tick : ℕ) → Option ℕ → Type 0
@@ -117,21 +108,3 @@ pub record IsUnderway (reached : CoreProgress) : Type 0 where
   pub sound : IsSound system
   pub lawful : IsLawful system table
   pub is : IsUnderwayIn system table reached
-
--- how far a task has come at tick 0
-pub record IsUnbegun (model : SystemModel) (table : JobTable) (task : ℕ) (progress : Progress) : Type 0 where
-  pub task_is : progress.task ≡ task
-  pub priority : progress.priority ≡ (task_at model task).priority
-  pub has_come : HasComeTo (table_jobs table task) 0 progress
-
--- the task at an index of a list has executed its runnable for so many ticks, and is the held one exactly where it holds
-pub record HasExecuted (system : System) (table : JobTable) (index ticks : ℕ) (old new : CoreProgress) : Type 0 where
-  pub tick : new.tick ≡ old.tick
-  pub as_many : length new.tasks.items ≡ length old.tasks.items
-  pub others : (other : ℕ) → other ≢ index → progress_at new.tasks.items other ≡ progress_at old.tasks.items other
-  pub task : (progress_at new.tasks.items index).task ≡ (progress_at old.tasks.items index).task
-  pub priority : (progress_at new.tasks.items index).priority ≡ (progress_at old.tasks.items index).priority
-  pub further : (done : ℕ)
-      → IsAtRunnable (table_jobs table (progress_at old.tasks.items index).task) done (progress_at old.tasks.items index)
-      → HasComeTo (table_jobs table (progress_at old.tasks.items index).task) (done + ticks) (progress_at new.tasks.items index)
-  pub held : (other : ℕ) → (new.held ≡ Some other) ↔ ((other ≡ index) × Holds system table (progress_at new.tasks.items index))

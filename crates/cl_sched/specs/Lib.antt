@@ -1,4 +1,4 @@
 pub mod Progress
 pub mod CoreProgress
-pub mod Filling
 pub mod Continuing
+pub mod Inner

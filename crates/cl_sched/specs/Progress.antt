@@ -6,12 +6,8 @@ use Rattle.cl_runs.specs.Table.{job_at}
 use Rattle.cl_runs.specs.Work.{work_before, work_through}
 use Rattle.cl_sched.specs.declared.progress.Progress.{Progress}
 
--- each job has a runnable, and each of its runnables takes a tick at least
-pub record TakeTime (jobs : List Job) : Type 0 where
-  pub some : (job : ℕ) → job < length jobs → 0 < length (job_at jobs job).times
-  pub ticks : (job place : ℕ) → job < length jobs → place < length (job_at jobs job).times → 1 ≤ slice_index (job_at jobs job).times place
-
--- a task with so many executed ticks has come to a runnable of a job: all work before it is done, and some of it is left
+-- a task with so many executed ticks has come to a runnable of a job: all work before it is done, and some of it is
+-- left
 pub record IsAtRunnable (jobs : List Job) (done : ℕ) (progress : Progress) : Type 0 where
   pub in_table : progress.job < length jobs
   pub is_runnable : progress.place < length (job_at jobs progress.job).times

@@ -1,18 +1,17 @@
 //! How far the tasks of a core have come, and what the core does next. Times are in ticks.
-ghost use Rattle.std.specs.Prelude.{◌≡◌, ℕ, ◌+◌, ◌-◌, ◌<◌, ◌≤◌, ◌↔◌, ◌++◌, [], List, Option, Some, IsTrue, IfOk, length, replicate};
-ghost use Rattle.cl_model.specs.ByNumber.{task_at};
-ghost use Rattle.cl_runs.specs.TaskTiming.{System, timing_at, range_at, IsSound};
-ghost use Rattle.cl_runs.specs.SystemOf.{system_of};
+ghost use Rattle.std.specs.Prelude.{◌≡◌, ℕ, ◌+◌, ◌-◌, ◌<◌, ◌≤◌, ◌↔◌, ◌++◌, [], List, Option, Some, IsTrue, IfOk, length, map, replicate};
+ghost use Rattle.cl_runs.specs.TaskTiming.{System, Timing, IsSound};
+ghost use Rattle.cl_runs.specs.SystemOf.{range_of, system_of};
 ghost use Rattle.cl_runs.specs.declared.job.JobTable.{JobTable as Table};
 ghost use Rattle.cl_runs.specs.Table.{IsLawful};
-ghost use Rattle.cl_runs.specs.Legal.{IsScheduled};
-ghost use Rattle.cl_sched.specs.CoreProgress.{AreOfCore, IsReached, IsUnderwayIn, IsUnderway, IsUnbegun};
-ghost use Rattle.cl_sched.specs.CoreProgress.{IsBetter, IsBestOf, AreSteadyOf, IsChoice, IsNext};
-ghost use Rattle.cl_sched.specs.CoreProgress.{ticks_of, progress_at, Holds, HasCome, HasJobLeft, HasExecuted};
+ghost use Rattle.cl_sched.specs.Progress.{IsHolding};
+ghost use Rattle.cl_sched.specs.CoreProgress.{AreOfCore, IsReached, IsScheduledUntil, IsUnderwayIn, IsUnderway};
+ghost use Rattle.cl_sched.specs.CoreProgress.{progress_at, IsBestOf, AreSteadyOf, IsChoice, IsNext};
+ghost use Rattle.cl_sched.specs.Inner.Executing.{IsInLists, IsUnbegun, IsBetter, HasJobLeft, HasExecuted};
 
-use crate::progress::{Progress, jobs_of};
-use cl_model::ValidModel;
-use cl_runs::JobTable;
+use crate::progress::Progress;
+use cl_model::{RunnableDef, ValidModel};
+use cl_runs::{Job, JobTable};
 use cl_time::NoMemory;
 use std::alloc::Global;
 
@@ -48,8 +47,8 @@ fn unbegun(model: &ValidModel, table: &JobTable, task: u32) -> Progress
     requires task { task < length model.now.tasks }
     ensures { IsUnbegun model.now table.now task result }
 {
-    let priority = model.plain().tasks.as_slice()[task as usize].priority;
-    Progress::before(jobs_of(table, task), task, priority, 0)
+    let priority = model.task(task).priority;
+    Progress::before(table.jobs_of(task), task, priority, 0)
 }
 
 /// How far each task of a core has come at tick 0.
@@ -70,31 +69,15 @@ fn all_unbegun(
     Ok(tasks)
 }
 
-/// Whether a runnable of a task is whole.
-fn is_whole(model: &ValidModel, task: u32, place: usize) -> bool
-    requires task { task < length model.now.tasks }
-    requires place { place < length (task_at model.now task).runnables }
-    ensures { result ≡ (range_at (timing_at (system_of model.now) task) place).whole }
+/// Whether a task with these runnables and jobs has begun a whole runnable and not finished it.
+fn is_holding(runnables: &[RunnableDef], jobs: &[Job], progress: Progress) -> bool
+    requires { IsInLists runnables.now jobs.now progress }
+    ensures { (task : Timing) → task.ranges ≡ map range_of runnables.now
+        → IsTrue result ↔ IsHolding task jobs.now progress }
 {
-    let runnables = model.plain().tasks.as_slice()[task as usize]
-        .runnables
-        .as_slice();
-    runnables[place].whole
-}
-
-/// Whether a task has begun a whole runnable and not finished it.
-fn is_holding(model: &ValidModel, table: &JobTable, progress: Progress) -> bool
-    requires lawful { IsLawful (system_of model.now) table.now }
-    requires task { progress.task < length model.now.tasks }
-    requires has_come { HasCome table.now progress }
-    ensures { IsTrue result ↔ Holds (system_of model.now) table.now progress }
-{
-    // read for what it says: the model is valid
-    let _plain = model.plain();
-    match jobs_of(table, progress.task).get(progress.job) {
+    match jobs.get(progress.job) {
         Some(job) => {
-            is_whole(model, progress.task, progress.place)
-                && progress.left < job.times.as_slice()[progress.place]
+            runnables[progress.place].whole && progress.left < job.times.as_slice()[progress.place]
         }
         None => false,
     }
@@ -197,8 +180,8 @@ impl CoreProgress {
         }
     }
 
-    /// What the core does next, and until when at least, at most until `end`. In each tick until then it is what is
-    /// scheduled.
+    /// What the core does next, and until when at least, at most until `end`: after any entries that lead here, it is
+    /// what is scheduled in each tick until then.
     pub fn next(&self, end: u64) -> Next
         requires before { self.now.tick < end }
         requires underway { IsUnderway self.now }
@@ -206,9 +189,7 @@ impl CoreProgress {
         ensures within { result.until ≤ end }
         ensures scheduled { (system : System) (table : Table) (core : ℕ) (entries : List (Option ℕ))
             → IsSound system → IsLawful system table → IsReached system table core entries self.now
-            → (tick : ℕ) → self.now.tick ≤ tick → tick < result.until
-            → IsScheduled system table (ticks_of (entries ++ replicate (tick - self.now.tick) result.who))
-            tick core result.who }
+            → IsScheduledUntil system table core entries result.until result.who }
     {
         self.following(end)
     }
@@ -222,11 +203,11 @@ impl CoreProgress {
         requires ticks { ticks ≤ (progress_at self.old.tasks.items index).left }
         ensures { HasExecuted (system_of model.now) table.now index ticks self.old self.new }
     {
-        // read for what it says: the model is valid
-        let _plain = model.plain();
         let task = self.tasks[index];
-        let moved = task.after(jobs_of(table, task.task), ticks);
-        self.held = index_if(index, is_holding(model, table, moved));
+        let runnables = model.task(task.task).runnables.as_slice();
+        let jobs = table.jobs_of(task.task);
+        let moved = task.after(jobs, ticks);
+        self.held = index_if(index, is_holding(runnables, jobs, moved));
         self.tasks[index] = moved;
     }
 

@@ -1,10 +1,11 @@
 //! How far a task has come with its jobs, which it executes in order. Times are in ticks.
 ghost use Rattle.std.specs.Prelude.{◌≡◌, ℕ, ◌+◌, ◌<◌, ◌≤◌, length};
-ghost use Rattle.cl_runs.specs.Table.{job_at, table_jobs};
+ghost use Rattle.cl_runs.specs.Table.{job_at};
 ghost use Rattle.cl_runs.specs.Work.{work_before, work_through};
-ghost use Rattle.cl_sched.specs.Progress.{TakeTime, IsAtRunnable, HasComeTo};
+ghost use Rattle.cl_sched.specs.Progress.{IsAtRunnable, HasComeTo};
+ghost use Rattle.cl_sched.specs.Inner.TakingTime.{TakeTime};
 
-use cl_runs::{Job, JobTable};
+use cl_runs::Job;
 
 /// How far a task has come: the runnable of its first unfinished job that it executes next, and what is left of that.
 #[derive(Clone, Copy, Debug, PartialEq, Eq)]
@@ -19,14 +20,6 @@ pub struct Progress {
     pub left: u64,
     /// When that job is released, and the greatest number where all jobs have finished.
     pub release: u64,
-}
-
-/// The jobs of a task.
-pub fn jobs_of(table: &JobTable, task: u32) -> &[Job]
-    requires { task < length table.now.jobs }
-    ensures { result.now ≡ table_jobs table.now task }
-{
-    table.jobs.as_slice()[task as usize].as_slice()
 }
 
 impl Progress {

@@ -1,12 +1,13 @@
 //! The legal run of a job table. Times are in ticks.
 ghost use Rattle.std.specs.Prelude.{◌≡◌, ◌<◌, ◌≤◌, [], length, replicate, IfOk, OnOk};
+ghost use Rattle.cl_runs.specs.TaskTiming.{IsSound};
 ghost use Rattle.cl_runs.specs.SystemOf.{system_of};
 ghost use Rattle.cl_runs.specs.Table.{IsLawful};
 ghost use Rattle.cl_runs.specs.Run.{core_entries};
 ghost use Rattle.cl_runs.specs.Legal.{IsLegal};
 ghost use Rattle.cl_sched.specs.Continuing.{HasContinuations};
 ghost use Rattle.cl_sched.specs.CoreProgress.{IsReached};
-ghost use Rattle.cl_sched.specs.Filling.{AreScheduled, HasFilled};
+ghost use Rattle.cl_sched.specs.Inner.Filling.{AreScheduled, HasFilled};
 
 use crate::core_progress::CoreProgress;
 use cl_model::ValidModel;
@@ -22,6 +23,7 @@ fn fill_from(
     core: u32,
     reached: &mut CoreProgress,
 ) -> Result<(), NoMemory>
+    requires sound { IsSound (system_of model.now) }
     requires lawful { IsLawful (system_of model.now) run.old.table }
     requires core { core < length run.old.entries }
     requires reached { IsReached (system_of model.now) run.old.table core (core_entries run.old core) reached.old }
@@ -29,8 +31,6 @@ fn fill_from(
     requires within { reached.old.tick ≤ run.old.table.ticks }
     ensures { OnOk result (HasFilled (system_of model.now) core run.old run.new) }
 {
-    // read for what it says: the model is valid
-    let _plain = model.plain();
     let end = run.table().ticks;
     'events: while reached.tick < end {
         let next = reached.next(end);
@@ -47,6 +47,7 @@ fn fill_core(
     run: &mut RunData,
     core: u32,
 ) -> Result<(), NoMemory>
+    requires sound { IsSound (system_of model.now) }
     requires lawful { IsLawful (system_of model.now) run.old.table }
     requires core { core < length run.old.entries }
     requires in_model { core < length model.now.cores }
@@ -79,8 +80,6 @@ pub fn simulate(alloc: Global, model: &ValidModel, table: JobTable) -> Result<Ru
     ensures legal { IfOk result (IsLegal (system_of model.now)) }
     ensures continuation { IfOk result (HasContinuations (system_of model.now)) }
 {
-    // read for what it says: the model is valid
-    let _plain = model.plain();
     let mut run = RunData::start(alloc, table, model.cores())?;
     match fill(alloc, model, &mut run) {
         Ok(()) => Ok(run),

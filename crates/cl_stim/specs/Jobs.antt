@@ -1,4 +1,4 @@
--- What an arrival pattern promises of a list of jobs. Source: this project's profile.
+-- What an arrival pattern promises of a list of jobs.
 use Rattle.std.specs.Prelude.{◌≡◌, ℕ, suc, ◌+◌, ◌<◌, ◌≤◌, List, length}
 use Rattle.cl_runs.specs.declared.job.Job.{Job}
 use Rattle.cl_runs.specs.Table.{job_at}

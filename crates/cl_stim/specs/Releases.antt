@@ -10,7 +10,8 @@ unfoldable pub releases_in : List Job → (start width : ℕ) → ℕ
 releases_in jobs start width = count_by (λ (job : Job). nat_le start job.release && nat_lt job.release (start + width)) jobs
 
 -- the most releases in `width` consecutive ticks: how often the least distance fits into the ticks with the jitter,
--- rounded up; of bursts, all jobs of as many as fit whole, and in the ticks that are left as many as one burst has there.
+-- rounded up; of bursts, all jobs of as many as fit whole, and in the ticks that are left as many as one burst has
+-- there.
 -- Source: Audsley et al. 1993, with release jitter, and with bursts as sporadically periodic tasks
 unfoldable pub most_releases : StimulusKind → (width : ℕ) → ℕ
 most_releases (Periodic period offset jitter) width = div_ceil (width + jitter) period

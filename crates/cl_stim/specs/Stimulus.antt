@@ -1,4 +1,4 @@
--- The stimuli of valid models. Source: this project's profile.
+-- The stimuli of valid models.
 use Rattle.cl_model.specs.declared.stimulus.StimulusKind.{StimulusKind}
 use Rattle.cl_model.specs.Ranges.{IsKindInRange}
 use Rattle.cl_model.specs.Timing.{IsKindOrdered}

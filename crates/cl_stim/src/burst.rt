@@ -1,4 +1,5 @@
 //! Arrivals in bursts. Times are in ticks.
+ghost use Rattle.std.specs.Prelude.{◌≡◌};
 ghost use Rattle.cl_model.specs.Timing as timing;
 ghost use Rattle.cl_runs.specs.Arrivals.{FollowPattern};
 ghost use Rattle.cl_stim.specs.Releases.{most_releases};
@@ -6,6 +7,7 @@ ghost use Rattle.cl_stim.specs.Stimulus.{IsStimulus};
 ghost use Rattle.cl_stim.specs.Inner.Laws as laws;
 
 use crate::arrivals::Arrivals;
+use cl_model::StimulusKind;
 use std::marker::Model;
 
 /// Jobs arrive in bursts of `count`: job `q * count + r`, where `r < count`, arrives at
@@ -34,6 +36,21 @@ impl Model for Burst {
     ] };
 
     ghost invariant = { λ a. IsStimulus (kinds.Burst a.period a.offset a.count a.distance) };
+}
+
+impl Burst {
+    /// Its kind.
+    fn kind(&self) -> StimulusKind
+        ensures kind { result ≡ self.now }
+        ensures known { IsStimulus self.now }
+    {
+        StimulusKind::Burst {
+            period: self.period,
+            offset: self.offset,
+            count: self.count,
+            distance: self.distance,
+        }
+    }
 }
 
 impl Arrivals for Burst {
@@ -65,9 +82,7 @@ impl Arrivals for Burst {
     }
 
     fn jitter(&self) -> u64 {
-        // read for what it says of the stimulus: it is a burst
-        let _distance = self.distance;
-        0
+        self.kind().greatest_jitter()
     }
 
     ghost never_falls = { laws.never_falls };

@@ -1,4 +1,5 @@
 //! Sporadic arrivals. Times are in ticks.
+ghost use Rattle.std.specs.Prelude.{◌≡◌};
 ghost use Rattle.cl_model.specs.Timing as timing;
 ghost use Rattle.cl_runs.specs.Arrivals.{FollowPattern};
 ghost use Rattle.cl_stim.specs.Releases.{most_releases};
@@ -6,6 +7,7 @@ ghost use Rattle.cl_stim.specs.Stimulus.{IsStimulus};
 ghost use Rattle.cl_stim.specs.Inner.Laws as laws;
 
 use crate::arrivals::Arrivals;
+use cl_model::StimulusKind;
 use std::marker::Model;
 
 /// Jobs arrive at distances from `least` to `greatest`, and each is released as it arrives.
@@ -31,6 +33,19 @@ impl Model for Sporadic {
     ] };
 
     ghost invariant = { λ a. IsStimulus (kinds.Sporadic a.least a.greatest) };
+}
+
+impl Sporadic {
+    /// Its kind.
+    fn kind(&self) -> StimulusKind
+        ensures kind { result ≡ self.now }
+        ensures known { IsStimulus self.now }
+    {
+        StimulusKind::Sporadic {
+            least: self.least,
+            greatest: self.greatest,
+        }
+    }
 }
 
 impl Arrivals for Sporadic {
@@ -60,9 +75,7 @@ impl Arrivals for Sporadic {
     }
 
     fn jitter(&self) -> u64 {
-        // read for what it says of the stimulus: it is a sporadic one
-        let _least = self.least;
-        0
+        self.kind().greatest_jitter()
     }
 
     ghost never_falls = { laws.never_falls };

@@ -1,3 +1,4 @@
 pub mod DecimalLemmas
 pub mod LineLemmas
 pub mod FoundInTexts
+pub mod MoreLines

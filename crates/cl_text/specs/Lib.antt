@@ -1,2 +1,4 @@
 pub mod Decimal
 pub mod Line
+pub mod Standing
+pub mod LinesFault

@@ -1,17 +1,21 @@
 -- Edits that are made one by one: what they have come to so far, and what is left.
 use Rattle.std.proofs.Common.{◌≡◌, ℕ, zero, suc, ◌+◌, ◌<◌, ◌≤◌, inl, inr, List, [], ◌∷◌, ◌++◌, length, drop, get_or, Result, Ok, Err, refl, sym, ap, ◌∙◌, subst, arith}
-use Rattle.std.proofs.lemmas.List.{append_assoc, append-nil}
+use Rattle.std.specs.List.{concat}
+use Rattle.std.proofs.lemmas.List.{append-nil, get_or_default}
+use Rattle.std.proofs.lemmas.List.Folds.{concat-append}
 use Rattle.cl_model.specs.declared.model.SystemModel.{SystemModel}
 use Rattle.cl_model.specs.declared.refusal.Refusal.{Refusal}
 use Rattle.cl_edit.specs.declared.edit.Edit.{Edit}
+use Rattle.cl_edit.specs.declared.edit.Edit.TheVariants.{Report}
 use Rattle.cl_edit.specs.Edited.{edited}
 use Rattle.cl_edit.specs.Reading.{AreEditsOf}
 use Rattle.cl_incr.specs.Changed.{AsksForChanges}
 use Rattle.cl_top.specs.declared.outcome.Outcome.{Outcome}
 use Rattle.cl_top.specs.declared.status.TheConstants.{DONE}
-use Rattle.cl_top.specs.Commands.Edit.{edits_refused, behind, IsWrittenBy, EditsTo, AreEditedTo}
+use Rattle.cl_top.specs.Commands.Edit.{edits_refused, behind, IsWrittenBy, AreAccepted, EndsDone, EndsRefused, AreEditedTo}
 use Rattle.cl_top.specs.Inner.Edits.{IsMade, HasAsked, HaveAsked}
 use Rattle.cl_top.specs.Steps.{AsksThen, AskForChanges, AreFewOfEdits}
+use Rattle.cl_top.proofs.Accepted.{none_accepted, one_more_accepted}
 
 -- ---- lists
 
@@ -58,29 +62,33 @@ asked_by old (Err refusal) before after asks none = omega (arith, none refusal r
 -- ---- the edits so far
 
 pub record AreEditedSoFar (edits : List Edit) (first : SystemModel) (before : ℕ) (place : ℕ) (model : SystemModel) (text : List ℕ) (steps : ℕ) : Type 0 where
-  pub outcome : (rest : Outcome) → AreEditedTo (drop place edits) (place + 2) model rest → AreEditedTo edits 2 first (behind text rest)
+  pub pieces : List (List ℕ)
+  pub are : AreAccepted first edits place pieces model
+  pub joined : text ≡ concat pieces
   pub asked : (after : ℕ) → AskForChanges (drop place edits) model steps after → AskForChanges edits first before after
 
-pub none_so_far : (edits : List Edit) (model : SystemModel) (steps : ℕ) → AreEditedSoFar edits model steps 0 model [] steps
-none_so_far edits model steps = record { outcome = λ rest is. is; asked = λ after is. is }
+pub none_so_far : (edits : List Edit) (model : SystemModel) (text : List ℕ) (steps : ℕ) → text ≡ [] → AreEditedSoFar edits model steps 0 model text steps
+none_so_far edits model text steps empty = record { pieces = []; are = none_accepted model edits; joined = empty; asked = λ after is. is }
 
 module _ (edits : List Edit) (first : SystemModel) (before : ℕ) (place : ℕ) (model : SystemModel) (text : List ℕ) (steps : ℕ) (so_far : AreEditedSoFar edits first before place model text steps) where
   module _ (edit default : Edit) (within : place < length edits) (here : get_or edits place default ≡ edit) where
     rest_is : drop place edits ≡ edit ∷ drop (suc place) edits
     rest_is = drop_step edits place default within ∙ ap (λ e. e ∷ drop (suc place) edits) here
 
+    -- the edit at this place, whatever stands past the end
+    edit_is : edit ≡ get_or edits place Report
+    edit_is = sym here ∙ get_or_default edits place default Report within
+
     -- one more edit was made
     pub one_more : (next : ℕ) → next ≡ suc place → (new : SystemModel) (after : List ℕ) (steps_after : ℕ) → IsMade model edit new text after → HasAsked model (edited model edit) steps steps_after
         → AreEditedSoFar edits first before next new after steps_after
     one_more next is_next new after steps_after made asked = record {
-      outcome = λ rest later.
-          let number : next + 2 ≡ suc (place + 2) = omega (arith, is_next) in
-          let is = subst (λ k. AreEditedTo (drop (suc place) edits) k new rest) number (subst (λ k. AreEditedTo (drop k edits) (next + 2) new rest) is_next later) in
-          let come : AreEditedTo (edit ∷ drop (suc place) edits) (place + 2) model (behind made.written rest) =
-          subst (λ m. EditsTo m (place + 2) (IsWrittenBy model edit) (AreEditedTo (drop (suc place) edits) (suc (place + 2))) (behind made.written rest)) (sym made.made)
-          (made.written, made.writes, (rest, is, refl)) in
-          subst (λ t. AreEditedTo edits 2 first (record { status = rest.status; text = t })) (sym (append_assoc text made.written rest.text) ∙ ap (λ t. t ++ rest.text) (sym made.put))
-          (so_far.outcome (behind made.written rest) (subst (λ (es : List Edit). AreEditedTo es (place + 2) model (behind made.written rest)) (sym rest_is) come));
+      pieces = so_far.pieces ++ made.written ∷ [];
+      are = subst (λ k. AreAccepted first edits k (so_far.pieces ++ made.written ∷ []) new) (sym is_next)
+          (one_more_accepted first edits place so_far.pieces model within so_far.are new (ap (edited model) (sym edit_is) ∙ made.made) made.written
+          (subst (λ (e : Edit). IsWrittenBy model e made.written) edit_is made.writes));
+      joined = made.put ∙ ap (λ t. t ++ made.written) so_far.joined ∙ ap (λ t. concat so_far.pieces ++ t) (sym (append-nil made.written))
+          ∙ sym (concat-append so_far.pieces (made.written ∷ []));
       asked = λ end later.
           let is = subst (λ k. AskForChanges (drop k edits) new steps_after end) is_next later in
           so_far.asked end (subst (λ (es : List Edit). AskForChanges es model steps end) (sym rest_is)
@@ -89,10 +97,19 @@ module _ (edits : List Edit) (first : SystemModel) (before : ℕ) (place : ℕ) 
     }
 
     -- an edit is refused
-    pub one_refused : (refusal : Refusal) → edited model edit ≡ Err refusal → AreEditedTo edits 2 first (behind text (edits_refused (place + 2) refusal))
-    one_refused refusal is =
-        so_far.outcome (edits_refused (place + 2) refusal) (subst (λ (es : List Edit). AreEditedTo es (place + 2) model (edits_refused (place + 2) refusal)) (sym rest_is)
-        (subst (λ m. EditsTo m (place + 2) (IsWrittenBy model edit) (AreEditedTo (drop (suc place) edits) (suc (place + 2))) (edits_refused (place + 2) refusal)) (sym is) refl))
+    pub one_refused : (refusal : Refusal) → edited model edit ≡ Err refusal → AreEditedTo first edits (behind text (edits_refused (place + 2) refusal))
+    one_refused refusal is = record {
+      count = place;
+      pieces = so_far.pieces;
+      made = model;
+      are = so_far.are;
+      ends = inr (record {
+        one_more = within;
+        refusal = refusal;
+        refused = ap (edited model) (sym edit_is) ∙ is;
+        printed = ap (λ t. behind t (edits_refused (place + 2) refusal)) so_far.joined;
+      });
+    }
 
     -- what was asked, where the edits end with this one
     last_asked : (made : Result SystemModel Refusal) (end : ℕ) → HasAsked model made steps end
@@ -104,10 +121,14 @@ module _ (edits : List Edit) (first : SystemModel) (before : ℕ) (place : ℕ) 
     asked_here end asked = so_far.asked end (subst (λ (es : List Edit). AskForChanges es model steps end) (sym rest_is) (last_asked (edited model edit) end asked))
 
   -- all edits were made
-  pub all_made : length edits ≤ place → AreEditedTo edits 2 first (record { status = DONE; text = text })
-  all_made past =
-      subst (λ t. AreEditedTo edits 2 first (record { status = DONE; text = t })) (append-nil text)
-      (so_far.outcome (record { status = DONE; text = [] }) (subst (λ (es : List Edit). AreEditedTo es (place + 2) model (record { status = DONE; text = [] })) (sym (drop_past edits place past)) refl))
+  pub all_made : length edits ≤ place → AreEditedTo first edits (record { status = DONE; text = text })
+  all_made past = record {
+    count = place;
+    pieces = so_far.pieces;
+    made = model;
+    are = so_far.are;
+    ends = inl (record { all = omega (arith, past, so_far.are.within); printed = ap (λ (t : List ℕ). record { status = DONE; text = t }) so_far.joined });
+  }
 
   pub all_asked : length edits ≤ place → AskForChanges edits first before steps
   all_asked past = so_far.asked steps (subst (λ (es : List Edit). AskForChanges es model steps steps) (sym (drop_past edits place past)) (omega arith))

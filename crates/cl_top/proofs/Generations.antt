@@ -1,115 +1,120 @@
--- The commands on generated models: how many tasks they may ask for, and what they come to.
+-- The numbers that words may ask for, and what the commands on generated models come to.
 use Rattle.std.proofs.Common.{◌≡◌, ℕ, ◌≤◌, leb, List, [], ◌∷◌, Option, Some, None, subst, codes}
 use Rattle.std.specs.Prelude.{nat_lt, ◌&&◌, decimal}
+use Rattle.std.specs.Option.{option_map}
 use Rattle.std.specs.Str.{bytes_eq}
 use Rattle.std.proofs.lemmas.Bool.{cond_both, ltb-true, leb-true}
 use Rattle.cl_model.specs.declared.limits.TheConstants.{MOST_TASKS}
 use Rattle.cl_model.proofs.ListFacts.{both_pass}
-use Rattle.cl_io.specs.Shelf.{Held}
 use Rattle.cl_gen.specs.declared.limits.TheConstants.{MOST_RUN_TICKS}
-use Rattle.cl_text.specs.Decimal.{number_of}
-use Rattle.cl_top.specs.declared.command.Command.{Command}
-use Rattle.cl_top.specs.declared.command.Command.TheVariants.{Analyse, Migrate, Simulate, Replay, Edit, Cut, Order, Headroom, Generate, Survey}
 use Rattle.cl_gen.specs.Generated.{generated}
+use Rattle.cl_report.specs.Survey.{IsSurveyOf}
+use Rattle.cl_text.specs.Decimal.{number_of}
+use Rattle.cl_write.specs.Texts.{IsTextOf}
+use Rattle.cl_top.specs.declared.command.Command.{Command}
+use Rattle.cl_top.specs.declared.command.Command.TheVariants as command
+use Rattle.cl_top.specs.declared.command.Draw.{Draw}
+use Rattle.cl_top.specs.declared.command.OfModel.{OfModel}
 use Rattle.cl_top.specs.declared.outcome.Outcome.{Outcome}
-use Rattle.cl_top.specs.Commands.Migrate.{IsMigrated}
-use Rattle.cl_top.specs.Commands.Survey.{IsSurveyed}
+use Rattle.cl_top.specs.Calls.{ShelfCall}
+use Rattle.cl_top.specs.Command.{MOST_SEED, number_upto, of_model, simulation, simulate_of, of_two_files, drawing, draw_of, command_of}
+use Rattle.cl_top.specs.Done.{IsDone}
 use Rattle.cl_top.specs.Files.{Unasked}
+use Rattle.cl_top.specs.OfModel.{of_verb}
 use Rattle.cl_top.specs.Run.{ComesTo}
 use Rattle.cl_top.proofs.Comings.{comes_to}
-use Rattle.cl_top.specs.Command.{MOST_SEED, number_upto, of_model, simulation, simulate_of, replay_of, edit_of, generation, generation_of, command_of}
 
--- a command asks for as many tasks as a model may have
-abbrev pub HasFewTasks : Command → Type 0
-HasFewTasks Analyse = Unit {0}
-HasFewTasks Migrate = Unit {0}
-HasFewTasks (Simulate ticks seed) = Unit {0}
-HasFewTasks Replay = Unit {0}
-HasFewTasks Edit = Unit {0}
-HasFewTasks Cut = Unit {0}
-HasFewTasks Order = Unit {0}
-HasFewTasks Headroom = Unit {0}
-HasFewTasks (Generate seed tasks) = (1 ≤ tasks) × (tasks ≤ MOST_TASKS)
-HasFewTasks (Survey seed tasks) = (1 ≤ tasks) × (tasks ≤ MOST_TASKS)
+-- a command asks for as many tasks as a model may have, and for as many ticks as a run may have
+abbrev pub AsksForFew : Command → Type 0
+AsksForFew (command.OfModel asked) = Unit {0}
+AsksForFew (command.Simulate ticks seed) = ticks ≤ MOST_RUN_TICKS
+AsksForFew command.Replay = Unit {0}
+AsksForFew command.Edit = Unit {0}
+AsksForFew (command.Generate seed tasks) = (1 ≤ tasks) × (tasks ≤ MOST_TASKS)
+AsksForFew (command.Survey seed tasks) = (1 ≤ tasks) × (tasks ≤ MOST_TASKS)
 
-abbrev FewTasksIf : Option Command → Type 0
-FewTasksIf None = Unit {0}
-FewTasksIf (Some command) = HasFewTasks command
+abbrev FewIf : Option Command → Type 0
+FewIf None = Unit {0}
+FewIf (Some asked) = AsksForFew asked
 
 number_small : (most : ℕ) (word : List ℕ) → (P : Option ℕ → Type 0) → ((n : ℕ) → n ≤ most → P (Some n)) → P None → P (number_upto most word)
 number_small most word P small none = cond_both (bytes_eq word (decimal (number_of word)) && leb (number_of word) most) (Some (number_of word)) None P
     (λ passes. small (number_of word) (leb-true _ _ (both_pass (bytes_eq word (decimal (number_of word))) (leb (number_of word) most) passes).1)) (λ fails. none)
 
-few_of_model : (command : Command) → HasFewTasks command → (words : List (List ℕ)) → FewTasksIf (of_model command words)
-few_of_model command few [] = tt
-few_of_model command few (a ∷ []) = few
-few_of_model command few (a ∷ b ∷ words) = tt
+few_of_model : (asked : Option OfModel) (words : List (List ℕ)) → FewIf (of_model asked words)
+few_of_model None words = tt
+few_of_model (Some asked) [] = tt
+few_of_model (Some asked) (a ∷ []) = tt
+few_of_model (Some asked) (a ∷ b ∷ words) = tt
 
-few_of_simulation : (ticks seed : Option ℕ) → FewTasksIf (simulation ticks seed)
-few_of_simulation None seed = tt
-few_of_simulation (Some ticks) None = tt
-few_of_simulation (Some ticks) (Some seed) = tt
+few_of_simulation : (ticks : ℕ) (seed : Option ℕ) → ticks ≤ MOST_RUN_TICKS → FewIf (simulation (Some ticks) seed)
+few_of_simulation ticks None few = tt
+few_of_simulation ticks (Some seed) few = few
 
-few_of_simulate : (words : List (List ℕ)) → FewTasksIf (simulate_of words)
+none_of_simulation : (seed : Option ℕ) → FewIf (simulation None seed)
+none_of_simulation None = tt
+none_of_simulation (Some seed) = tt
+
+few_of_simulate : (words : List (List ℕ)) → FewIf (simulate_of words)
 few_of_simulate [] = tt
 few_of_simulate (a ∷ []) = tt
 few_of_simulate (a ∷ b ∷ []) = tt
-few_of_simulate (a ∷ b ∷ c ∷ []) = few_of_simulation (number_upto MOST_RUN_TICKS b) (number_upto MOST_SEED c)
+few_of_simulate (a ∷ b ∷ c ∷ []) = number_small MOST_RUN_TICKS b (λ ticks. FewIf (simulation ticks (number_upto MOST_SEED c)))
+    (λ ticks few. few_of_simulation ticks (number_upto MOST_SEED c) few) (none_of_simulation (number_upto MOST_SEED c))
 few_of_simulate (a ∷ b ∷ c ∷ d ∷ words) = tt
 
-few_of_replay : (words : List (List ℕ)) → FewTasksIf (replay_of words)
-few_of_replay [] = tt
-few_of_replay (a ∷ []) = tt
-few_of_replay (a ∷ b ∷ []) = tt
-few_of_replay (a ∷ b ∷ c ∷ words) = tt
+few_of_two_files : (asked : Command) → AsksForFew asked → (words : List (List ℕ)) → FewIf (of_two_files asked words)
+few_of_two_files asked few [] = tt
+few_of_two_files asked few (a ∷ []) = tt
+few_of_two_files asked few (a ∷ b ∷ []) = few
+few_of_two_files asked few (a ∷ b ∷ c ∷ words) = tt
 
-few_of_edit : (words : List (List ℕ)) → FewTasksIf (edit_of words)
-few_of_edit [] = tt
-few_of_edit (a ∷ []) = tt
-few_of_edit (a ∷ b ∷ []) = tt
-few_of_edit (a ∷ b ∷ c ∷ words) = tt
+abbrev drawn_by : (seed tasks : ℕ) → Draw
+drawn_by seed tasks = record { seed = seed; tasks = tasks }
 
-module _ (command : (seed tasks : ℕ) → Command) (each : (seed tasks : ℕ) → 1 ≤ tasks → tasks ≤ MOST_TASKS → HasFewTasks (command seed tasks)) where
-  few_of_generation : (seed : Option ℕ) (tasks : ℕ) → tasks ≤ MOST_TASKS → FewTasksIf (generation command seed (Some tasks))
-  few_of_generation None tasks few = tt
-  few_of_generation (Some seed) tasks few = cond_both (nat_lt 0 tasks) (Some (command seed tasks)) None FewTasksIf
-      (λ some. each seed tasks (ltb-true 0 tasks some) few) (λ none. tt)
+module _ (asked : Draw → Command) (each : (drawn : Draw) → 1 ≤ drawn.tasks → drawn.tasks ≤ MOST_TASKS → AsksForFew (asked drawn)) where
+  few_of_draw : (seed : Option ℕ) (tasks : ℕ) → tasks ≤ MOST_TASKS → FewIf (option_map asked (drawing seed (Some tasks)))
+  few_of_draw None tasks few = tt
+  few_of_draw (Some seed) tasks few = cond_both (nat_lt 0 tasks) (Some (drawn_by seed tasks)) None (λ (drawn : Option Draw). FewIf (option_map asked drawn))
+      (λ some. each (drawn_by seed tasks) (ltb-true 0 tasks some) few) (λ none. tt)
 
-  none_of_generation : (seed : Option ℕ) → FewTasksIf (generation command seed None)
-  none_of_generation None = tt
-  none_of_generation (Some seed) = tt
+  none_of_draw : (seed : Option ℕ) → FewIf (option_map asked (drawing seed None))
+  none_of_draw None = tt
+  none_of_draw (Some seed) = tt
 
-  few_of_generations : (words : List (List ℕ)) → FewTasksIf (generation_of command words)
-  few_of_generations [] = tt
-  few_of_generations (a ∷ []) = tt
-  few_of_generations (a ∷ b ∷ []) = number_small MOST_TASKS b (λ tasks. FewTasksIf (generation command (number_upto MOST_SEED a) tasks))
-      (few_of_generation (number_upto MOST_SEED a)) (none_of_generation (number_upto MOST_SEED a))
-  few_of_generations (a ∷ b ∷ c ∷ words) = tt
+  few_of_draws : (words : List (List ℕ)) → FewIf (option_map asked (draw_of words))
+  few_of_draws [] = tt
+  few_of_draws (a ∷ []) = tt
+  few_of_draws (a ∷ b ∷ []) = number_small MOST_TASKS b (λ tasks. FewIf (option_map asked (drawing (number_upto MOST_SEED a) tasks)))
+      (few_of_draw (number_upto MOST_SEED a)) (none_of_draw (number_upto MOST_SEED a))
+  few_of_draws (a ∷ b ∷ c ∷ words) = tt
 
-few_of_words : (words : List (List ℕ)) → FewTasksIf (command_of words)
+abbrev generate_drawn : Draw → Command
+generate_drawn drawn = command.Generate drawn.seed drawn.tasks
+
+abbrev survey_drawn : Draw → Command
+survey_drawn drawn = command.Survey drawn.seed drawn.tasks
+
+few_of_words : (words : List (List ℕ)) → FewIf (command_of words)
 few_of_words [] = tt
 few_of_words (verb ∷ words) =
-    cond_both (bytes_eq verb (codes "analyse")) (of_model Analyse words) _ FewTasksIf (λ _. few_of_model Analyse tt words) (λ _.
-    cond_both (bytes_eq verb (codes "migrate")) (of_model Migrate words) _ FewTasksIf (λ _. few_of_model Migrate tt words) (λ _.
-    cond_both (bytes_eq verb (codes "simulate")) (simulate_of words) _ FewTasksIf (λ _. few_of_simulate words) (λ _.
-    cond_both (bytes_eq verb (codes "replay")) (replay_of words) _ FewTasksIf (λ _. few_of_replay words) (λ _.
-    cond_both (bytes_eq verb (codes "edit")) (edit_of words) _ FewTasksIf (λ _. few_of_edit words) (λ _.
-    cond_both (bytes_eq verb (codes "cut")) (of_model Cut words) _ FewTasksIf (λ _. few_of_model Cut tt words) (λ _.
-    cond_both (bytes_eq verb (codes "order")) (of_model Order words) _ FewTasksIf (λ _. few_of_model Order tt words) (λ _.
-    cond_both (bytes_eq verb (codes "headroom")) (of_model Headroom words) _ FewTasksIf (λ _. few_of_model Headroom tt words) (λ _.
-    cond_both (bytes_eq verb (codes "generate")) (generation_of Generate words) _ FewTasksIf (λ _. few_of_generations Generate (λ seed tasks some few. (some, few)) words) (λ _.
-    cond_both (bytes_eq verb (codes "survey")) (generation_of Survey words) None FewTasksIf (λ _. few_of_generations Survey (λ seed tasks some few. (some, few)) words) (λ _. tt))))))))))
+    cond_both (bytes_eq verb (codes "simulate")) (simulate_of words) _ FewIf (λ _. few_of_simulate words) (λ _.
+    cond_both (bytes_eq verb (codes "replay")) (of_two_files command.Replay words) _ FewIf (λ _. few_of_two_files command.Replay tt words) (λ _.
+    cond_both (bytes_eq verb (codes "edit")) (of_two_files command.Edit words) _ FewIf (λ _. few_of_two_files command.Edit tt words) (λ _.
+    cond_both (bytes_eq verb (codes "generate")) (option_map generate_drawn (draw_of words)) _ FewIf (λ _. few_of_draws generate_drawn (λ drawn some few. (some, few)) words) (λ _.
+    cond_both (bytes_eq verb (codes "survey")) (option_map survey_drawn (draw_of words)) (of_model (of_verb verb) words) FewIf
+    (λ _. few_of_draws survey_drawn (λ drawn some few. (some, few)) words) (λ _. few_of_model (of_verb verb) words)))))
 
-pub has_few_tasks : (words : List (List ℕ)) (command : Command) → command_of words ≡ Some command → HasFewTasks command
-has_few_tasks words command is = subst FewTasksIf is (few_of_words words)
+pub asks_for_few : (words : List (List ℕ)) (asked : Command) → command_of words ≡ Some asked → AsksForFew asked
+asks_for_few words asked is = subst FewIf is (few_of_words words)
 
 -- ---- what they come to, without a file
 
-module _ (words : List (List ℕ)) (held : List ℕ → Held) (before after longest : List ℕ → ℕ) (seed tasks : ℕ) (found : Outcome) where
-  pub generate_comes : command_of words ≡ Some (Generate seed tasks) → IsMigrated (generated seed tasks) found → ComesTo words held before after longest found
-  generate_comes is_generate is = comes_to words held before after longest (Some (Generate seed tasks)) found is_generate
-      (record { gave = λ _. Unasked; files = tt; follows = is })
+module _ (words : List (List ℕ)) (shelf : ShelfCall) (seed tasks : ℕ) (found : Outcome) where
+  pub generate_comes : command_of words ≡ Some (command.Generate seed tasks) → IsDone (IsTextOf (generated seed tasks)) found → ComesTo words shelf found
+  generate_comes is_generate is = comes_to words shelf (Some (command.Generate seed tasks)) found is_generate
+      (record { gave = λ _. Unasked; files = tt; waits = λ _. tt; follows = is })
 
-  pub survey_comes : command_of words ≡ Some (Survey seed tasks) → IsSurveyed (generated seed tasks) found → ComesTo words held before after longest found
-  survey_comes is_survey is = comes_to words held before after longest (Some (Survey seed tasks)) found is_survey
-      (record { gave = λ _. Unasked; files = tt; follows = is })
+  pub survey_comes : command_of words ≡ Some (command.Survey seed tasks) → IsDone (IsSurveyOf (generated seed tasks)) found → ComesTo words shelf found
+  survey_comes is_survey is = comes_to words shelf (Some (command.Survey seed tasks)) found is_survey
+      (record { gave = λ _. Unasked; files = tt; waits = λ _. tt; follows = is })

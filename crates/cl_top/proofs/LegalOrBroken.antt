@@ -19,7 +19,7 @@ use Rattle.cl_check.specs.declared.run_fault.Rule.{Rule}
 use Rattle.cl_check.specs.declared.run_fault.Rule.TheVariants.{Schedule}
 use Rattle.cl_check.specs.declared.run_fault.RunFault.{RunFault}
 use Rattle.cl_check.specs.declared.run_fault.RunFault.TheVariants.{Illegal, NoMemory}
-use Rattle.cl_check.specs.Legality.{unless, first, are_in_range, arrival_faults, release_faults, time_faults, job_faults, faults_from, faults_of_task, table_faults, IsKept, IsFirstOnCore, BreaksSchedule, IsFirstBroken}
+use Rattle.cl_check.specs.Legality.{fault_unless, first_fault, are_in_range, arrival_faults, release_faults, time_faults, job_faults, faults_from, faults_of_task, table_faults, IsScheduleKept, IsFirstOnCore, BreaksSchedule, IsFirstBroken}
 use Rattle.cl_check.proofs.BrokenRules.{checked_legal}
 
 abbrev Decided : Type 0 → Type 0
@@ -35,7 +35,7 @@ abbrev IsRule : RunFault → Type 0
 IsRule (Illegal rule place tick) = Unit {0}
 IsRule NoMemory = ⊥
 
-unless_rule : (test : Bool) (rule : Rule) (place tick : ℕ) → All IsRule (unless test (Illegal rule place tick))
+unless_rule : (test : Bool) (rule : Rule) (place tick : ℕ) → All IsRule (fault_unless test (Illegal rule place tick))
 unless_rule true rule place tick = All-nil IsRule
 unless_rule false rule place tick = All-cons IsRule (Illegal rule place tick) [] tt (All-nil IsRule)
 
@@ -66,7 +66,7 @@ table_rules system table = flat_rules (faults_of_task system table) (length syst
 
 module _ (system : System) (sound : IsSound system) (run : Run) where
   by_entry : (core tick : ℕ) (e f : Option ℕ) → IsScheduled system run.table (λ task. executed system run task tick) tick core e → f ≡ entry_at run core tick
-      → Decided (IsKept system run core tick)
+      → Decided (IsScheduleKept system run core tick)
   by_entry core tick None None scheduled is = inl (subst (IsScheduled system run.table (λ task. executed system run task tick) tick core) is scheduled)
   by_entry core tick None (Some j) scheduled is = inr (λ kept. differ
       (scheduled_once system sound run.table (λ task. executed system run task tick) tick core None (entry_at run core tick) scheduled kept))
@@ -84,18 +84,18 @@ module _ (system : System) (sound : IsSound system) (run : Run) where
       is_of : Some i ≡ entry_at run core tick → f ≡ Some i
       is_of same = is ∙ sym same
 
-  kept_or_not : (core tick : ℕ) → Decided (IsKept system run core tick)
+  kept_or_not : (core tick : ℕ) → Decided (IsScheduleKept system run core tick)
   kept_or_not core tick =
       let there = scheduled_some system run.table (λ task. executed system run task tick) tick core in
       by_entry core tick there.0 (entry_at run core tick) there.1 refl
 
-  broken_or_not : (core tick : ℕ) → Decided (IsKept system run core tick → ⊥)
+  broken_or_not : (core tick : ℕ) → Decided (IsScheduleKept system run core tick → ⊥)
   broken_or_not core tick = elim (kept_or_not core tick) [
     | inl kept ↦ inr (λ not. not kept)
     | inr not ↦ inl not
   ]
 
-  kept_unless : (core tick : ℕ) → ((IsKept system run core tick → ⊥) → ⊥) → IsKept system run core tick
+  kept_unless : (core tick : ℕ) → ((IsScheduleKept system run core tick → ⊥) → ⊥) → IsScheduleKept system run core tick
   kept_unless core tick none = elim (kept_or_not core tick) [
     | inl kept ↦ kept
     | inr not ↦ absurd (none not)
@@ -104,11 +104,11 @@ module _ (system : System) (sound : IsSound system) (run : Run) where
   abbrev BreaksAt : (core : ℕ) → Type 0
   BreaksAt core = (tick : ℕ) × IsFirstOnCore system run core tick
 
-  core_or_not : (core : ℕ) → BreaksAt core ⊎ ((t : ℕ) → t < run.table.ticks → IsKept system run core t)
-  core_or_not core = by_first (first_or_none (λ t. IsKept system run core t → ⊥) (broken_or_not core) run.table.ticks)
+  core_or_not : (core : ℕ) → BreaksAt core ⊎ ((t : ℕ) → t < run.table.ticks → IsScheduleKept system run core t)
+  core_or_not core = by_first (first_or_none (λ t. IsScheduleKept system run core t → ⊥) (broken_or_not core) run.table.ticks)
     where
-      by_first : ((t : ℕ) × IsFirst (λ u. IsKept system run core u → ⊥) run.table.ticks t) ⊎ ((t : ℕ) → t < run.table.ticks → (IsKept system run core t → ⊥) → ⊥)
-          → BreaksAt core ⊎ ((t : ℕ) → t < run.table.ticks → IsKept system run core t)
+      by_first : ((t : ℕ) × IsFirst (λ u. IsScheduleKept system run core u → ⊥) run.table.ticks t) ⊎ ((t : ℕ) → t < run.table.ticks → (IsScheduleKept system run core t → ⊥) → ⊥)
+          → BreaksAt core ⊎ ((t : ℕ) → t < run.table.ticks → IsScheduleKept system run core t)
       by_first (inl found) = inl (
         found.0,
         record {
@@ -125,19 +125,19 @@ module _ (system : System) (sound : IsSound system) (run : Run) where
     | inr kept ↦ inr (λ breaks. breaks.1.broken (kept breaks.0 breaks.1.is_tick))
   ]
 
-  kept_core : (core : ℕ) → (BreaksAt core → ⊥) → (t : ℕ) → t < run.table.ticks → IsKept system run core t
+  kept_core : (core : ℕ) → (BreaksAt core → ⊥) → (t : ℕ) → t < run.table.ticks → IsScheduleKept system run core t
   kept_core core none = elim (core_or_not core) [
     | inl breaks ↦ absurd (none breaks)
     | inr kept ↦ kept
   ]
 
   schedule_or_not : ((core : ℕ) × (tick : ℕ) × BreaksSchedule system run (Illegal Schedule core tick))
-      ⊎ ((core t : ℕ) → core < system.cores → t < run.table.ticks → IsKept system run core t)
+      ⊎ ((core t : ℕ) → core < system.cores → t < run.table.ticks → IsScheduleKept system run core t)
   schedule_or_not = by_first (first_or_none BreaksAt core_decided system.cores)
     where
       by_first : ((core : ℕ) × IsFirst BreaksAt system.cores core) ⊎ ((core : ℕ) → core < system.cores → BreaksAt core → ⊥)
           → ((core : ℕ) × (tick : ℕ) × BreaksSchedule system run (Illegal Schedule core tick))
-          ⊎ ((core t : ℕ) → core < system.cores → t < run.table.ticks → IsKept system run core t)
+          ⊎ ((core t : ℕ) → core < system.cores → t < run.table.ticks → IsScheduleKept system run core t)
       by_first (inl found) = inl (
         found.0,
         found.1.holds.0,
@@ -155,12 +155,12 @@ module _ (system : System) (sound : IsSound system) (run : Run) where
     where
       by_faults : (faults : List RunFault) → table_faults system run.table ≡ faults → All IsRule faults
           → ((core : ℕ) × (tick : ℕ) × BreaksSchedule system run (Illegal Schedule core tick))
-          ⊎ ((core t : ℕ) → core < system.cores → t < run.table.ticks → IsKept system run core t)
+          ⊎ ((core t : ℕ) → core < system.cores → t < run.table.ticks → IsScheduleKept system run core t)
           → IsLegal system run ⊎ IsBroken system run
       by_faults [] none rules (inl breaks) = inr (Schedule, breaks.0, breaks.1, inr (none, breaks.2))
       by_faults [] none rules (inr kept) = inl (checked_legal system run in_form none kept)
       by_faults (Illegal rule place tick ∷ faults) is rules schedule = inr (rule, place, tick, inl (first_of is))
         where
-          first_of : table_faults system run.table ≡ Illegal rule place tick ∷ faults → first (table_faults system run.table) ≡ Some (Illegal rule place tick)
-          first_of same = ap first same
+          first_of : table_faults system run.table ≡ Illegal rule place tick ∷ faults → first_fault (table_faults system run.table) ≡ Some (Illegal rule place tick)
+          first_of same = ap first_fault same
       by_faults (NoMemory ∷ faults) is rules schedule = absurd (All-head IsRule NoMemory faults rules)

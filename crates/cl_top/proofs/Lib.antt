@@ -1,11 +1,16 @@
+pub mod Accepted
 pub mod Openings
 pub mod Comings
 pub mod Endings
 pub mod Tellings
 pub mod OneOutcome
 pub mod OneFile
+pub mod ModelAnswers
 pub mod SafeReport
+pub mod SafeTexts
+pub mod Starts
 pub mod AnalysedAlike
+pub mod TwoCalls
 pub mod TwoFiles
 pub mod OfReplay
 pub mod OfEdit
@@ -14,6 +19,7 @@ pub mod EditSteps
 pub mod ReportLines
 pub mod ReplaysOfRuns
 pub mod Numbers
+pub mod Verbs
 pub mod Simulations
 pub mod Generations
 pub mod CountedExecutions

@@ -1,11 +1,9 @@
 -- What `replay` comes to.
 use Rattle.std.proofs.Common.{◌≡◌, ℕ, ◌≤◌, inl, inr, List, Some, [], length, get_or, None, Ok, refl, sym, ap, ◌∙◌, subst, ◌+◌, arith}
-use Rattle.std.specs.Prelude.{Contains}
 use Rattle.std.specs.List.{slice_get}
 use Rattle.std.proofs.Math.ListN.{length-map}
 use Rattle.std.proofs.lemmas.List.{get_or_past}
 use Rattle.std.proofs.lemmas.Option.{slice_get_cases}
-use Rattle.cl_io.specs.Shelf.{Held}
 use Rattle.cl_model.specs.declared.model.SystemModel.{SystemModel}
 use Rattle.cl_model.specs.declared.model.CoreDef.{CoreDef}
 use Rattle.cl_model.specs.declared.task.TaskDef.{TaskDef}
@@ -13,21 +11,24 @@ use Rattle.cl_model.specs.ByNumber.{no_task, task_at}
 use Rattle.cl_model.specs.Named.{core_names}
 use Rattle.cl_model.specs.Reading.{model_of}
 use Rattle.cl_top.specs.declared.command.Command.TheVariants.{Replay}
+use Rattle.cl_top.specs.declared.opening.TheConstants.{TRACE_LIMIT}
 use Rattle.cl_top.specs.declared.outcome.Outcome.{Outcome}
-use Rattle.cl_top.specs.Command.{model_file, trace_file, files_of}
 use Rattle.cl_top.specs.Commands.Replay.{IsOfTrace}
-use Rattle.cl_top.specs.Outcome.{ReadsTo, OpensFile}
-use Rattle.cl_top.specs.Run.{ComesAs}
-use Rattle.cl_top.specs.Steps.{model_steps, AreFewSteps}
-use Rattle.cl_top.proofs.Comings.{Cause, OfContent, IsOfContent, file_cause, read_cause}
+use Rattle.cl_top.specs.OfModel.{model_steps}
+use Rattle.cl_top.specs.Steps.{AreFewSteps}
+use Rattle.cl_top.proofs.Comings.{IsOfContent}
+use Rattle.cl_top.proofs.TwoFiles.{IsOfTwo}
+
+six_content : (found : Outcome) → found.status ≡ 6 → IsOfContent found.status
+six_content found six = inr (inl (omega (arith, six), omega (arith, six)))
 
 -- a replay is of content
 replayed_content : (model : SystemModel) (text : List ℕ) (found : Outcome) → IsOfTrace model text found → IsOfContent found.status
 replayed_content model text found (inl has) = elim has.of_run [
-  | inl replayed ↦ inl replayed.done
-  | inr illegal ↦ let six : found.status ≡ 6 = ap (λ (o : Outcome). o.status) illegal.printed in inr (omega (arith, six), omega (arith, six))
+  | inl replayed ↦ inl replayed.outcome.status_is
+  | inr illegal ↦ six_content found (ap (λ (o : Outcome). o.status) illegal.printed)
 ]
-replayed_content model text found (inr bad) = let six : found.status ≡ 6 = ap (λ (o : Outcome). o.status) bad.printed in inr (omega (arith, six), omega (arith, six))
+replayed_content model text found (inr bad) = six_content found (ap (λ (o : Outcome). o.status) bad.printed)
 
 -- the name of a task or a core past the last one
 none_at : {X : Type 0} (xs : List X) (i : ℕ) → None ≡ slice_get xs i → length xs ≤ i
@@ -48,27 +49,10 @@ no_core_name model i none =
     let past : length (core_names model) ≤ i = omega (arith, none_at model.cores i none, length-map model.cores (λ (core : CoreDef). core.name)) in
     sym (get_or_past (core_names model) i [] past)
 
-pub model_to_replay : Contains (files_of (Some Replay)) (model_file 1)
-model_to_replay = (0, omega arith, refl)
+pub of_replay : IsOfTwo Replay TRACE_LIMIT IsOfTrace
+of_replay = record { files = refl; has = λ gave found is. is; opens = λ gave found is. is; content = replayed_content }
 
-pub trace_to_replay : Contains (files_of (Some Replay)) (trace_file 2)
-trace_to_replay = (1, omega arith, refl)
-
--- ---- its causes
-
-module _ (words : List (List ℕ)) (held : List ℕ → Held) (before after longest : List ℕ → ℕ) where
-  pub replay_cause : (found : Outcome) → ComesAs (Some Replay) words held before after longest found → Cause words held before after longest (Some Replay) found
-  replay_cause found comes =
-      file_cause words held before after longest (Some Replay) found (model_file 1) model_to_replay comes.gave
-      (λ bytes. ReadsTo (model_of bytes) (λ model. OpensFile (trace_file 2) comes.gave (IsOfTrace model)))
-      (λ bytes. read_cause words held before after longest (Some Replay) found (λ model. OpensFile (trace_file 2) comes.gave (IsOfTrace model))
-      (λ model. file_cause words held before after longest (Some Replay) found (trace_file 2) trace_to_replay comes.gave (IsOfTrace model)
-      (λ text is. OfContent (replayed_content model text found is)) comes.files.1.0)
-      (model_of bytes))
-      comes.files.0 comes.follows
-
--- ---- its steps
-
+-- its steps
 pub few_of_replay : (contents : ℕ → List ℕ) (model : SystemModel) (before after : ℕ) → model_of (contents 1) ≡ Ok model → after ≤ before + model_steps (Ok model)
     → AreFewSteps (Some Replay) contents before after
 few_of_replay contents model before after means few = subst (λ read. after ≤ before + model_steps read) (sym means) few

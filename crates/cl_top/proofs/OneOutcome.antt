@@ -5,17 +5,15 @@ use Rattle.cl_model.specs.AreNamed.{AreNamed}
 use Rattle.cl_model.specs.declared.refusal.Refusal.{Refusal}
 use Rattle.cl_model.specs.Reading.{model_of}
 use Rattle.cl_model.specs.Validity.{refusal_of, IsValid}
-use Rattle.cl_analyse.proofs.SomeFindings.{some_findings}
-use Rattle.cl_report.specs.Report.{report_text}
-use Rattle.cl_report.proofs.OneReport.{one_report}
-use Rattle.cl_report.specs.Survey.{survey_text}
-use Rattle.cl_report.proofs.OneSurvey.{one_survey}
+use Rattle.cl_model.proofs.ReadModels.{read_named}
 use Rattle.cl_model.specs.declared.limits.TheConstants.{MOST_TASKS}
+use Rattle.cl_analyse.proofs.SomeFindings.{some_findings}
+use Rattle.cl_report.specs.Survey.{survey_text, IsSurveyOf}
+use Rattle.cl_report.proofs.OneSurvey.{one_survey}
 use Rattle.cl_gen.specs.Words.{word_of}
 use Rattle.cl_gen.specs.Generated.{generated}
 use Rattle.cl_gen.proofs.GeneratedRanges.{are_named}
 use Rattle.cl_gen.proofs.ValidGenerated.{words_valid}
-use Rattle.cl_designs.proofs.OneText.{some_cut_text, some_order_text, some_headroom_text, one_cut_text, one_order_text, one_headroom_text}
 use Rattle.cl_runs.specs.Legal.{IsLegal}
 use Rattle.cl_runs.specs.Run.{Run}
 use Rattle.cl_runs.specs.SystemOf.{system_of}
@@ -25,30 +23,31 @@ use Rattle.cl_trace.specs.Rules.{IsTraceOf}
 use Rattle.cl_trace.proofs.OneReading.{bad_once}
 use Rattle.cl_trace.proofs.OneTrace.{one_run, no_bad_line}
 use Rattle.cl_trace.proofs.SomeAnswer.{HasAnswer, some_answer}
-use Rattle.cl_top.specs.declared.command.Command.{Command}
-use Rattle.cl_top.specs.declared.command.Command.TheVariants.{Analyse, Migrate, Simulate, Replay, Edit, Cut, Order, Headroom, Generate, Survey}
-use Rattle.cl_model.proofs.ReadModels.{read_in_range, read_named}
+use Rattle.cl_write.specs.Texts.{IsTextOf}
 use Rattle.cl_write.proofs.SomeTexts.{some_text}
+use Rattle.cl_top.specs.declared.command.Command.{Command}
+use Rattle.cl_top.specs.declared.command.Command.TheVariants as command
+use Rattle.cl_top.specs.declared.opening.TheConstants.{FILE_LIMIT, TRACE_LIMIT}
 use Rattle.cl_top.specs.declared.outcome.Outcome.{Outcome}
-use Rattle.cl_top.specs.Command.{File, model_file, trace_file, edits_file, command_of}
 use Rattle.cl_top.specs.declared.status.TheConstants.{DONE}
-use Rattle.cl_top.specs.Commands.Analyse.{IsAnalysed}
+use Rattle.cl_top.specs.Command.{File, model_file, command_of}
 use Rattle.cl_top.specs.Commands.Edit.{IsOfEdits}
-use Rattle.cl_top.specs.Commands.Migrate.{IsMigrated, MigratesTheSame}
 use Rattle.cl_top.specs.Commands.Replay.{trace_refused, trace_illegal, IsOfRun, IsOfTrace}
 use Rattle.cl_top.specs.Commands.Simulate.{IsSimulated}
-use Rattle.cl_top.specs.Commands.Cut.{IsCutOutcome}
-use Rattle.cl_top.specs.Commands.Order.{IsOrderOutcome}
-use Rattle.cl_top.specs.Commands.Headroom.{IsHeadroomOutcome}
-use Rattle.cl_top.specs.Commands.Survey.{IsSurveyed}
-use Rattle.cl_top.proofs.Generations.{has_few_tasks}
-use Rattle.cl_top.proofs.Simulations.{simulated_some, simulated_once}
+use Rattle.cl_top.specs.Done.{IsDone}
 use Rattle.cl_top.specs.Files.{Fetched, Unasked, Bytes, Fault, TooLong, EachFile, WasFetched}
-use Rattle.cl_top.specs.Outcome.{words_refused, read_fault, long_file, model_refused, ValidatesTo, ReadsTo, OpensTo, OpensFile, HasOutcome, SaysTheSame}
-use Rattle.cl_top.proofs.LegalOrBroken.{IsBroken, legal_or_broken}
+use Rattle.cl_top.specs.OfModel.{IsAnswer, AnswersTheSame}
+use Rattle.cl_top.specs.Outcome.{words_refused, read_fault, long_file, model_refused, ValidatesTo, ReadsTo, OpensTo, HasOutcome, SaysTheSame}
 use Rattle.cl_top.proofs.EditsOnce.{some_edits, one_edited}
+use Rattle.cl_top.proofs.Generations.{asks_for_few}
+use Rattle.cl_top.proofs.LegalOrBroken.{IsBroken, legal_or_broken}
+use Rattle.cl_top.proofs.OfEdit.{of_edit}
+use Rattle.cl_top.proofs.ModelAnswers.{HasAnswers, has_answers, done_some, done_once}
+use Rattle.cl_top.proofs.OfReplay.{of_replay}
 use Rattle.cl_top.proofs.Openings.{valid_read}
 use Rattle.cl_top.proofs.ReplaysOfRuns.{of_run_once}
+use Rattle.cl_top.proofs.Simulations.{simulated_some, simulated_once}
+use Rattle.cl_top.proofs.TwoFiles.{IsOfTwo, OfSecond, second_file, of_each}
 
 -- ---- there is an outcome
 
@@ -70,44 +69,16 @@ module _ (next : SystemModel → Outcome → Type 0) (some : (bytes : List ℕ) 
   opened_some place TooLong fetched = (long_file place, refl)
   opened_some place (Bytes bytes) fetched = read_some bytes (model_of bytes) refl
 
--- a valid model has a report
-some_analysis : (model : SystemModel) → IsValid model → SomeOutcome (IsAnalysed model)
-some_analysis model valid =
-    let (findings, found) = some_findings model valid in
-    (record { status = DONE; text = report_text model findings }, record { done = refl; report = record { findings = findings; found = found; printed = refl } })
-
--- and best cuts, best orders and headroom
-some_cuts : (model : SystemModel) → IsValid model → SomeOutcome (IsCutOutcome model)
-some_cuts model valid =
-    let text = some_cut_text model valid in
-    (record { status = DONE; text = text.0 }, record { done = refl; cuts = text.1 })
-
-some_orders : (model : SystemModel) → IsValid model → SomeOutcome (IsOrderOutcome model)
-some_orders model valid =
-    let text = some_order_text model valid in
-    (record { status = DONE; text = text.0 }, record { done = refl; orders = text.1 })
-
-some_headroom : (model : SystemModel) → IsValid model → SomeOutcome (IsHeadroomOutcome model)
-some_headroom model valid =
-    let text = some_headroom_text model valid in
-    (record { status = DONE; text = text.0 }, record { done = refl; headroom = text.1 })
-
--- a model that is read has a text
-migrated_some : (bytes : List ℕ) (model : SystemModel) → model_of bytes ≡ Ok model → refusal_of model ≡ None → SomeOutcome (IsMigrated model)
-migrated_some bytes model means none =
-    let text = some_text model (read_in_range bytes model means) (read_named bytes model means) in
-    (record { status = DONE; text = text.0 }, record { done = refl; text = text.1 })
-
 -- a generated model has a text and a survey
-generated_some : (seed tasks : ℕ) → tasks ≤ MOST_TASKS → SomeOutcome (IsMigrated (generated seed tasks))
+generated_some : (seed tasks : ℕ) → tasks ≤ MOST_TASKS → SomeOutcome (IsDone (IsTextOf (generated seed tasks)))
 generated_some seed tasks few =
     let text = some_text (generated seed tasks) (words_valid (word_of seed) tasks few).in_range (are_named (word_of seed) tasks few) in
-    (record { status = DONE; text = text.0 }, record { done = refl; text = text.1 })
+    (record { status = DONE; text = text.0 }, record { status_is = refl; text_is = text.1 })
 
-surveyed_some : (seed tasks : ℕ) → tasks ≤ MOST_TASKS → SomeOutcome (IsSurveyed (generated seed tasks))
+surveyed_some : (seed tasks : ℕ) → tasks ≤ MOST_TASKS → SomeOutcome (IsDone (IsSurveyOf (generated seed tasks)))
 surveyed_some seed tasks few =
     let (findings, found) = some_findings (generated seed tasks) (words_valid (word_of seed) tasks few) in
-    (record { status = DONE; text = survey_text findings }, record { done = refl; survey = record { findings = findings; found = found; printed = refl } })
+    (record { status = DONE; text = survey_text findings }, record { status_is = refl; text_is = record { findings = findings; found = found; printed = refl } })
 
 -- a run has a replay, or breaks a rule
 run_some : (model : SystemModel) → IsValid model → (text : List ℕ) (run : Run) → IsTraceOf model text run → SomeOutcome (IsOfTrace model text)
@@ -117,7 +88,7 @@ run_some model valid text run trace = by_rule (legal_or_broken (system_of model)
     by_rule (inl legal) =
         let replay = some_replay model valid run in (
           record { status = DONE; text = replay.0 },
-          inl (record { run = run; trace = trace; of_run = inl (record { legal = legal; done = refl; replay = replay.1 }) }),
+          inl (record { run = run; trace = trace; of_run = inl (record { legal = legal; outcome = record { status_is = refl; text_is = replay.1 } }) }),
         )
     by_rule (inr broken) = (
       trace_illegal model broken.0 broken.1 broken.2,
@@ -133,7 +104,7 @@ trace_some model valid named text = by_answer (some_answer model valid named tex
     by_answer (inr bad) = (trace_refused bad.0, inr (record { number = bad.0; bad = bad.1; printed = refl }))
 
 -- the text of a second file has an outcome
-module _ (OfText : SystemModel → (text : List ℕ) → Outcome → Type 0)
+module _ (asked : Command) (limit : ℕ) (OfText : SystemModel → (text : List ℕ) → Outcome → Type 0) (of : IsOfTwo asked limit OfText)
     (some : (model : SystemModel) → IsValid model → AreNamed model → (text : List ℕ) → SomeOutcome (OfText model text)) where
   text_some : (model : SystemModel) → IsValid model → AreNamed model → (fetch : Fetched) → WasFetched fetch → SomeOutcome (OpensTo 2 fetch (OfText model))
   text_some model valid named Unasked fetched = absurd fetched
@@ -141,24 +112,25 @@ module _ (OfText : SystemModel → (text : List ℕ) → Outcome → Type 0)
   text_some model valid named TooLong fetched = (long_file 2, refl)
   text_some model valid named (Bytes text) fetched = some model valid named text
 
-has_outcome : (words : List (List ℕ)) (command : Option Command) → command_of words ≡ command → (gave : File → Fetched)
-    → EachFile command (λ file. WasFetched (gave file)) → SomeOutcome (HasOutcome command gave)
+  two_some : (gave : File → Fetched) → EachFile (Some asked) (λ file. WasFetched (gave file)) → SomeOutcome (HasOutcome (Some asked) gave)
+  two_some gave fetched =
+      let each = of_each asked limit OfText of _ fetched in
+      let found = opened_some (OfSecond limit OfText gave)
+      (λ bytes model means none. text_some model (valid_read bytes model means none) (read_named bytes model means) (gave (second_file limit)) each.1.0)
+      1 (gave (model_file 1)) each.0 in
+      (found.0, of.has gave found.0 found.1)
+
+has_outcome : (words : List (List ℕ)) (asked : Option Command) → command_of words ≡ asked → (gave : File → Fetched)
+    → EachFile asked (λ file. WasFetched (gave file)) → SomeOutcome (HasOutcome asked gave)
 has_outcome words None is gave fetched = (words_refused, refl)
-has_outcome words (Some Analyse) is gave fetched = opened_some IsAnalysed (λ bytes model means none. some_analysis model (valid_read bytes model means none)) 1 (gave (model_file 1)) fetched.0
-has_outcome words (Some Migrate) is gave fetched = opened_some IsMigrated migrated_some 1 (gave (model_file 1)) fetched.0
-has_outcome words (Some (Simulate ticks seed)) is gave fetched =
+has_outcome words (Some (command.OfModel asked)) is gave fetched =
+    opened_some (IsAnswer asked) (λ bytes model means none. (has_answers asked).some bytes model means (valid_read bytes model means none)) 1 (gave (model_file 1)) fetched.0
+has_outcome words (Some (command.Simulate ticks seed)) is gave fetched =
     opened_some (IsSimulated ticks seed) (λ bytes model means none. simulated_some ticks seed model (valid_read bytes model means none)) 1 (gave (model_file 1)) fetched.0
-has_outcome words (Some Replay) is gave fetched = opened_some (λ model. OpensFile (trace_file 2) gave (IsOfTrace model))
-    (λ bytes model means none. text_some IsOfTrace trace_some model (valid_read bytes model means none) (read_named bytes model means) (gave (trace_file 2)) fetched.1.0)
-    1 (gave (model_file 1)) fetched.0
-has_outcome words (Some Edit) is gave fetched = opened_some (λ model. OpensFile (edits_file 2) gave (IsOfEdits model))
-    (λ bytes model means none. text_some IsOfEdits some_edits model (valid_read bytes model means none) (read_named bytes model means) (gave (edits_file 2)) fetched.1.0)
-    1 (gave (model_file 1)) fetched.0
-has_outcome words (Some Cut) is gave fetched = opened_some IsCutOutcome (λ bytes model means none. some_cuts model (valid_read bytes model means none)) 1 (gave (model_file 1)) fetched.0
-has_outcome words (Some Order) is gave fetched = opened_some IsOrderOutcome (λ bytes model means none. some_orders model (valid_read bytes model means none)) 1 (gave (model_file 1)) fetched.0
-has_outcome words (Some Headroom) is gave fetched = opened_some IsHeadroomOutcome (λ bytes model means none. some_headroom model (valid_read bytes model means none)) 1 (gave (model_file 1)) fetched.0
-has_outcome words (Some (Generate seed tasks)) is gave fetched = generated_some seed tasks (has_few_tasks words (Generate seed tasks) is).1
-has_outcome words (Some (Survey seed tasks)) is gave fetched = surveyed_some seed tasks (has_few_tasks words (Survey seed tasks) is).1
+has_outcome words (Some command.Replay) is gave fetched = two_some command.Replay TRACE_LIMIT IsOfTrace of_replay trace_some gave fetched
+has_outcome words (Some command.Edit) is gave fetched = two_some command.Edit FILE_LIMIT IsOfEdits of_edit some_edits gave fetched
+has_outcome words (Some (command.Generate seed tasks)) is gave fetched = generated_some seed tasks (asks_for_few words (command.Generate seed tasks) is).1
+has_outcome words (Some (command.Survey seed tasks)) is gave fetched = surveyed_some seed tasks (asks_for_few words (command.Survey seed tasks) is).1
 
 -- words whose files were all fetched have an outcome
 pub some_outcome : (words : List (List ℕ)) (gave : File → Fetched) → EachFile (command_of words) (λ file. WasFetched (gave file)) → SomeOutcome (HasOutcome (command_of words) gave)
@@ -182,32 +154,6 @@ module _ (next : SystemModel → Outcome → Type 0) (Same : Outcome → Outcome
   opened_same place TooLong h k = equal (h ∙ sym k)
   opened_same place (Bytes bytes) h k = read_same bytes (model_of bytes) refl h k
 
--- a model has one report
-same_parts : (one other : Outcome) → one.status ≡ other.status → one.text ≡ other.text → one ≡ other
-same_parts one other status text = λ i. record { status = status i; text = text i }
-
-one_analysis : (model : SystemModel) (one other : Outcome) → IsAnalysed model one → IsAnalysed model other → one ≡ other
-one_analysis model one other first second =
-    same_parts one other (first.done ∙ sym second.done) (one_report model one.text other.text first.report second.report)
-
--- and one text of its best cuts, of its best orders and of its headroom
-one_cuts : (model : SystemModel) → (one other : Outcome) → IsCutOutcome model one → IsCutOutcome model other → one ≡ other
-one_cuts model one other first second =
-    same_parts one other (first.done ∙ sym second.done) (one_cut_text model one.text other.text first.cuts second.cuts)
-
-one_orders : (model : SystemModel) → IsValid model → (one other : Outcome) → IsOrderOutcome model one → IsOrderOutcome model other → one ≡ other
-one_orders model valid one other first second =
-    same_parts one other (first.done ∙ sym second.done) (one_order_text model valid one.text other.text first.orders second.orders)
-
-one_headroom : (model : SystemModel) → IsValid model → (one other : Outcome) → IsHeadroomOutcome model one → IsHeadroomOutcome model other → one ≡ other
-one_headroom model valid one other first second =
-    same_parts one other (first.done ∙ sym second.done) (one_headroom_text model valid one.text other.text first.headroom second.headroom)
-
--- a model has one survey
-one_surveyed : (model : SystemModel) (one other : Outcome) → IsSurveyed model one → IsSurveyed model other → one ≡ other
-one_surveyed model one other first second =
-    same_parts one other (first.done ∙ sym second.done) (one_survey model one.text other.text first.survey second.survey)
-
 -- a text of a trace has one outcome
 one_traced : (model : SystemModel) → IsValid model → AreNamed model → (text : List ℕ) (one other : Outcome) → IsOfTrace model text one → IsOfTrace model text other → one ≡ other
 one_traced model valid named text one other (inl first) (inl second) = of_run_once model second.run one other
@@ -218,7 +164,7 @@ one_traced model valid named text one other (inr first) (inr second) =
     first.printed ∙ ap trace_refused (bad_once model valid named text first.number second.number first.bad second.bad) ∙ sym second.printed
 
 -- the text of a second file has but one outcome
-module _ (OfText : SystemModel → (text : List ℕ) → Outcome → Type 0)
+module _ (asked : Command) (limit : ℕ) (OfText : SystemModel → (text : List ℕ) → Outcome → Type 0) (of : IsOfTwo asked limit OfText)
     (once : (model : SystemModel) → IsValid model → AreNamed model → (text : List ℕ) (one other : Outcome) → OfText model text one → OfText model text other → one ≡ other) where
   same_text : (model : SystemModel) → IsValid model → AreNamed model → (one other : Outcome) (fetch : Fetched) → OpensTo 2 fetch (OfText model) one → OpensTo 2 fetch (OfText model) other → one ≡ other
   same_text model valid named one other Unasked h k = absurd h
@@ -226,28 +172,25 @@ module _ (OfText : SystemModel → (text : List ℕ) → Outcome → Type 0)
   same_text model valid named one other TooLong h k = h ∙ sym k
   same_text model valid named one other (Bytes text) h k = once model valid named text one other h k
 
-says_the_same : (command : Option Command) (gave : File → Fetched) (one other : Outcome) → HasOutcome command gave one → HasOutcome command gave other → SaysTheSame command one other
+  two_same : (gave : File → Fetched) (one other : Outcome) → HasOutcome (Some asked) gave one → HasOutcome (Some asked) gave other → one ≡ other
+  two_same gave one other h k =
+      opened_same (OfSecond limit OfText gave) (λ a b. a ≡ b) one other (λ is. is)
+      (λ bytes model means none m n. same_text model (valid_read bytes model means none) (read_named bytes model means) one other (gave (second_file limit)) m n)
+      1 (gave (model_file 1)) (of.opens gave one h) (of.opens gave other k)
+
+says_the_same : (asked : Option Command) (gave : File → Fetched) (one other : Outcome) → HasOutcome asked gave one → HasOutcome asked gave other → SaysTheSame asked one other
 says_the_same None gave one other h k = h ∙ sym k
-says_the_same (Some Analyse) gave one other h k =
-    opened_same IsAnalysed (λ a b. a ≡ b) one other (λ is. is) (λ bytes model means none m n. one_analysis model one other m n) 1 (gave (model_file 1)) h k
-says_the_same (Some Migrate) gave one other h k =
-    opened_same IsMigrated MigratesTheSame one other (λ is. inl is) (λ bytes model means none m n. inr (model, m, n)) 1 (gave (model_file 1)) h k
-says_the_same (Some (Simulate ticks seed)) gave one other h k =
-    opened_same (IsSimulated ticks seed) (λ a b. a ≡ b) one other (λ is. is) (λ bytes model means none m n. simulated_once ticks seed model (valid_read bytes model means none) one other m n) 1 (gave (model_file 1)) h k
-says_the_same (Some Replay) gave one other h k =
-    opened_same (λ model. OpensFile (trace_file 2) gave (IsOfTrace model)) (λ a b. a ≡ b) one other (λ is. is)
-    (λ bytes model means none m n. same_text IsOfTrace one_traced model (valid_read bytes model means none) (read_named bytes model means) one other (gave (trace_file 2)) m n) 1 (gave (model_file 1)) h k
-says_the_same (Some Edit) gave one other h k =
-    opened_same (λ model. OpensFile (edits_file 2) gave (IsOfEdits model)) (λ a b. a ≡ b) one other (λ is. is)
-    (λ bytes model means none m n. same_text IsOfEdits one_edited model (valid_read bytes model means none) (read_named bytes model means) one other (gave (edits_file 2)) m n) 1 (gave (model_file 1)) h k
-says_the_same (Some Cut) gave one other h k =
-    opened_same IsCutOutcome (λ a b. a ≡ b) one other (λ is. is) (λ bytes model means none m n. one_cuts model one other m n) 1 (gave (model_file 1)) h k
-says_the_same (Some Order) gave one other h k =
-    opened_same IsOrderOutcome (λ a b. a ≡ b) one other (λ is. is) (λ bytes model means none m n. one_orders model (valid_read bytes model means none) one other m n) 1 (gave (model_file 1)) h k
-says_the_same (Some Headroom) gave one other h k =
-    opened_same IsHeadroomOutcome (λ a b. a ≡ b) one other (λ is. is) (λ bytes model means none m n. one_headroom model (valid_read bytes model means none) one other m n) 1 (gave (model_file 1)) h k
-says_the_same (Some (Generate seed tasks)) gave one other h k = inr (generated seed tasks, h, k)
-says_the_same (Some (Survey seed tasks)) gave one other h k = one_surveyed (generated seed tasks) one other h k
+says_the_same (Some (command.OfModel asked)) gave one other h k =
+    opened_same (IsAnswer asked) (AnswersTheSame asked) one other ((has_answers asked).equal one other)
+    (λ bytes model means none m n. (has_answers asked).same model (valid_read bytes model means none) one other m n) 1 (gave (model_file 1)) h k
+says_the_same (Some (command.Simulate ticks seed)) gave one other h k =
+    opened_same (IsSimulated ticks seed) (λ a b. a ≡ b) one other (λ is. is)
+    (λ bytes model means none m n. simulated_once ticks seed model (valid_read bytes model means none) one other m n) 1 (gave (model_file 1)) h k
+says_the_same (Some command.Replay) gave one other h k = two_same command.Replay TRACE_LIMIT IsOfTrace of_replay one_traced gave one other h k
+says_the_same (Some command.Edit) gave one other h k = two_same command.Edit FILE_LIMIT IsOfEdits of_edit one_edited gave one other h k
+says_the_same (Some (command.Generate seed tasks)) gave one other h k = inr (generated seed tasks, h, k)
+says_the_same (Some (command.Survey seed tasks)) gave one other h k =
+    done_once (IsSurveyOf (generated seed tasks)) (one_survey (generated seed tasks)) one other h k
 
 -- two outcomes of the same words say the same
 pub same_outcome : (words : List (List ℕ)) (gave : File → Fetched) (one other : Outcome) → HasOutcome (command_of words) gave one → HasOutcome (command_of words) gave other → SaysTheSame (command_of words) one other

@@ -1,23 +1,20 @@
 -- The opening of a file and of a model, whatever comes next.
-use Rattle.std.proofs.Common.{◌≡◌, ◌⊎◌, ℕ, inl, inr, List, [], ◌∷◌, Option, Some, None, Result, Ok, Err, refl, sym, ap, ◌∙◌, subst}
+use Rattle.std.proofs.Common.{◌≡◌, ◌⊎◌, ℕ, inl, inr, List, Option, Some, None, Result, Ok, Err, refl, sym, ap, ◌∙◌, subst}
 use Rattle.cl_model.specs.declared.model.SystemModel.{SystemModel}
 use Rattle.cl_model.specs.declared.refusal.Refusal.{Refusal}
 use Rattle.cl_model.specs.Reading.{model_of}
-use Rattle.cl_model.specs.Refusals.{first}
 use Rattle.cl_model.specs.Validity.{refusals_of, refusal_of, IsValid}
 use Rattle.cl_model.proofs.ReadModels.{read_in_range}
+use Rattle.cl_model.proofs.Refused.{none_refused}
 use Rattle.cl_top.specs.declared.outcome.Outcome.{Outcome}
 use Rattle.cl_top.specs.declared.opening.Opened.TheVariants as opened
-use Rattle.cl_io.specs.Shelf.{Content}
-use Rattle.cl_top.specs.Files.{Fetched, Unasked, Bytes, Fault, TooLong, MayGive}
+use Rattle.cl_io.specs.Shelf.{Held, Content, MayBe}
+use Rattle.cl_top.specs.Calls.{ShelfCall}
+use Rattle.cl_top.specs.Files.{Fetched, Unasked, Bytes, Fault, TooLong, MayGive, IsAccepted}
 use Rattle.cl_top.specs.Inner.Opened.{IsValidatedAs, IsReadAs, IsOpenedAs}
 use Rattle.cl_top.specs.Outcome.{model_refused, read_fault, long_file, ValidatesTo, ReadsTo, OpensTo}
 
 -- ---- what is read
-
-none_refused : (refusals : List Refusal) → first refusals ≡ None → refusals ≡ []
-none_refused [] none = refl
-none_refused (refusal ∷ refusals) none = absurd cc
 
 -- a model that is read and not refused is valid
 pub valid_read : (bytes : List ℕ) (model : SystemModel) → model_of bytes ≡ Ok model → refusal_of model ≡ None → IsValid model
@@ -68,12 +65,25 @@ module _ (model : SystemModel) where
   read_means (Err refusal) is = absurd is
 
   -- the valid model of a fetch of told bytes is the one that they mean
-  pub opened_means : (fetch : Fetched) (content : List ℕ) (limit : ℕ) (rose : Type 0) (long : ℕ) → MayGive (Content content) limit rose long fetch
-      → IsOpenedAs 1 fetch (opened.Valid model) → model_of content ≡ Ok model
-  opened_means Unasked content limit rose long may is = absurd is
-  opened_means Fault content limit rose long may is = absurd is
-  opened_means TooLong content limit rose long may is = absurd is
-  opened_means (Bytes bytes) content limit rose long may is = ap model_of (sym may.0) ∙ read_means (model_of bytes) is
+  pub opened_means : (shelf : ShelfCall) (name : List ℕ) (limit : ℕ) (fetch : Fetched) (content : List ℕ) → shelf.held name ≡ Content content
+      → MayGive shelf name limit fetch → IsOpenedAs 1 fetch (opened.Valid model) → model_of content ≡ Ok model
+  opened_means shelf name limit Unasked content told may is = absurd is
+  opened_means shelf name limit Fault content told may is = absurd is
+  opened_means shelf name limit TooLong content told may is = absurd is
+  opened_means shelf name limit (Bytes bytes) content told may is =
+      let same : bytes ≡ content = subst (λ (h : Held). MayBe h bytes) told may.0 in
+      ap model_of (sym same) ∙ read_means (model_of bytes) is
+
+  -- a fetch that gave a valid model is accepted
+  accepted_read : (bytes : List ℕ) (read : Result SystemModel Refusal) → model_of bytes ≡ read → IsReadAs read (opened.Valid model) → IsAccepted (Bytes bytes)
+  accepted_read bytes (Ok read) means is = (read, means, is.1)
+  accepted_read bytes (Err refusal) means is = absurd is
+
+  pub opened_accepted : (fetch : Fetched) → IsOpenedAs 1 fetch (opened.Valid model) → IsAccepted fetch
+  opened_accepted Unasked is = absurd is
+  opened_accepted Fault is = absurd is
+  opened_accepted TooLong is = absurd is
+  opened_accepted (Bytes bytes) is = accepted_read bytes (model_of bytes) refl is
 
 -- ---- a model that was opened
 

@@ -10,11 +10,13 @@ use Rattle.cl_check.specs.declared.run_fault.Rule.{Rule}
 use Rattle.cl_check.specs.declared.run_fault.Rule.TheVariants.{Schedule}
 use Rattle.cl_check.specs.declared.run_fault.RunFault.{RunFault}
 use Rattle.cl_check.specs.declared.run_fault.RunFault.TheVariants.{Illegal, NoMemory}
-use Rattle.cl_check.specs.Legality.{first, table_faults, IsFirstOnCore, BreaksSchedule, IsFirstBroken}
+use Rattle.cl_check.specs.Legality.{first_fault, table_faults, IsFirstOnCore, BreaksSchedule, IsFirstBroken}
 use Rattle.cl_check.proofs.BrokenRules.{illegal}
+use Rattle.cl_replay.specs.Replay.{IsReplayOf}
 use Rattle.cl_replay.proofs.OneReplay.{one_replay}
 use Rattle.cl_top.specs.declared.outcome.Outcome.{Outcome}
 use Rattle.cl_top.specs.Commands.Replay.{trace_refused, trace_illegal, IsIllegal, IsOfRun}
+use Rattle.cl_top.proofs.ModelAnswers.{done_once}
 
 module _ (system : System) (run : Run) where
   tick_once : (core s t : ℕ) → IsFirstOnCore system run core s → IsFirstOnCore system run core t → s ≡ t
@@ -46,8 +48,8 @@ module _ (system : System) (run : Run) where
   fault_same : (one other : RunFault) → Some one ≡ Some other → one ≡ other
   fault_same one other is = cc
 
-  none_first : {X : Type 0} (fault : RunFault) → first (table_faults system run.table) ≡ Some fault → table_faults system run.table ≡ [] → X
-  none_first fault found none = let is : None ≡ Some fault = sym (ap first none) ∙ found in absurd cc
+  none_first : {X : Type 0} (fault : RunFault) → first_fault (table_faults system run.table) ≡ Some fault → table_faults system run.table ≡ [] → X
+  none_first fault found none = let is : None ≡ Some fault = sym (ap first_fault none) ∙ found in absurd cc
 
   -- the first broken rule is one
   fault_once : (one other : RunFault) → IsFirstBroken system run one → IsFirstBroken system run other → one ≡ other
@@ -64,9 +66,6 @@ abbrev answered : SystemModel → RunFault → Outcome
 answered model (Illegal rule place tick) = trace_illegal model rule place tick
 answered model NoMemory = trace_refused 0
 
-same_parts : (one other : Outcome) → one.status ≡ other.status → one.text ≡ other.text → one ≡ other
-same_parts one other status text = λ i. record { status = status i; text = text i }
-
 module _ (model : SystemModel) (run : Run) where
   -- a legal run breaks no rule
   pub breaks_none : {X : Type 0} (found : Outcome) → IsLegal (system_of model) run → IsIllegal model run found → X
@@ -74,7 +73,7 @@ module _ (model : SystemModel) (run : Run) where
       absurd (illegal (system_of model) run (Illegal is.rule is.place is.tick) legal.in_form (inr is.broken) (not_memory is.rule is.place is.tick) legal)
 
   pub of_run_once : (one other : Outcome) → IsOfRun model run one → IsOfRun model run other → one ≡ other
-  of_run_once one other (inl is) (inl also) = same_parts one other (is.done ∙ sym also.done) (one_replay model run one.text other.text is.replay also.replay)
+  of_run_once one other (inl is) (inl also) = done_once (IsReplayOf model run) (one_replay model run) one other is.outcome also.outcome
   of_run_once one other (inl is) (inr also) = breaks_none other is.legal also
   of_run_once one other (inr is) (inl also) = breaks_none one also.legal is
   of_run_once one other (inr is) (inr also) =

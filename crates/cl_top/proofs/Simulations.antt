@@ -1,8 +1,7 @@
 -- A valid model has one outcome of a simulation.
-use Rattle.std.proofs.Common.{◌≡◌, ℕ, ◌≤◌, inl, inr, List, [], ◌∷◌, None, refl, sym, ap, ◌∙◌, arith}
+use Rattle.std.proofs.Common.{◌≡◌, ℕ, ◌≤◌, inl, inr, refl, sym, ap, ◌∙◌, arith}
 use Rattle.std.proofs.lemmas.Bool.{cases_lt}
 use Rattle.cl_model.specs.declared.model.SystemModel.{SystemModel}
-use Rattle.cl_model.specs.declared.refusal.Refusal.{Refusal}
 use Rattle.cl_model.specs.Refusals.{first}
 use Rattle.cl_model.specs.Validity.{IsValid}
 use Rattle.cl_runs.specs.Run.{Run}
@@ -17,10 +16,6 @@ use Rattle.cl_gen.specs.Drawn.{drawn}
 use Rattle.cl_gen.proofs.LawfulTables.{table_lawful}
 use Rattle.cl_top.specs.declared.outcome.Outcome.{Outcome}
 use Rattle.cl_top.specs.Commands.Simulate.{simulation_refused, traced, IsSimulated}
-
-none_refused : (refusals : List Refusal) → first refusals ≡ None → refusals ≡ []
-none_refused [] none = refl
-none_refused (refusal ∷ refusals) none = absurd cc
 
 -- a model that is read and not refused is valid
 

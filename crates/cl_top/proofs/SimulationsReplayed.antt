@@ -45,7 +45,7 @@ module _ (model : SystemModel) (valid : IsValid model) (named : AreNamed model) 
   fits counted = omega (arith, counted, short_trace model valid named run legal few, table_counted model valid run.table legal.lawful)
 
   replayed_run : (found : Outcome) → IsOfRun model run found → found.status ≡ DONE
-  replayed_run found (inl is) = is.done
+  replayed_run found (inl is) = is.outcome.status_is
   replayed_run found (inr is) = breaks_none model run found legal is
 
   -- the trace of a legal run is replayed

@@ -1,19 +1,18 @@
--- The shapes of words that are commands, and the files of each (this project's profile).
+-- The shapes of words that are commands, and the files of each.
 use Rattle.std.specs.Prelude.{ℕ, List, [], ◌∷◌, Option, Some, None, ◌&&◌, nat_lt, nat_le, codes, decimal, if◌then◌else◌, slice_index_or}
+use Rattle.std.specs.Option.{option_map}
 use Rattle.std.specs.Str.{bytes_eq}
 use Rattle.cl_text.specs.Decimal.{number_of}
 use Rattle.cl_gen.specs.declared.limits.TheConstants.{MOST_RUN_TICKS}
 use Rattle.cl_model.specs.declared.limits.TheConstants.{MOST_TASKS}
 use Rattle.cl_top.specs.declared.command.Command.{Command}
-use Rattle.cl_top.specs.declared.command.Command.TheVariants.{Analyse, Migrate, Simulate, Replay, Edit, Cut, Order, Headroom, Generate, Survey}
+use Rattle.cl_top.specs.declared.command.Command.TheVariants as command
+use Rattle.cl_top.specs.declared.command.Draw.{Draw}
+use Rattle.cl_top.specs.declared.command.OfModel.{OfModel}
 use Rattle.cl_top.specs.declared.opening.TheConstants.{FILE_LIMIT, TRACE_LIMIT}
+use Rattle.cl_top.specs.OfModel.{of_verb}
 
 -- ---- what may follow each verb
-
--- a model file alone
-abbrev pub of_model : Command → List (List ℕ) → Option Command
-of_model command (model ∷ []) = Some command
-of_model command _ = None
 
 -- the number of at most `most` that a word writes in decimal
 abbrev pub number_upto : (most : ℕ) → List ℕ → Option ℕ
@@ -24,45 +23,45 @@ abbrev pub MOST_SEED : ℕ
 MOST_SEED = 18446744073709551615
 
 abbrev pub simulation : (ticks seed : Option ℕ) → Option Command
-simulation (Some ticks) (Some seed) = Some (Simulate ticks seed)
+simulation (Some ticks) (Some seed) = Some (command.Simulate ticks seed)
 simulation _ _ = None
 
+-- a model file, and how many ticks of which draw
 abbrev pub simulate_of : List (List ℕ) → Option Command
 simulate_of (model ∷ ticks ∷ seed ∷ []) = simulation (number_upto MOST_RUN_TICKS ticks) (number_upto MOST_SEED seed)
 simulate_of _ = None
 
-abbrev pub replay_of : List (List ℕ) → Option Command
-replay_of (model ∷ trace ∷ []) = Some Replay
-replay_of _ = None
+-- a model file and a second one
+abbrev pub of_two_files : Command → List (List ℕ) → Option Command
+of_two_files asked (model ∷ second ∷ []) = Some asked
+of_two_files asked _ = None
 
-abbrev pub edit_of : List (List ℕ) → Option Command
-edit_of (model ∷ edits ∷ []) = Some Edit
-edit_of _ = None
+-- a model that is to be generated, which has a task or more
+abbrev pub drawing : (seed tasks : Option ℕ) → Option Draw
+drawing (Some seed) (Some tasks) = if nat_lt 0 tasks then Some (record { seed = seed; tasks = tasks }) else None
+drawing _ _ = None
 
--- a command on a generated model, which has a task or more
-abbrev pub generation : (command : (seed tasks : ℕ) → Command) → (seed tasks : Option ℕ) → Option Command
-generation command (Some seed) (Some tasks) = if nat_lt 0 tasks then Some (command seed tasks) else None
-generation command _ _ = None
+abbrev pub draw_of : List (List ℕ) → Option Draw
+draw_of (seed ∷ tasks ∷ []) = drawing (number_upto MOST_SEED seed) (number_upto MOST_TASKS tasks)
+draw_of _ = None
 
-abbrev pub generation_of : (command : (seed tasks : ℕ) → Command) → List (List ℕ) → Option Command
-generation_of command (seed ∷ tasks ∷ []) = generation command (number_upto MOST_SEED seed) (number_upto MOST_TASKS tasks)
-generation_of command _ = None
+-- a model file alone
+abbrev pub of_model : Option OfModel → List (List ℕ) → Option Command
+of_model (Some asked) (model ∷ []) = Some (command.OfModel asked)
+of_model _ _ = None
 
 -- the command that a verb and the words after it spell
 abbrev pub command_of : List (List ℕ) → Option Command
 command_of [] = None
 command_of (verb ∷ words) =
-    if bytes_eq verb (codes "analyse") then of_model Analyse words
-    else if bytes_eq verb (codes "migrate") then of_model Migrate words
-    else if bytes_eq verb (codes "simulate") then simulate_of words
-    else if bytes_eq verb (codes "replay") then replay_of words
-    else if bytes_eq verb (codes "edit") then edit_of words
-    else if bytes_eq verb (codes "cut") then of_model Cut words
-    else if bytes_eq verb (codes "order") then of_model Order words
-    else if bytes_eq verb (codes "headroom") then of_model Headroom words
-    else if bytes_eq verb (codes "generate") then generation_of Generate words
-    else if bytes_eq verb (codes "survey") then generation_of Survey words
-    else None
+    if bytes_eq verb (codes "simulate") then simulate_of words
+    else if bytes_eq verb (codes "replay") then of_two_files command.Replay words
+    else if bytes_eq verb (codes "edit") then of_two_files command.Edit words
+    else if bytes_eq verb (codes "generate") then option_map (λ drawn. command.Generate drawn.seed drawn.tasks) (draw_of words)
+    else if bytes_eq verb (codes "survey") then option_map (λ drawn. command.Survey drawn.seed drawn.tasks) (draw_of words)
+    else of_model (of_verb verb) words
+
+-- ---- the files of each
 
 -- a file of a command: the place of its word, which is its number in every line about it, and the most bytes that it
 -- may have
@@ -82,16 +81,12 @@ edits_file place = record { place = place; limit = FILE_LIMIT }
 -- the files of a command, in the order in which they are fetched
 abbrev pub files_of : Option Command → List File
 files_of None = []
-files_of (Some Analyse) = model_file 1 ∷ []
-files_of (Some Migrate) = model_file 1 ∷ []
-files_of (Some (Simulate ticks seed)) = model_file 1 ∷ []
-files_of (Some Replay) = model_file 1 ∷ trace_file 2 ∷ []
-files_of (Some Edit) = model_file 1 ∷ edits_file 2 ∷ []
-files_of (Some Cut) = model_file 1 ∷ []
-files_of (Some Order) = model_file 1 ∷ []
-files_of (Some Headroom) = model_file 1 ∷ []
-files_of (Some (Generate seed tasks)) = []
-files_of (Some (Survey seed tasks)) = []
+files_of (Some (command.OfModel asked)) = model_file 1 ∷ []
+files_of (Some (command.Simulate ticks seed)) = model_file 1 ∷ []
+files_of (Some command.Replay) = model_file 1 ∷ trace_file 2 ∷ []
+files_of (Some command.Edit) = model_file 1 ∷ edits_file 2 ∷ []
+files_of (Some (command.Generate seed tasks)) = []
+files_of (Some (command.Survey seed tasks)) = []
 
 -- the word at a place
 abbrev pub word : List (List ℕ) → (place : ℕ) → List ℕ

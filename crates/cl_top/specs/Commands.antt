@@ -1,10 +1,4 @@
--- What each command comes to, once its files are open.
-pub mod Analyse
-pub mod Migrate
+-- What a command with words, rules or files of its own comes to, once its files are open.
 pub mod Simulate
 pub mod Replay
 pub mod Edit
-pub mod Cut
-pub mod Order
-pub mod Headroom
-pub mod Survey

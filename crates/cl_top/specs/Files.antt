@@ -1,10 +1,13 @@
--- The files of a command, each under the word at its place, and what their fetches gave (this project's profile).
-use Rattle.std.specs.Prelude.{◌≡◌, ◌≢◌, ◌⊎◌, ℕ, ◌+◌, ◌<◌, ◌≤◌, List, length, if◌then◌else◌, nat_lt, Option}
+-- The files of a command, each under the word at its place, and what their fetches gave.
+use Rattle.std.specs.Prelude.{◌≡◌, ◌≢◌, ◌⊎◌, ℕ, ◌+◌, ◌<◌, ◌≤◌, List, length, if◌then◌else◌, nat_lt, Option, None, Ok}
 use Rattle.std.specs.List.{AllByRecursion, Contains}
-use Rattle.cl_io.specs.Counts.{Rose}
 use Rattle.cl_io.specs.Shelf.{Held, Content, MayBe, MayHave}
+use Rattle.cl_model.specs.declared.model.SystemModel.{SystemModel}
+use Rattle.cl_model.specs.Reading.{model_of}
+use Rattle.cl_model.specs.Validity.{refusal_of}
 use Rattle.cl_top.specs.declared.command.Command.{Command}
-use Rattle.cl_top.specs.Command.{command_of, files_of, File, word}
+use Rattle.cl_top.specs.Calls.{ShelfCall, RoseAt, StaysAt}
+use Rattle.cl_top.specs.Command.{command_of, files_of, File, model_file, word}
 
 -- what the fetch of a file gave
 pub data Fetched : Type 0 where
@@ -17,13 +20,13 @@ pub data Fetched : Type 0 where
   -- more bytes than the file's limit
   TooLong : Fetched
 
--- What a fetch in this call may have given, by what the shelf tells of the name. `rose` says that the name's count
--- of faults rose in the call; `longest` is the most bytes that one fetch of it took, as the call ends.
-abbrev pub MayGive : Held → (limit : ℕ) (rose : Type 0) (longest : ℕ) → Fetched → Type 0
-MayGive held limit rose longest Unasked = Unit {0}
-MayGive held limit rose longest (Bytes bytes) = MayBe held bytes × (length bytes ≤ limit)
-MayGive held limit rose longest Fault = rose
-MayGive held limit rose longest TooLong = (rose ⊎ MayHave held (limit + 1)) × (limit < longest)
+-- What a fetch of the name in this call may have given: bytes within the limit that may lie there, a fault where the
+-- name's count of faults rose, and too many bytes where more than the limit were taken, which lie there or the count rose.
+abbrev pub MayGive : ShelfCall → (name : List ℕ) (limit : ℕ) → Fetched → Type 0
+MayGive shelf name limit Unasked = Unit {0}
+MayGive shelf name limit (Bytes bytes) = MayBe (shelf.held name) bytes × (length bytes ≤ limit)
+MayGive shelf name limit Fault = RoseAt shelf name
+MayGive shelf name limit TooLong = (RoseAt shelf name ⊎ MayHave (shelf.held name) (limit + 1)) × (limit < shelf.longest_after name)
 
 -- P holds of each file, of some file.
 abbrev pub EachFile : Option Command → (File → Type 0) → Type 0
@@ -32,39 +35,41 @@ EachFile command P = AllByRecursion P (files_of command)
 abbrev pub SomeFile : Option Command → (File → Type 0) → Type 0
 SomeFile command P = (file : File) × Contains (files_of command) file × P file
 
--- What the file's fetch gave is what the shelf may have given under its name. `before` and `after` are the counts of
--- faults as the call begins and ends.
-abbrev pub FileGave : (words : List (List ℕ)) (held : List ℕ → Held) (before after longest : List ℕ → ℕ) → (File → Fetched) → File → Type 0
-FileGave words held before after longest gave file =
-    let name = word words file.place in
-    MayGive (held name) file.limit (Rose (before name) (after name)) (longest name) (gave file)
+-- What the file's fetch gave is what the shelf may have given under its name.
+abbrev pub FileGave : (words : List (List ℕ)) → ShelfCall → (File → Fetched) → File → Type 0
+FileGave words shelf gave file = MayGive shelf (word words file.place) file.limit (gave file)
 
--- The count of faults of the file's name rose, of no file's.
-abbrev pub FileRose : (words : List (List ℕ)) (before after : List ℕ → ℕ) → File → Type 0
-FileRose words before after file = Rose (before (word words file.place)) (after (word words file.place))
+-- The count of faults of the file's name rose.
+abbrev pub FileRose : (words : List (List ℕ)) → ShelfCall → File → Type 0
+FileRose words shelf file = RoseAt shelf (word words file.place)
 
-abbrev pub NoneRose : (words : List (List ℕ)) (before after : List ℕ → ℕ) → Type 0
-NoneRose words before after = EachFile (command_of words) (λ file. ¬ FileRose words before after file)
+-- It rose for no file.
+abbrev pub NoneRose : (words : List (List ℕ)) → ShelfCall → Type 0
+NoneRose words shelf = EachFile (command_of words) (λ file. ¬ FileRose words shelf file)
 
 -- A fetch of the file's name took more bytes than the file's limit; and so many lie under it, where that is told and
 -- its count of faults didn't rise.
-abbrev pub FileTooLong : (words : List (List ℕ)) (held : List ℕ → Held) (before after longest : List ℕ → ℕ) → File → Type 0
-FileTooLong words held before after longest file =
+abbrev pub FileTooLong : (words : List (List ℕ)) → ShelfCall → File → Type 0
+FileTooLong words shelf file =
     let name = word words file.place in
-    (file.limit < longest name) × (Rose (before name) (after name) ⊎ MayHave (held name) (file.limit + 1))
+    (file.limit < shelf.longest_after name) × (RoseAt shelf name ⊎ MayHave (shelf.held name) (file.limit + 1))
 
--- It is as it was at each name that isn't one of a file.
+-- Numbers of names are as they were at each name that isn't one of a file.
 abbrev pub StaysBeside : (words : List (List ℕ)) (before after : List ℕ → ℕ) → Type 0
 StaysBeside words before after =
     (name : List ℕ) → EachFile (command_of words) (λ file. name ≢ word words file.place) → after name ≡ before name
+
+-- ---- files that are told
 
 -- The shelf tells the bytes of each file.
 abbrev pub TellsFiles : Option Command → (words : List (List ℕ)) (held : List ℕ → Held) (contents : ℕ → List ℕ) → Type 0
 TellsFiles command words held contents = EachFile command (λ file. held (word words file.place) ≡ Content (contents file.place))
 
--- what the fetch of a file of told bytes gives, where nothing goes wrong
+-- what the fetch of a file gives whose bytes the shelf tells, where nothing goes wrong: all of them, or too many
 abbrev pub told_fetch : (contents : ℕ → List ℕ) → File → Fetched
 told_fetch contents file = if nat_lt file.limit (length (contents file.place)) then TooLong else Bytes (contents file.place)
+
+-- ---- the order of the fetches
 
 -- There was a fetch.
 abbrev pub WasFetched : Fetched → Type 0
@@ -72,3 +77,17 @@ WasFetched Unasked = ⊥
 WasFetched Fault = Unit {0}
 WasFetched TooLong = Unit {0}
 WasFetched (Bytes bytes) = Unit {0}
+
+-- What the fetch of a model file gave is accepted: bytes that mean a model with no refusal.
+abbrev pub IsAccepted : Fetched → Type 0
+IsAccepted (Bytes bytes) = (model : SystemModel) × (model_of bytes ≡ Ok model) × (refusal_of model ≡ None)
+IsAccepted fetched = ⊥
+
+-- No file after this place was fetched: both numbers of its name are as they were, unless it is the first file's name.
+abbrev pub NoneAfter : Option Command → (words : List (List ℕ)) → ShelfCall → (place : ℕ) → Type 0
+NoneAfter command words shelf place =
+    EachFile command (λ file. place < file.place → word words file.place ≢ word words 1 → StaysAt shelf (word words file.place))
+
+-- The second file is fetched only where the first is accepted.
+abbrev pub WaitsForModel : Option Command → (words : List (List ℕ)) → ShelfCall → (gave : File → Fetched) → Type 0
+WaitsForModel command words shelf gave = ¬ IsAccepted (gave (model_file 1)) → NoneAfter command words shelf 1

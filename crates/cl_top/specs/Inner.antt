@@ -4,4 +4,3 @@ pub mod Leaving
 pub mod Edits
 pub mod Within
 pub mod Traced
-pub mod OneModel

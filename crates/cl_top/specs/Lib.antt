@@ -1,5 +1,8 @@
 pub mod Command
+pub mod Calls
 pub mod Files
+pub mod Done
+pub mod OfModel
 pub mod Outcome
 pub mod Commands
 pub mod Run

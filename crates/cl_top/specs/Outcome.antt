@@ -1,4 +1,4 @@
--- The outcome of a command: its status and its text (this project's profile).
+-- The outcome of a command: its status and its text.
 use Rattle.std.specs.Prelude.{◌≡◌, ℕ, List, ◌++◌, codes, decimal, Option, Some, None, Result, Ok, Err}
 use Rattle.cl_text.specs.Line.{line}
 use Rattle.cl_model.specs.declared.model.SystemModel.{SystemModel}
@@ -7,21 +7,19 @@ use Rattle.cl_model.specs.Reading.{model_of}
 use Rattle.cl_model.specs.Refusal.{refusal_text}
 use Rattle.cl_model.specs.Validity.{refusal_of}
 use Rattle.cl_gen.specs.Generated.{generated}
+use Rattle.cl_report.specs.Survey.{IsSurveyOf}
+use Rattle.cl_write.specs.Texts.{IsTextOf}
 use Rattle.cl_top.specs.declared.outcome.Outcome.{Outcome}
 use Rattle.cl_top.specs.declared.status.TheConstants.{WORDS_REFUSED, READ_FAULT, LONG_FILE, MODEL_REFUSED}
 use Rattle.cl_top.specs.declared.command.Command.{Command}
-use Rattle.cl_top.specs.declared.command.Command.TheVariants.{Analyse, Migrate, Simulate, Replay, Edit, Cut, Order, Headroom, Generate, Survey}
+use Rattle.cl_top.specs.declared.command.Command.TheVariants as command
 use Rattle.cl_top.specs.Command.{File, model_file, trace_file, edits_file}
-use Rattle.cl_top.specs.Commands.Analyse.{IsAnalysed}
-use Rattle.cl_top.specs.Commands.Migrate.{IsMigrated, MigratesTheSame}
 use Rattle.cl_top.specs.Commands.Simulate.{IsSimulated}
 use Rattle.cl_top.specs.Commands.Replay.{IsOfTrace}
 use Rattle.cl_top.specs.Commands.Edit.{IsOfEdits}
-use Rattle.cl_top.specs.Commands.Cut.{IsCutOutcome}
-use Rattle.cl_top.specs.Commands.Order.{IsOrderOutcome}
-use Rattle.cl_top.specs.Commands.Headroom.{IsHeadroomOutcome}
-use Rattle.cl_top.specs.Commands.Survey.{IsSurveyed}
+use Rattle.cl_top.specs.Done.{IsDone}
 use Rattle.cl_top.specs.Files.{Fetched, Unasked, Bytes, Fault, TooLong}
+use Rattle.cl_top.specs.OfModel.{IsAnswer, MigratesTheSame, AnswersTheSame}
 
 -- ---- outcomes that any command may come to
 
@@ -70,27 +68,15 @@ OpensModel file gave next found = OpensFile file gave (λ bytes. ReadsTo (model_
 -- Words that are this command have this outcome, where each file gave this.
 abbrev pub HasOutcome : Option Command → (gave : File → Fetched) → Outcome → Type 0
 HasOutcome None gave found = found ≡ words_refused
-HasOutcome (Some Analyse) gave found = OpensModel (model_file 1) gave IsAnalysed found
-HasOutcome (Some Migrate) gave found = OpensModel (model_file 1) gave IsMigrated found
-HasOutcome (Some (Simulate ticks seed)) gave found = OpensModel (model_file 1) gave (IsSimulated ticks seed) found
-HasOutcome (Some Replay) gave found = OpensModel (model_file 1) gave (λ model. OpensFile (trace_file 2) gave (IsOfTrace model)) found
-HasOutcome (Some Edit) gave found = OpensModel (model_file 1) gave (λ model. OpensFile (edits_file 2) gave (IsOfEdits model)) found
-HasOutcome (Some Cut) gave found = OpensModel (model_file 1) gave IsCutOutcome found
-HasOutcome (Some Order) gave found = OpensModel (model_file 1) gave IsOrderOutcome found
-HasOutcome (Some Headroom) gave found = OpensModel (model_file 1) gave IsHeadroomOutcome found
-HasOutcome (Some (Generate seed tasks)) gave found = IsMigrated (generated seed tasks) found
-HasOutcome (Some (Survey seed tasks)) gave found = IsSurveyed (generated seed tasks) found
+HasOutcome (Some (command.OfModel asked)) gave found = OpensModel (model_file 1) gave (IsAnswer asked) found
+HasOutcome (Some (command.Simulate ticks seed)) gave found = OpensModel (model_file 1) gave (IsSimulated ticks seed) found
+HasOutcome (Some command.Replay) gave found = OpensModel (model_file 1) gave (λ model. OpensFile (trace_file 2) gave (IsOfTrace model)) found
+HasOutcome (Some command.Edit) gave found = OpensModel (model_file 1) gave (λ model. OpensFile (edits_file 2) gave (IsOfEdits model)) found
+HasOutcome (Some (command.Generate seed tasks)) gave found = IsDone (IsTextOf (generated seed tasks)) found
+HasOutcome (Some (command.Survey seed tasks)) gave found = IsDone (IsSurveyOf (generated seed tasks)) found
 
 -- Two outcomes of the words say the same: they are equal, or texts of one model.
 abbrev pub SaysTheSame : Option Command → (one other : Outcome) → Type 0
-SaysTheSame None one other = one ≡ other
-SaysTheSame (Some Analyse) one other = one ≡ other
-SaysTheSame (Some Migrate) one other = MigratesTheSame one other
-SaysTheSame (Some (Simulate ticks seed)) one other = one ≡ other
-SaysTheSame (Some Replay) one other = one ≡ other
-SaysTheSame (Some Edit) one other = one ≡ other
-SaysTheSame (Some Cut) one other = one ≡ other
-SaysTheSame (Some Order) one other = one ≡ other
-SaysTheSame (Some Headroom) one other = one ≡ other
-SaysTheSame (Some (Generate seed tasks)) one other = MigratesTheSame one other
-SaysTheSame (Some (Survey seed tasks)) one other = one ≡ other
+SaysTheSame (Some (command.OfModel asked)) one other = AnswersTheSame asked one other
+SaysTheSame (Some (command.Generate seed tasks)) one other = MigratesTheSame one other
+SaysTheSame asked one other = one ≡ other

@@ -1,4 +1,4 @@
--- A trace file that holds what `simulate` made of a model file (this project's profile).
+-- A trace file that holds what `simulate` made of a model file.
 use Rattle.std.specs.Prelude.{◌≡◌, ℕ, ◌≤◌, List, Some}
 use Rattle.cl_gen.specs.declared.limits.TheConstants.{MOST_RUN_TICKS}
 use Rattle.cl_top.specs.declared.command.Command.TheVariants.{Simulate}

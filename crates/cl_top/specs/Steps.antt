@@ -1,5 +1,5 @@
--- How many analysing steps a command takes (this project's profile).
-use Rattle.std.specs.Prelude.{◌≡◌, ◌⊎◌, ℕ, ◌+◌, ◌*◌, ◌≤◌, List, [], ◌∷◌, length, Option, Some, None, Result, Ok, Err}
+-- How many analysing steps a command takes.
+use Rattle.std.specs.Prelude.{◌≡◌, ◌⊎◌, ℕ, ◌+◌, ◌≤◌, List, [], ◌∷◌, Option, Some, None, Result, Ok, Err}
 use Rattle.cl_model.specs.declared.model.SystemModel.{SystemModel}
 use Rattle.cl_model.specs.declared.refusal.Refusal.{Refusal}
 use Rattle.cl_model.specs.Reading.{model_of}
@@ -9,12 +9,13 @@ use Rattle.cl_edit.specs.Reading.{AreEditsOf}
 use Rattle.cl_gen.specs.Generated.{generated}
 use Rattle.cl_incr.specs.Changed.{AsksForChanges}
 use Rattle.cl_top.specs.declared.command.Command.{Command}
-use Rattle.cl_top.specs.declared.command.Command.TheVariants.{Analyse, Migrate, Simulate, Replay, Edit as EditFiles, Cut, Order, Headroom, Generate, Survey}
+use Rattle.cl_top.specs.declared.command.Command.TheVariants as command
+use Rattle.cl_top.specs.OfModel.{model_steps, most_steps}
 
--- one for each task and two for each chain of a model; none where a file is refused by the reading
-abbrev pub model_steps : Result SystemModel Refusal → ℕ
-model_steps (Ok model) = length model.tasks + 2 * length model.chains
-model_steps (Err refusal) = 0
+-- at most so many, where there is a limit
+abbrev pub AreAtMost : Option ℕ → (before after : ℕ) → Type 0
+AreAtMost None before after = Unit {0}
+AreAtMost (Some most) before after = after ≤ before + most
 
 -- ---- edits
 
@@ -46,17 +47,12 @@ pub record AreFewOfEdits (read : Result SystemModel Refusal) (text : List ℕ) (
 
 -- ---- commands
 
--- The steps before and after a command whose files have these bytes. No limit is promised for `cut`, `order` and
--- `headroom`.
+-- the steps before and after a command whose files have these bytes
 abbrev pub AreFewSteps : Option Command → (contents : ℕ → List ℕ) → (before after : ℕ) → Type 0
 AreFewSteps None contents before after = after ≤ before
-AreFewSteps (Some Analyse) contents before after = after ≤ before + model_steps (model_of (contents 1))
-AreFewSteps (Some Migrate) contents before after = after ≤ before
-AreFewSteps (Some (Simulate ticks seed)) contents before after = after ≤ before
-AreFewSteps (Some Replay) contents before after = after ≤ before + model_steps (model_of (contents 1))
-AreFewSteps (Some EditFiles) contents before after = AreFewOfEdits (model_of (contents 1)) (contents 2) before after
-AreFewSteps (Some Cut) contents before after = Unit {0}
-AreFewSteps (Some Order) contents before after = Unit {0}
-AreFewSteps (Some Headroom) contents before after = Unit {0}
-AreFewSteps (Some (Generate seed tasks)) contents before after = after ≤ before
-AreFewSteps (Some (Survey seed tasks)) contents before after = after ≤ before + model_steps (Ok (generated seed tasks))
+AreFewSteps (Some (command.OfModel asked)) contents before after = AreAtMost (most_steps asked (model_of (contents 1))) before after
+AreFewSteps (Some (command.Simulate ticks seed)) contents before after = after ≤ before
+AreFewSteps (Some command.Replay) contents before after = after ≤ before + model_steps (model_of (contents 1))
+AreFewSteps (Some command.Edit) contents before after = AreFewOfEdits (model_of (contents 1)) (contents 2) before after
+AreFewSteps (Some (command.Generate seed tasks)) contents before after = after ≤ before
+AreFewSteps (Some (command.Survey seed tasks)) contents before after = after ≤ before + model_steps (Ok (generated seed tasks))

@@ -1,5 +1,6 @@
 ghost use Rattle.std.specs.Prelude.{◌≡◌, ◌<◌, ◌≤◌, drop, length};
-ghost use Rattle.cl_top.specs.Command.{of_model, number_upto, simulate_of, replay_of, edit_of, generation_of, word, command_of, MOST_SEED};
+ghost use Rattle.cl_top.specs.Command.{of_model, of_two_files, number_upto, simulate_of, draw_of, word, command_of, MOST_SEED};
+ghost use Rattle.cl_top.specs.OfModel.{of_verb};
 
 use crate::opening::word_at;
 use cl_gen::MOST_RUN_TICKS;
@@ -7,29 +8,43 @@ use cl_io::Words;
 use cl_model::MOST_TASKS;
 use cl_text::read_decimal;
 
-/// What the words ask for.
+/// A command that names a model file and nothing else.
 #[derive(Clone, Copy, Debug, PartialEq, Eq)]
-pub enum Command {
+pub enum OfModel {
     /// `analyse MODEL`: bound every chain of a model.
     Analyse,
     /// `migrate MODEL`: write a model as a file of version 2.
     Migrate,
-    /// `simulate MODEL TICKS SEED`: write the trace of a drawn run.
-    Simulate { ticks: u64, seed: u64 },
-    /// `replay MODEL TRACE`: measure every chain in the run of a trace.
-    Replay,
-    /// `edit MODEL EDITS`: report a model as it is edited.
-    Edit,
     /// `cut MODEL`: cut every chain of a model into pieces, so that its reaction is bounded best.
     Cut,
     /// `order MODEL`: find priorities with which no task of a model is late.
     Order,
     /// `headroom MODEL`: find how far the execution times of a model may grow.
     Headroom,
+}
+
+/// What the words ask for.
+#[derive(Clone, Copy, Debug, PartialEq, Eq)]
+pub enum Command {
+    /// A command that names a model file and nothing else.
+    OfModel(OfModel),
+    /// `simulate MODEL TICKS SEED`: write the trace of a drawn run.
+    Simulate { ticks: u64, seed: u64 },
+    /// `replay MODEL TRACE`: measure every chain in the run of a trace.
+    Replay,
+    /// `edit MODEL EDITS`: report a model as it is edited.
+    Edit,
     /// `generate SEED TASKS`: write a generated model.
     Generate { seed: u64, tasks: u64 },
     /// `survey SEED TASKS`: analyse a generated model and sum up what was found.
     Survey { seed: u64, tasks: u64 },
+}
+
+/// A model that is to be generated: by which seed, and of how many tasks.
+#[derive(Clone, Copy)]
+pub(crate) struct Draw {
+    seed: u64,
+    tasks: u64,
 }
 
 /// The command that the words spell. `None` exactly where they spell none. Takes no memory.
@@ -37,28 +52,44 @@ pub(crate) fn read_command(words: &Words) -> Option<Command>
     ensures { result ≡ command_of words.now }
 {
     match words.at(0)? {
-        "analyse" => read_of_model(words, Command::Analyse),
-        "migrate" => read_of_model(words, Command::Migrate),
         "simulate" => read_simulate(words),
-        "replay" => read_replay(words),
-        "edit" => read_edit(words),
-        "cut" => read_of_model(words, Command::Cut),
-        "order" => read_of_model(words, Command::Order),
-        "headroom" => read_of_model(words, Command::Headroom),
-        "generate" => read_generate(words),
-        "survey" => read_survey(words),
+        "replay" => read_two_files(words, Command::Replay),
+        "edit" => read_two_files(words, Command::Edit),
+        "generate" => {
+            let Draw { seed, tasks } = read_draw(words)?;
+            Some(Command::Generate { seed, tasks })
+        }
+        "survey" => {
+            let Draw { seed, tasks } = read_draw(words)?;
+            Some(Command::Survey { seed, tasks })
+        }
+        verb => read_of_model(words, verb),
+    }
+}
+
+/// The command of a verb, where it is one that names a model file and nothing else.
+#[tactic(auto, unfolding(crate::specs::OfModel::of_verb))]
+fn read_verb(verb: &str) -> Option<OfModel>
+    ensures { result ≡ of_verb verb.now }
+{
+    match verb {
+        "analyse" => Some(OfModel::Analyse),
+        "migrate" => Some(OfModel::Migrate),
+        "cut" => Some(OfModel::Cut),
+        "order" => Some(OfModel::Order),
+        "headroom" => Some(OfModel::Headroom),
         _ => None,
     }
 }
 
-/// What the words after the verb of a command on a model file alone make of it.
-fn read_of_model(words: &Words, command: Command) -> Option<Command>
-    ensures { result ≡ of_model command (drop 1 words.now) }
+/// What a verb makes of the words behind it, where it is that of a command on a model file alone.
+fn read_of_model(words: &Words, verb: &str) -> Option<Command>
+    ensures { result ≡ of_model (of_verb verb.now) (drop 1 words.now) }
 {
-    if words.len() == 2 {
-        Some(command)
-    } else {
-        None
+    let asked = read_verb(verb)?;
+    match words.len() {
+        2 => Some(Command::OfModel(asked)),
+        _ => None,
     }
 }
 
@@ -74,29 +105,19 @@ fn read_simulate(words: &Words) -> Option<Command>
     Some(Command::Simulate { ticks, seed })
 }
 
-/// What the words after `replay` make of it.
-fn read_replay(words: &Words) -> Option<Command>
-    ensures { result ≡ replay_of (drop 1 words.now) }
+/// What the words after the verb of a command on a model file and a second one make of it.
+fn read_two_files(words: &Words, command: Command) -> Option<Command>
+    ensures { result ≡ of_two_files command (drop 1 words.now) }
 {
     match words.len() {
-        3 => Some(Command::Replay),
+        3 => Some(command),
         _ => None,
     }
 }
 
-/// What the words after `edit` make of it.
-fn read_edit(words: &Words) -> Option<Command>
-    ensures { result ≡ edit_of (drop 1 words.now) }
-{
-    match words.len() {
-        3 => Some(Command::Edit),
-        _ => None,
-    }
-}
-
-/// What the words after `generate` make of it.
-fn read_generate(words: &Words) -> Option<Command>
-    ensures { result ≡ generation_of Command.Generate (drop 1 words.now) }
+/// What the words after `generate`, or after `survey`, make of it.
+fn read_draw(words: &Words) -> Option<Draw>
+    ensures { result ≡ draw_of (drop 1 words.now) }
 {
     if words.len() != 3 {
         return None;
@@ -106,22 +127,7 @@ fn read_generate(words: &Words) -> Option<Command>
     if tasks == 0 {
         return None;
     }
-    Some(Command::Generate { seed, tasks })
-}
-
-/// What the words after `survey` make of it.
-fn read_survey(words: &Words) -> Option<Command>
-    ensures { result ≡ generation_of Command.Survey (drop 1 words.now) }
-{
-    if words.len() != 3 {
-        return None;
-    }
-    let seed = number_at(words, 1, u64::MAX)?;
-    let tasks = number_at(words, 2, MOST_TASKS as u64)?;
-    if tasks == 0 {
-        return None;
-    }
-    Some(Command::Survey { seed, tasks })
+    Some(Draw { seed, tasks })
 }
 
 /// The number of at most `most` that the word at a place writes.

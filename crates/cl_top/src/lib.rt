@@ -2,23 +2,20 @@
 //! on a real machine.
 #![tactic(auto)]
 
+mod answering;
 mod command;
 mod commands;
-mod editing;
-mod file_shelf;
+mod edges;
 pub mod laws;
-mod one_model;
 mod opening;
-mod out_sink;
 mod outcome;
 mod running;
 mod starting;
 pub mod status;
 
-pub use command::Command;
-pub use file_shelf::FileShelf;
+pub use command::{Command, OfModel};
+pub use edges::{FileShelf, OutSink};
 pub use opening::{FILE_LIMIT, TRACE_LIMIT};
-pub use out_sink::OutSink;
 pub use outcome::Outcome;
 pub use running::run;
 pub use starting::start;

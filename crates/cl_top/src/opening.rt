@@ -1,13 +1,12 @@
-//! The opening of a command's files: what a fetch gave, and the valid model that a file holds.
-ghost use Rattle.std.specs.Prelude.{◌≡◌, ◌<◌, ◌≤◌, ℕ, length, IfOk};
-ghost use Rattle.cl_io.specs.Counts.{Rose, RisesAlone};
-ghost use Rattle.cl_io.specs.Names.{SameAtEach};
+//! The opening of a command's files: what a fetch gave, the valid model that a file holds, and a second file beside it.
+ghost use Rattle.std.specs.Prelude.{◌≡◌, ◌<◌, ◌≤◌, length, IfOk};
 ghost use Rattle.cl_model.specs.Ranges.{IsInRange};
 ghost use Rattle.cl_model.specs.Reading.{model_of};
 ghost use Rattle.cl_model.specs.Validity.{refusal_of};
+ghost use Rattle.cl_top.specs.Calls.{shelf_call, FetchesAlone};
 ghost use Rattle.cl_top.specs.Command.{word};
-ghost use Rattle.cl_top.specs.Files.{Fetched, Bytes, MayGive};
-ghost use Rattle.cl_top.specs.Inner.Opened.{given, IsOpenedAs, IsValidatedAs};
+ghost use Rattle.cl_top.specs.Files.{Bytes, MayGive};
+ghost use Rattle.cl_top.specs.Inner.Opened.{given, IsOpenedAs, IsValidatedAs, HasOpened, HasOpenedSecond, HasOpenedTwo, FetchesTwo};
 
 use crate::Outcome;
 use cl_io::{FetchFault, Shelf, Words};
@@ -39,8 +38,54 @@ pub(crate) enum Opened {
     Stopped(Outcome),
 }
 
+/// What the opening of a model and of a second file gave.
+#[derive(Drop)]
+pub(crate) enum OpenedTwo {
+    Both(ValidModel, Vec<u8>),
+    /// One of them can't be opened, and this is the outcome of the command.
+    Stopped(Outcome),
+}
+
+/// Opens the model file that the first word after the verb names, and then, where there is a valid model, the file of
+/// at most so many bytes that the second names.
+pub(crate) fn open_two<S: Shelf>(
+    alloc: Global,
+    words: &Words,
+    limit: u64,
+    shelf: &mut S,
+) -> Result<OpenedTwo, NoMemory>
+    requires { 2 < length words.now }
+    ensures leaves { FetchesTwo (shelf_call S.held S.faults S.longest shelf.old shelf.new) (word words.now 1) (word words.now 2) }
+    ensures opened { IfOk result (HasOpenedTwo words.now limit (shelf_call S.held S.faults S.longest shelf.old shelf.new)) }
+{
+    match open_model(alloc, words, 1, shelf)? {
+        Opened::Valid(model) => open_second(alloc, words, limit, model, shelf),
+        Opened::Stopped(outcome) => Ok(OpenedTwo::Stopped(outcome)),
+    }
+}
+
+/// Opens the second file beside a valid model.
+fn open_second<S: Shelf>(
+    alloc: Global,
+    words: &Words,
+    limit: u64,
+    model: ValidModel,
+    shelf: &mut S,
+) -> Result<OpenedTwo, NoMemory>
+    requires { 2 < length words.now }
+    ensures leaves { FetchesAlone (shelf_call S.held S.faults S.longest shelf.old shelf.new) (word words.now 2) }
+    ensures opened { IfOk result
+        (HasOpenedSecond (shelf_call S.held S.faults S.longest shelf.old shelf.new) (word words.now 2) limit model) }
+{
+    match fetch_file(alloc, words, 2, limit, shelf)? {
+        FileFetch::Bytes(text) => Ok(OpenedTwo::Both(model, text)),
+        FileFetch::Fault => Ok(OpenedTwo::Stopped(Outcome::read_fault(alloc, 2)?)),
+        FileFetch::TooLong => Ok(OpenedTwo::Stopped(Outcome::long_file(alloc, 2)?)),
+    }
+}
+
 /// Fetches the file that the word at a place names, of at most so many bytes.
-pub(crate) fn fetch_file<S: Shelf>(
+fn fetch_file<S: Shelf>(
     alloc: Global,
     words: &Words,
     place: usize,
@@ -48,11 +93,9 @@ pub(crate) fn fetch_file<S: Shelf>(
     shelf: &mut S,
 ) -> Result<FileFetch, NoMemory>
     requires { place < length words.now }
-    ensures same { SameAtEach (S.held shelf.old) (S.held shelf.new) }
-    ensures faults { RisesAlone (word words.now place) (S.faults shelf.old) (S.faults shelf.new) }
-    ensures longest { RisesAlone (word words.now place) (S.longest shelf.old) (S.longest shelf.new) }
-    ensures gave { IfOk result (λ fetch. let name = word words.now place in
-        MayGive (S.held shelf.old name) limit (Rose (S.faults shelf.old name) (S.faults shelf.new name)) (S.longest shelf.new name) (given fetch)) }
+    ensures leaves { FetchesAlone (shelf_call S.held S.faults S.longest shelf.old shelf.new) (word words.now place) }
+    ensures gave { IfOk result (λ fetch.
+        MayGive (shelf_call S.held S.faults S.longest shelf.old shelf.new) (word words.now place) limit (given fetch)) }
 {
     match shelf.fetch(alloc, word_at(words, place), limit) {
         Ok(bytes) => Ok(FileFetch::Bytes(bytes)),
@@ -78,12 +121,9 @@ pub(crate) fn open_model<S: Shelf>(
     shelf: &mut S,
 ) -> Result<Opened, NoMemory>
     requires { place < length words.now }
-    ensures same { SameAtEach (S.held shelf.old) (S.held shelf.new) }
-    ensures faults { RisesAlone (word words.now place) (S.faults shelf.old) (S.faults shelf.new) }
-    ensures longest { RisesAlone (word words.now place) (S.longest shelf.old) (S.longest shelf.new) }
-    ensures opened { IfOk result (λ opened. let name = word words.now place in (fetch : Fetched)
-        × MayGive (S.held shelf.old name) FILE_LIMIT (Rose (S.faults shelf.old name) (S.faults shelf.new name)) (S.longest shelf.new name) fetch
-        × IsOpenedAs place fetch opened) }
+    ensures leaves { FetchesAlone (shelf_call S.held S.faults S.longest shelf.old shelf.new) (word words.now place) }
+    ensures opened { IfOk result
+        (HasOpened (shelf_call S.held S.faults S.longest shelf.old shelf.new) (word words.now place) place) }
 {
     let fetch = fetch_file(alloc, words, place, FILE_LIMIT, shelf)?;
     open_fetched(alloc, &fetch, place as u64)

@@ -1,5 +1,6 @@
 ghost use Rattle.std.specs.Prelude.{◌≡◌, ◌∷◌, [], ◌++◌, decimal, IfOk};
 ghost use Rattle.cl_text.specs.Line.{line};
+ghost use Rattle.cl_top.specs.declared.status.TheConstants.{DONE};
 ghost use Rattle.cl_top.specs.Commands.Simulate.{simulation_refused};
 ghost use Rattle.cl_top.specs.Outcome.{words_refused, read_fault, long_file, model_refused};
 
@@ -18,6 +19,16 @@ pub struct Outcome {
 }
 
 impl Outcome {
+    /// The command did what it says, with this text.
+    pub(crate) fn done(text: Text) -> Outcome
+        ensures { result ≡ record { status = DONE; text = text } }
+    {
+        Outcome {
+            status: status::DONE,
+            text,
+        }
+    }
+
     fn of_line(alloc: Global, status: u8, words: &[u8]) -> Result<Outcome, NoMemory>
         ensures { IfOk result (λ outcome. outcome ≡ record { status = status; text = line words.now }) }
     {

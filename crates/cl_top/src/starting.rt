@@ -1,12 +1,13 @@
 //! The start of the program: its arguments, and a call of `run` over the files and the output of a real machine.
-ghost use Rattle.std.specs.Prelude.{◌≡◌, ◌<◌, map, drop, string_bytes, IfOk, MatchResult};
+ghost use Rattle.std.specs.Prelude.{◌≡◌, ◌<◌, map, drop, string_bytes, IfOk, IfErr, OnErr, MatchResult};
 ghost use Rattle.std.specs.Vec.Iter.{into_iter_items};
+ghost use Rattle.cl_top.specs.Calls.{shelf_call, sink_call};
 ghost use Rattle.cl_top.specs.Edges.{IsStatusOfError};
-ghost use Rattle.cl_top.specs.Run.{MayEndWith};
+ghost use Rattle.cl_top.specs.Run.{ComesTo, Ends, MayEndWith};
 
 use crate::status::{ARGUMENT_NOT_TEXT, NO_MEMORY};
 use crate::{FileShelf, OutSink, run};
-use cl_io::Words;
+use cl_io::{Shelf, Sink, Words};
 use cl_time::{NoMemory, Steps};
 use std::alloc::{AllocError, Global};
 use std::env::Args;
@@ -22,7 +23,8 @@ pub fn start<R: Env + Files + Print + AllocGlobal>(rt: &R) -> u8 {
     start_with::<R, Brand>(rt, env::args(rt), Blank::new(1))
 }
 
-/// The status of arguments, the program's own name among them, or of an error in their place.
+/// The same of arguments, the program's own name among them, or of an error in their place, with a counter of steps that
+/// nothing reads.
 fn start_with<R: Files + Print + AllocGlobal, L: Ledger>(
     rt: &R,
     arguments: io::Result<Args>,
@@ -35,9 +37,32 @@ fn start_with<R: Files + Print + AllocGlobal, L: Ledger>(
         (λ given. MayEndWith (map string_bytes (drop 1 (into_iter_items given))) result)
         (λ error. IsStatusOfError error result) }
 {
+    let alloc = rt.alloc();
+    let mut shelf = FileShelf::new(alloc, rt);
+    let mut sink = OutSink::new(rt);
+    let mut steps = Steps::<L>::open(blank);
+    run_arguments(alloc, arguments, &mut shelf, &mut sink, &mut steps)
+}
+
+/// Runs arguments over any shelf and any sink: the words are all but the first. Where there is an error in their place,
+/// neither is called.
+fn run_arguments<S: Shelf, K: Sink, L: Ledger>(
+    alloc: Global,
+    arguments: io::Result<Args>,
+    shelf: &mut S,
+    sink: &mut K,
+    steps: &mut Steps<L>,
+) -> u8
+    ensures given { IfOk arguments (λ given.
+        Ends (ComesTo (map string_bytes (drop 1 (into_iter_items given))) (shelf_call S.held S.faults S.longest shelf.old shelf.new))
+        (sink_call K.written K.faults K.last_failed sink.old sink.new) result) }
+    ensures not_given { IfErr arguments (λ error. IsStatusOfError error result) }
+    ensures uncalled { OnErr arguments ((shelf.new ≡ shelf.old) × (sink.new ≡ sink.old)) }
+    ensures not_text { result ≡ ARGUMENT_NOT_TEXT → sink.new ≡ sink.old }
+{
     match arguments {
-        Ok(arguments) => match words_of(rt.alloc(), arguments) {
-            Ok(words) => run_uncounted::<R, L>(rt, &words, blank),
+        Ok(arguments) => match words_of(alloc, arguments) {
+            Ok(words) => run(alloc, &words, shelf, sink, steps),
             Err(NoMemory) => NO_MEMORY,
         },
         Err(error) => status_of(&error),
@@ -82,22 +107,4 @@ fn status_of(error: &io::Error) -> u8
     } else {
         ARGUMENT_NOT_TEXT
     }
-}
-
-/// Runs the words over files and the standard output, with a counter of steps that nothing reads.
-fn run_uncounted<R: Files + Print + AllocGlobal, L: Ledger>(
-    rt: &R,
-    words: &Words,
-    blank: Blank,
-) -> u8
-    requires name { blank.name ≡ L.name }
-    requires parts { blank.parts ≡ L.parts }
-    requires a_part { 0 < blank.parts }
-    ensures { MayEndWith words.now result }
-{
-    let alloc = rt.alloc();
-    let mut shelf = FileShelf::new(alloc, rt);
-    let mut sink = OutSink::new(rt);
-    let mut steps = Steps::<L>::open(blank);
-    run(alloc, words, &mut shelf, &mut sink, &mut steps)
 }

@@ -4,22 +4,21 @@ use Rattle.std.specs.List.{All, flat_map, range_with_len}
 use Rattle.std.proofs.lemmas.Bool.{cases_lt}
 use Rattle.std.proofs.lemmas.Grind.{flat_map-append}
 use Rattle.std.proofs.lemmas.List.{append-nil}
-use Rattle.std.proofs.lemmas.List.Elements.{All-nil, All-cons, All-append, All-head, All-tail}
+use Rattle.std.proofs.lemmas.List.Elements.{All-nil, All-cons, All-append, All-head}
 use Rattle.cl_model.specs.declared.model.SystemModel.{SystemModel}
-use Rattle.cl_model.specs.ByNumber.{core_of}
 use Rattle.cl_model.specs.Validity.{IsValid}
+use Rattle.cl_model.proofs.NamesKnown.{core_within}
 use Rattle.cl_runs.specs.declared.job.Job.{Job}
-use Rattle.cl_runs.specs.TaskTiming.{Timing}
 use Rattle.cl_runs.specs.Run.{Run}
-use Rattle.cl_runs.specs.SystemOf.{system_of}
-use Rattle.cl_runs.proofs.ModelSystem.{count_is, timing_is, cores_are, system_sound}
 use Rattle.cl_run_data.specs.declared.stretches.Stretch.{Stretch}
 use Rattle.cl_trace.specs.declared.limits.TheConstants.{MOST_TRACE_TICKS}
 use Rattle.cl_trace.specs.Stretches.{stretches_of}
 use Rattle.cl_trace.specs.Trace.{Item, Title, Ticks, JobOf, Runs, End, item_text, text_of, stretch_item, stretch_items, core_items}
-use Rattle.cl_trace.specs.Rules.{HasHead, IsOpen, IsAboveJob, IsAboveRun, IsJobLine, IsRunLine, MayStand, IsBadLine}
-use Rattle.cl_trace.specs.Inner.Bodies.{IsBody, IsReadUpTo, jobs_in, items_in}
+use Rattle.cl_trace.specs.Rules.{HasHead, IsOpen, IsAboveJob, IsAboveRun, IsJobLine, IsRunLine, MayStand}
+use Rattle.cl_trace.specs.Inner.Bodies.{IsBody, IsReadSoFar, jobs_in, items_in}
 use Rattle.cl_trace.specs.Inner.Pieces.{AreTasksNamed, newlines}
+use Rattle.cl_trace.proofs.BadCases.{IsStuckAt}
+use Rattle.cl_trace.proofs.CoreLines.{all_left}
 use Rattle.cl_trace.proofs.GoodLines.{head_items, good_append}
 use Rattle.cl_trace.proofs.JobLines.{past_last, text_more}
 use Rattle.cl_trace.proofs.LineCounts.{ends_of_good, number_of_left, same_ticks, newlines_append, title_end, last_end, ticks_end}
@@ -36,16 +35,12 @@ pub all_flat : (P : Item → Type 0) (f : ℕ → List Item) (n a : ℕ) → ((k
 all_flat P f zero a all = All-nil P
 all_flat P f (suc n) a all = All-append P (f a) (flat_map f (range_with_len (a + 1) n)) (all a) (all_flat P f n (a + 1) all)
 
-all_first : {X : Type 0} (P : X → Type 0) (xs ys : List X) → All P (xs ++ ys) → All P xs
-all_first P [] ys all = All-nil P
-all_first P (x ∷ xs) ys all = All-cons P x xs (All-head P x (xs ++ ys) all) (all_first P xs ys (All-tail P x (xs ++ ys) all))
-
 all_at : (P : Item → Type 0) (f : ℕ → List Item) (n a k : ℕ) → a ≤ k → k < a + n → All P (flat_map f (range_with_len a n)) → All P (f k)
 all_at P f zero a k low high all = absurd (omega arith)
 all_at P f (suc n) a k low high all = elim (cases_lt a k) [
   | inl more ↦ all_at P f n (a + 1) k (omega arith) (omega arith) (all_right P (f a) (flat_map f (range_with_len (a + 1) n)) all)
   | inr here ↦ let same : a ≡ k = omega arith in
-      subst (λ i. All P (f i)) same (all_first P (f a) (flat_map f (range_with_len (a + 1) n)) all)
+      subst (λ i. All P (f i)) same (all_left P (f a) (flat_map f (range_with_len (a + 1) n)) all)
 ]
 
 pub runs_only : (ss : List Stretch) (from : ℕ) → All IsRun (stretch_items from ss)
@@ -90,13 +85,7 @@ no_later task later (job ∷ jobs) lt above =
 
 -- ---- no line may stand next
 
-cores_within : (model : SystemModel) → IsValid model → (task : ℕ) → task < length model.tasks → core_of model task < length model.cores
-cores_within model valid task lt =
-    let is_task : task < length (system_of model).tasks = omega (arith, lt, count_is model) in
-    let sound = (system_sound model valid).tasks task is_task in
-    omega (arith, sound.on_core, ap (λ (t : Timing). t.core) (timing_is model task lt), cores_are model)
-
-module _ (model : SystemModel) (valid : IsValid model) (named : AreTasksNamed model) (text : List ℕ) (run : Run) (rest : List ℕ) (read : IsReadUpTo model text run rest) where
+module _ (model : SystemModel) (valid : IsValid model) (named : AreTasksNamed model) (text : List ℕ) (run : Run) (rest : List ℕ) (read : IsReadSoFar model text run rest) where
   head_read : HasHead run.table.ticks (read_items model text run rest read)
   head_read = record { body = table_items model text run rest read ++ entry_items model text run rest read; head = refl }
 
@@ -105,7 +94,7 @@ module _ (model : SystemModel) (valid : IsValid model) (named : AreTasksNamed mo
       (all_right P (head_items run.table.ticks) (table_items model text run rest read ++ entry_items model text run rest read) all)
 
   of_table_read : (P : Item → Type 0) → All P (read_items model text run rest read) → All P (table_items model text run rest read)
-  of_table_read P all = all_first P (table_items model text run rest read) (entry_items model text run rest read)
+  of_table_read P all = all_left P (table_items model text run rest read) (entry_items model text run rest read)
       (all_right P (head_items run.table.ticks) (table_items model text run rest read ++ entry_items model text run rest read) all)
 
   entries_are_runs : All IsRun (entry_items model text run rest read)
@@ -139,7 +128,7 @@ module _ (model : SystemModel) (valid : IsValid model) (named : AreTasksNamed mo
   no_run task from to after line =
       let ticks = same_ticks run.table.ticks line.ticks (read_items model text run rest read) head_read line.head in
       read.body.runs.none_left task from to after (record { is_task = line.is_task; some = line.some; in_time = omega (arith, line.in_time, ticks) })
-      (cores_within model valid task line.is_task) (of_stretches_read (IsAboveRun model task from) line.in_order)
+      (core_within model valid task line.is_task) (of_stretches_read (IsAboveRun model task from) line.in_order)
 
   no_first : (xs : List Item) → Title ∷ xs ≡ [] → ⊥
   no_first xs is = cc
@@ -162,7 +151,7 @@ module _ (model : SystemModel) (valid : IsValid model) (named : AreTasksNamed mo
 
   -- the text isn't ended where the last line doesn't stand next
   pub no_below : (number : ℕ) → ((after : List ℕ) → rest ≢ item_text model End ++ after) → number ≡ newlines (take (length text - length rest) text) + 1
-      → IsBadLine model text number
+      → IsStuckAt model text number
   no_below number unended is = record {
     items = read_items model text run rest read;
     rest = rest;
@@ -182,7 +171,7 @@ module _ (model : SystemModel) (valid : IsValid model) (named : AreTasksNamed mo
 
   -- the text goes on after the last line
   pub too_long : (number : ℕ) (more : List ℕ) → rest ≡ item_text model End ++ more → more ≢ [] → number ≡ newlines (take (length text - length more) text) + 1
-      → IsBadLine model text number
+      → IsStuckAt model text number
   too_long number more last some is = record {
     items = read_items model text run rest read ++ End ∷ [];
     rest = more;
@@ -222,7 +211,7 @@ module _ (model : SystemModel) (valid : IsValid model) (named : AreTasksNamed mo
 
 module _ (model : SystemModel) (text : List ℕ) where
   -- the first line is bad
-  pub no_title : ((after : List ℕ) → text ≢ item_text model Title ++ after) → IsBadLine model text 1
+  pub no_title : ((after : List ℕ) → text ≢ item_text model Title ++ after) → IsStuckAt model text 1
   no_title other = record {
     items = [];
     rest = text;
@@ -245,7 +234,7 @@ module _ (model : SystemModel) (text : List ℕ) where
 
   -- the second line is bad
   pub no_ticks : (behind : List ℕ) → text ≡ item_text model Title ++ behind
-      → ((ticks : ℕ) (after : List ℕ) → ticks ≤ MOST_TRACE_TICKS → behind ≢ item_text model (Ticks ticks) ++ after) → IsBadLine model text 2
+      → ((ticks : ℕ) (after : List ℕ) → ticks ≤ MOST_TRACE_TICKS → behind ≢ item_text model (Ticks ticks) ++ after) → IsStuckAt model text 2
   no_ticks behind is other = record {
     items = Title ∷ [];
     rest = behind;
@@ -272,7 +261,7 @@ module _ (model : SystemModel) (text : List ℕ) where
 -- what was read behind the two first lines
 pub read_up_to : (model : SystemModel) (text behind behind_ticks : List ℕ) (ticks : ℕ) (run : Run) (rest : List ℕ) → ticks ≤ MOST_TRACE_TICKS
     → text ≡ item_text model Title ++ behind → behind ≡ item_text model (Ticks ticks) ++ behind_ticks → IsBody model ticks behind_ticks run rest
-    → IsReadUpTo model text run rest
+    → IsReadSoFar model text run rest
 read_up_to model text behind behind_ticks ticks run rest most title second body = record {
   within = omega (arith, most, body.ticks_are);
   behind = behind_ticks;

@@ -1,5 +1,5 @@
 -- In a legal run a core has at most twice as many run lines as its tasks have jobs.
-use Rattle.std.proofs.Common.{◌≡◌, ◌≢◌, ℕ, zero, suc, ◌+◌, ◌*◌, ◌<◌, ◌≤◌, inl, inr, Bool, true, false, cond, eqb, Option, Some, None, List, [], ◌∷◌, ◌++◌, length, get_or, refl, sym, ap, ◌∙◌, subst, arith}
+use Rattle.std.proofs.Common.{◌≡◌, ◌≢◌, ℕ, suc, ◌+◌, ◌<◌, ◌≤◌, Bool, true, false, cond, eqb, Option, Some, None, List, [], ◌∷◌, length, get_or, refl, sym, ap, ◌∙◌, subst, arith}
 use Rattle.std.specs.Option.{option_eq}
 use Rattle.std.proofs.lemmas.List.{length-append}
 use Rattle.cl_run_data.specs.declared.stretches.Stretch.{Stretch}
@@ -13,7 +13,7 @@ use Rattle.cl_trace.specs.Stretches.{before_stretches, stretches_from, stretches
 use Rattle.cl_trace.specs.Trace.{stretch_item, stretch_items, core_items}
 use Rattle.cl_trace.proofs.JobCounts.{begun_jobs, done_jobs, begun_most, done_most, begun_mono, done_mono}
 use Rattle.cl_trace.proofs.Switches.{Turns, begins, follows, turns_first, turns_later}
-use Rattle.cl_trace.proofs.Totals.{total, total_mono, total_more, total_twice, of_key, of_key_is, of_key_mono}
+use Rattle.cl_trace.proofs.Totals.{total, total_mono, total_more, of_key, of_key_is, of_key_mono}
 
 -- ---- lines of stretches
 

@@ -1,5 +1,5 @@
 -- Which line stands next in a text can be decided: by a search over all that may stand there.
-use Rattle.std.proofs.Common.{◌≡◌, ◌≢◌, ℕ, zero, suc, ◌+◌, ◌<◌, ◌≤◌, ◌⊎◌, inl, inr, Option, Some, None, List, [], ◌∷◌, ◌++◌, length, get_or, refl, sym, ap, ◌∙◌, subst, arith}
+use Rattle.std.proofs.Common.{◌≡◌, ◌≢◌, ℕ, zero, suc, ◌+◌, ◌<◌, ◌⊎◌, inl, inr, Option, Some, None, List, [], ◌∷◌, ◌++◌, length, get_or, refl, ap, ◌∙◌, subst, arith}
 use Rattle.std.specs.List.{All}
 use Rattle.std.proofs.lemmas.Bool.{cases_lt, cases_eq}
 use Rattle.std.proofs.lemmas.List.Elements.{All-nil, All-cons, All-head, All-tail}
@@ -9,7 +9,7 @@ use Rattle.cl_runs.specs.declared.job.Job.{Job}
 use Rattle.cl_runs.proofs.Executed.{cases_entry}
 use Rattle.cl_runs.proofs.FirstBelow.{both_or_not}
 use Rattle.cl_trace.specs.declared.limits.TheConstants.{MOST_TRACE_NUMBER}
-use Rattle.cl_trace.specs.Trace.{Item, JobOf, Runs, item_text}
+use Rattle.cl_trace.specs.Trace.{JobOf, Runs, item_text}
 use Rattle.cl_trace.specs.Rules.{IsJobOf}
 use Rattle.cl_trace.specs.Inner.Bodies.{IsStretchWithin, FitsEntries}
 

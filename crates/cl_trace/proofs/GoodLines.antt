@@ -12,6 +12,7 @@ use Rattle.cl_runs.proofs.ModelSystem.{count_is}
 use Rattle.cl_run_data.specs.declared.stretches.Stretch.{Stretch}
 use Rattle.cl_run_data.specs.Stretches.{AreLongest}
 use Rattle.cl_run_data.specs.Inner.StretchPlaces.{end_from}
+use Rattle.cl_run_data.proofs.OneStretchList.{end_least}
 use Rattle.cl_run_data.proofs.StretchFacts.{head_of, tail_of, length-entries}
 use Rattle.cl_trace.specs.declared.limits.TheConstants.{MOST_TRACE_TICKS}
 use Rattle.cl_trace.specs.Stretches.{stretches_of}
@@ -114,10 +115,6 @@ next_up_to model core from last (Ticks n) up = up
 next_up_to model core from last (JobOf other job) up = up
 next_up_to model core from last (Runs other start end) up = (omega (arith, up.0), λ same. absurd (omega (arith, up.0, same)))
 next_up_to model core from last End up = up
-
-end_least : (ss : List Stretch) (from : ℕ) → AreLongest from ss → from ≤ end_from from ss
-end_least [] from longest = omega arith
-end_least (s ∷ ss) from longest = omega (arith, head_of from s ss longest, end_least ss s.end (tail_of from s ss longest))
 
 -- the first stretch is of another task than the last entry before it
 abbrev pub HeadDiffers : Option ℕ → List Stretch → Type 0

@@ -1,5 +1,5 @@
 -- The trace of a legal run is read as that run.
-use Rattle.std.proofs.Common.{◌≡◌, ℕ, zero, suc, ◌+◌, ◌<◌, ◌≤◌, inl, inr, List, [], ◌∷◌, length, get_or, map, refl, sym, ap, ◌∙◌, subst, arith}
+use Rattle.std.proofs.Common.{◌≡◌, ℕ, zero, suc, ◌<◌, ◌≤◌, inl, inr, List, [], ◌∷◌, length, get_or, map, refl, ap, subst, arith}
 use Rattle.std.specs.List.{All, AllZip}
 use Rattle.std.proofs.lemmas.Bool.{cases_lt}
 use Rattle.std.proofs.lemmas.List.{get_or_default}
@@ -15,18 +15,18 @@ use Rattle.cl_model.specs.Timing.{greatest_jitter}
 use Rattle.cl_model.specs.Validity.{IsValid}
 use Rattle.cl_model.proofs.ValidTasks.{kind_in_range, runnables_in_range}
 use Rattle.cl_runs.specs.declared.job.Job.{Job}
-use Rattle.cl_runs.specs.Table.{no_job, job_at, LiesIn, HasTimes, AreLawfulJobs, IsLawful}
-use Rattle.cl_runs.specs.TaskTiming.{Timing, TimeRange, timing_at}
-use Rattle.cl_runs.specs.Run.{Run, jobs_of, IsInForm}
+use Rattle.cl_runs.specs.Table.{no_job, job_at, LiesIn}
+use Rattle.cl_runs.specs.TaskTiming.{Timing, timing_at}
+use Rattle.cl_runs.specs.Run.{Run, jobs_of}
 use Rattle.cl_runs.specs.Legal.{IsLegal}
-use Rattle.cl_runs.specs.SystemOf.{system_of, timing_of, range_of}
+use Rattle.cl_runs.specs.SystemOf.{system_of, range_of}
 use Rattle.cl_runs.proofs.ArrivalFacts.{arrives_below, released_within}
 use Rattle.cl_runs.proofs.ModelSystem.{count_is, timing_is}
 use Rattle.cl_trace.specs.declared.limits.TheConstants.{MOST_TRACE_TICKS, MOST_TRACE_NUMBER}
 use Rattle.cl_trace.specs.Trace.{spelled}
 use Rattle.cl_trace.specs.Rules.{IsJobInRange, IsWithinLimits, IsTraceOf}
 
-jitter_small : (kind : StimulusKind) → IsKindInRange kind → greatest_jitter kind ≤ MOST_TICKS
+pub jitter_small : (kind : StimulusKind) → IsKindInRange kind → greatest_jitter kind ≤ MOST_TICKS
 jitter_small (Periodic period offset jitter) is = is.2
 jitter_small (Sporadic least greatest) is = omega arith
 jitter_small (Burst period offset count distance) is = omega arith

@@ -17,6 +17,7 @@ pub mod RunWith
 pub mod GoodLines
 pub mod Readings
 pub mod LineCounts
+pub mod BadCases
 pub mod BadLines
 pub mod CoreTurns
 pub mod RunTurns

@@ -1,15 +1,13 @@
--- A run is told by the lines of its trace: the jobs of each task by the job lines, and the entries of each core by the run
--- lines.
-use Rattle.std.proofs.Common.{◌≡◌, ◌≢◌, ℕ, zero, suc, ◌+◌, ◌-◌, ◌<◌, ◌≤◌, ◌⊎◌, inl, inr, cond, eqb, Bool, true, false, Option, Some, None, List, [], ◌∷◌, ◌++◌, length, get_or, map, replicate, refl, sym, ap, ◌∙◌, subst, arith}
-use Rattle.std.specs.List.{All, flat_map, range_with_len}
+-- A run is told by the lines of its trace: the jobs of each task by the job lines, and the entries of each core by the
+-- run lines.
+use Rattle.std.proofs.Common.{◌≡◌, ℕ, zero, suc, ◌+◌, ◌-◌, ◌<◌, ◌≤◌, ◌⊎◌, inl, inr, cond, eqb, Bool, true, false, Option, Some, None, List, [], ◌∷◌, ◌++◌, length, get_or, map, replicate, refl, sym, ap, ◌∙◌, subst, arith}
+use Rattle.std.specs.List.{flat_map, range_with_len}
 use Rattle.std.proofs.Math.Seq.{get_or-append_right}
 use Rattle.std.proofs.lemmas.Bool.{cases_lt, cases_eq}
 use Rattle.std.proofs.lemmas.Bool.Decides.{nat_tests}
-use Rattle.std.proofs.lemmas.List.{append-nil, get_or_append_left, get_or-replicate, length-replicate, get_or_past, same_lists, get_or_default}
-use Rattle.std.proofs.lemmas.List.Elements.{All-head, All-tail}
+use Rattle.std.proofs.lemmas.List.{append-nil, get_or_append_left, get_or-replicate, length-replicate, same_lists, get_or_default}
 use Rattle.cl_runs.specs.declared.job.Job.{Job}
-use Rattle.cl_runs.specs.declared.job.JobTable.{JobTable}
-use Rattle.cl_runs.specs.TaskTiming.{System, timing_at}
+use Rattle.cl_runs.specs.TaskTiming.{System}
 use Rattle.cl_runs.specs.Run.{Run, core_entries, entry_at, IsEntryOf, IsInForm}
 use Rattle.cl_run_data.specs.declared.stretches.Stretch.{Stretch}
 use Rattle.cl_run_data.specs.Stretches.{entries_from, AreLongest, AreStretchesOf}

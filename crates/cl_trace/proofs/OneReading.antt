@@ -1,5 +1,5 @@
 -- A text is read in one way: its lines are told by it, and so are what its trace spells and its first bad line.
-use Rattle.std.proofs.Common.{◌≡◌, ◌≢◌, ℕ, zero, suc, ◌+◌, ◌^◌, ◌<◌, ◌≤◌, Bool, true, false, Option, Some, None, List, [], ◌∷◌, ◌++◌, length, get_or, refl, sym, ap, ◌∙◌, subst, arith, append_assoc}
+use Rattle.std.proofs.Common.{◌≡◌, ℕ, suc, ◌+◌, ◌^◌, ◌<◌, ◌≤◌, false, Some, List, [], ◌∷◌, ◌++◌, length, get_or, refl, sym, ap, ◌∙◌, subst, arith, append_assoc}
 use Rattle.std.specs.Prelude.{decimal, codes}
 use Rattle.std.specs.List.{All, AllPass}
 use Rattle.std.proofs.lemmas.List.{append-nil, append_cancel_left}
@@ -11,13 +11,15 @@ use Rattle.cl_model.specs.Validity.{IsValid}
 use Rattle.cl_model.proofs.Links.{own_task}
 use Rattle.cl_text.specs.Decimal.{number_of}
 use Rattle.cl_text.specs.Line.{first_word, is_graphic, line}
+use Rattle.cl_text.specs.Standing.{NoneStands}
 use Rattle.cl_text.proofs.DecimalLemmas.{grammar_of_decimal}
 use Rattle.cl_text.proofs.LineLemmas.{first_word-ended, graphic_decimal}
 use Rattle.cl_runs.specs.declared.job.Job.{Job}
-use Rattle.cl_trace.specs.declared.limits.TheConstants.{MOST_TRACE_TICKS, MOST_TRACE_NUMBER}
-use Rattle.cl_trace.specs.Trace.{Item, Title, Ticks, JobOf, Runs, End, number_text, numbers, item_text, text_of}
-use Rattle.cl_trace.specs.Rules.{HasHead, IsOpen, IsAboveJob, IsAboveRun, MayStand, AreGoodAfter, IsBadLine}
+use Rattle.cl_trace.specs.declared.limits.TheConstants.{MOST_TRACE_TICKS}
+use Rattle.cl_trace.specs.Trace.{Item, Title, Ticks, JobOf, Runs, End, numbers, item_text, text_of}
+use Rattle.cl_trace.specs.Rules.{HasHead, MayStand, AreGoodAfter, IsBadTraceLine}
 use Rattle.cl_trace.specs.Inner.Pieces.{AreTasksNamed}
+use Rattle.cl_trace.proofs.BadCases.{IsStuckAt, stuck_of}
 use Rattle.cl_trace.proofs.LineFacts.{numbers_first, split_line}
 use Rattle.cl_trace.proofs.PieceFacts.{graphic_name}
 
@@ -215,7 +217,7 @@ module _ (model : SystemModel) where
 
   -- no line that may stand below these stands next
   abbrev pub IsStuck : (before : List Item) (rest : List ℕ) → Type 0
-  IsStuck before rest = (item : Item) (after : List ℕ) → MayStand model before item → rest ≢ item_text model item ++ after
+  IsStuck before rest = NoneStands (item_text model) (MayStand model before) rest
 
   line_first : (item : Item) (items : List Item) (rest : List ℕ) → text_of model (item ∷ items) ++ rest ≡ item_text model item ++ (text_of model items ++ rest)
   line_first item items rest = append_assoc (item_text model item) (text_of model items) rest
@@ -243,11 +245,17 @@ module _ (model : SystemModel) where
 pub tasks_named : (model : SystemModel) → AreNamed model → AreTasksNamed model
 tasks_named model named task lt = (named.tasks task no_task lt).name
 
-pub bad_once : (model : SystemModel) → IsValid model → AreNamed model → (text : List ℕ) (one other : ℕ) → IsBadLine model text one → IsBadLine model text other → one ≡ other
-bad_once model valid named text one other first second =
+stuck_once : (model : SystemModel) → IsValid model → AreNamed model → (text : List ℕ) (one other : ℕ) → IsStuckAt model text one → IsStuckAt model text other
+    → one ≡ other
+stuck_once model valid named text one other first second =
     let same = lines_once model valid (tasks_named model named) first.items second.items [] first.rest second.rest (λ ticks head. absurd (too_few ticks head.body head.head))
     first.good second.good (sym first.parts ∙ second.parts) first.bad second.bad in
     first.counted ∙ ap (λ items. suc (length items)) same.0 ∙ sym second.counted
   where
     too_few : (ticks : ℕ) (body : List Item) → [] ≡ Title ∷ Ticks ticks ∷ body → ⊥
     too_few ticks body is = omega (arith, ap length is)
+
+pub bad_once : (model : SystemModel) → IsValid model → AreNamed model → (text : List ℕ) (one other : ℕ)
+    → IsBadTraceLine model text one → IsBadTraceLine model text other → one ≡ other
+bad_once model valid named text one other first second =
+    stuck_once model valid named text one other (stuck_of model text one first) (stuck_of model text other second)

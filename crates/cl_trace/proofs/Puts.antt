@@ -1,9 +1,10 @@
 -- Texts that grow piece by piece: of the elements of a list, and of numbers in order.
-use Rattle.std.proofs.Common.{◌≡◌, ℕ, zero, suc, ◌+◌, ◌<◌, ◌≤◌, List, [], ◌∷◌, ◌++◌, length, get_or, drop, map, sym, ap, ◌∙◌, arith, append_assoc}
+use Rattle.std.proofs.Common.{◌≡◌, ℕ, suc, ◌+◌, ◌<◌, ◌≤◌, List, [], ◌∷◌, ◌++◌, length, get_or, drop, map, sym, ap, ◌∙◌, arith, append_assoc}
 use Rattle.std.specs.List.{flat_map, range_with_len}
 use Rattle.std.proofs.lemmas.List.{at_drop_more, at_drop_all, append-nil}
 use Rattle.std.proofs.lemmas.Grind.{flat_map-append}
 use Rattle.std.proofs.lemmas.List.Folds.{flat_map-map}
+use Rattle.cl_text.proofs.MoreLines.{range_more}
 use Rattle.cl_model.specs.declared.model.SystemModel.{SystemModel}
 use Rattle.cl_runs.specs.declared.job.Job.{Job}
 use Rattle.cl_trace.specs.Trace.{Item, JobOf, item_text, text_of}
@@ -23,13 +24,6 @@ pub put_all : {X : Type 0} (f : X → List ℕ) (before text : List ℕ) (xs : L
     → text ++ flat_map f (drop i xs) ≡ before ++ flat_map f xs → text ≡ before ++ flat_map f xs
 put_all f before text xs i all was =
     sym (append-nil text) ∙ ap (λ t. text ++ t) (sym (at_drop_all (flat_map f) xs i all)) ∙ was
-
--- one more number
-range_more : (a n : ℕ) → range_with_len a (suc n) ≡ range_with_len a n ++ (a + n) ∷ []
-range_more a zero = ap (λ m. m ∷ []) (omega arith)
-range_more a (suc n) =
-    let next : a + 1 + n ≡ a + suc n = omega arith in
-    ap (λ ms. a ∷ ms) (range_more (a + 1) n ∙ ap (λ m. range_with_len (a + 1) n ++ m ∷ []) next)
 
 -- the items of one more number stand behind those before it
 pub items_more : (items : ℕ → List Item) (n : ℕ)

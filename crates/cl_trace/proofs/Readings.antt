@@ -3,22 +3,19 @@ use Rattle.std.proofs.Common.{◌≡◌, ℕ, zero, suc, ◌<◌, ◌≤◌, inl
 use Rattle.std.specs.List.{flat_map, range_with_len}
 use Rattle.std.proofs.lemmas.Bool.{cases_lt}
 use Rattle.std.proofs.lemmas.Grind.{flat_map-append}
-use Rattle.std.proofs.Math.ListN.{length-map}
 use Rattle.cl_model.specs.declared.model.SystemModel.{SystemModel}
-use Rattle.cl_model.specs.ByNumber.{task_at}
 use Rattle.cl_runs.specs.declared.job.Job.{Job}
-use Rattle.cl_runs.specs.TaskTiming.{Timing, timing_at}
 use Rattle.cl_runs.specs.Table.{no_job}
 use Rattle.cl_runs.specs.Run.{Run, jobs_of, IsInForm}
-use Rattle.cl_runs.specs.SystemOf.{system_of, range_of}
-use Rattle.cl_runs.proofs.ModelSystem.{count_is, timing_is}
+use Rattle.cl_runs.specs.SystemOf.{system_of}
+use Rattle.cl_runs.proofs.ModelSystem.{count_is, range_count_is}
 use Rattle.cl_trace.specs.Trace.{Item, Title, Ticks, End, item_text, text_of, job_items, run_items, core_items, items_of, spelled}
 use Rattle.cl_trace.specs.Rules.{IsJobInRange, IsWithinLimits, IsTraceOf, AreGoodAfter}
-use Rattle.cl_trace.specs.Inner.Bodies.{IsBody, IsReadUpTo, items_in}
+use Rattle.cl_trace.specs.Inner.Bodies.{IsBody, IsReadSoFar, items_in}
 use Rattle.cl_trace.proofs.GoodLines.{head_items, good_body}
 use Rattle.cl_trace.proofs.JobLines.{text_all}
 
-module _ (model : SystemModel) (text : List ℕ) (run : Run) (rest : List ℕ) (read : IsReadUpTo model text run rest) where
+module _ (model : SystemModel) (text : List ℕ) (run : Run) (rest : List ℕ) (read : IsReadSoFar model text run rest) where
   body : IsBody model run.table.ticks read.behind run rest
   body = read.body
 
@@ -46,9 +43,6 @@ module _ (model : SystemModel) (text : List ℕ) (run : Run) (rest : List ℕ) (
   unfolding_tasks : length run.table.jobs ≡ length (system_of model).tasks
   unfolding_tasks = read.body.tasks ∙ sym (count_is model)
 
-  ranges_are : (task : ℕ) → task < length model.tasks → length (timing_at (system_of model) task).ranges ≡ length (task_at model task).runnables
-  ranges_are task lt = ap (λ (t : Timing). length t.ranges) (timing_is model task lt) ∙ length-map (task_at model task).runnables range_of
-
   cores_are : length model.cores ≡ (system_of model).cores
   unfolding system_of
   cores_are = refl
@@ -59,7 +53,7 @@ module _ (model : SystemModel) (text : List ℕ) (run : Run) (rest : List ℕ) (
     times = λ task job lt below.
         let in_lists : task < length run.table.jobs = omega (arith, lt, unfolding_tasks) in
         let in_model : task < length model.tasks = omega (arith, in_lists, read.body.tasks) in
-        (read.body.jobs.of_tasks task in_lists job no_job below).times ∙ sym (ranges_are task in_model);
+        (read.body.jobs.of_tasks task in_lists job no_job below).times ∙ sym (range_count_is model task in_model);
     cores = read.body.cores ∙ cores_are;
     ticks = λ core lt. read.body.runs.filled core (omega (arith, lt, cores_are));
     entries = λ core tick lt below.

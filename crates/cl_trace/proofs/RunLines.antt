@@ -15,8 +15,8 @@ use Rattle.cl_run_data.specs.Inner.StretchPlaces.{end_from}
 use Rattle.cl_run_data.proofs.StretchFacts.{end_at_last}
 use Rattle.cl_trace.specs.Stretches.{stretches_of}
 use Rattle.cl_trace.specs.Trace.{Item, Runs, item_text, text_of, stretch_item, stretch_items}
-use Rattle.cl_trace.specs.Rules.{IsAboveRun, Follows}
-use Rattle.cl_trace.specs.Inner.Bodies.{AreEntriesOf, AreAllEntriesOf, IsStretchWithin, FitsEntries, idle_up_to, appended}
+use Rattle.cl_trace.specs.Rules.{IsAboveRun, IsBelowRun}
+use Rattle.cl_trace.specs.Inner.Bodies.{AreEntriesOf, AreAllEntriesOf, IsStretchWithin, FitsEntries, idle_up_to, entries_appended}
 use Rattle.cl_trace.proofs.JobLines.{text_more}
 use Rattle.cl_trace.proofs.LongestStretches.{own_stretches}
 use Rattle.cl_trace.proofs.StretchItems.{EndsOther, no_stretch, size, last_entry, appended_items, appended_length, idle_items, idle_length, all_replicate}
@@ -37,7 +37,7 @@ module _ (model : SystemModel) (ticks core : ℕ) (text : List ℕ) (entries : L
     (are : AreEntriesOf model ticks core text entries left) (busy : EndsOther entries None) where
   -- one more line
   pub entries_more : (task from to : ℕ) (rest : List ℕ) → IsStretchWithin model ticks task from to → FitsEntries model core entries task from
-      → left ≡ item_text model (Runs task from to) ++ rest → AreEntriesOf model ticks core text (appended entries task from to) rest
+      → left ≡ item_text model (Runs task from to) ++ rest → AreEntriesOf model ticks core text (entries_appended entries task from to) rest
   entries_more task from to rest within fits is = record {
     in_time = omega (arith, appended_length entries from busy fits.after task to within.some fits.changes, within.in_time);
     of_core = all_replicate (IsEntryOf (system_of model) core) (idle_up_to entries from) (to - from) (Some task)
@@ -82,7 +82,7 @@ module _ (model : SystemModel) (core : ℕ) (entries : List (Option ℕ)) (of_co
 
   -- the last entry is a task that this one follows
   pub last_followed : (n tick : ℕ) → suc n ≡ length (stretches_of entries) → tick + 1 ≡ length entries
-      → (other : ℕ) × (get_or entries tick None ≡ Some other) × Follows model other (length entries) task from
+      → (other : ℕ) × (get_or entries tick None ≡ Some other) × IsBelowRun model other (length entries) task from
   last_followed n tick last end = by_who (get_or (stretches_of entries) n no_stretch).who refl
     where
       entry : get_or entries tick None ≡ (get_or (stretches_of entries) n no_stretch).who
@@ -93,11 +93,11 @@ module _ (model : SystemModel) (core : ℕ) (entries : List (Option ℕ)) (of_co
       end_is = sym (end_at_last (stretches_of entries) 0 n no_stretch last) ∙ whole
 
       by_who : (who : Option ℕ) → (get_or (stretches_of entries) n no_stretch).who ≡ who
-          → (other : ℕ) × (get_or entries tick None ≡ Some other) × Follows model other (length entries) task from
+          → (other : ℕ) × (get_or entries tick None ≡ Some other) × IsBelowRun model other (length entries) task from
       by_who None is = absurd (busy tick end (entry ∙ is))
       by_who (Some other) is =
           let item = last_item (IsAboveRun model task from) (stretches_of entries) 0 n other last all is in
-          (other, entry ∙ is, subst (λ e. Follows model other e task from) end_is item.1)
+          (other, entry ∙ is, subst (λ e. IsBelowRun model other e task from) end_is item.1)
 
   pub fits_last : FitsEntries model core entries task from
   fits_last = elim (cases_lt 0 (length entries)) [

@@ -1,7 +1,7 @@
 -- In a legal run there are at most twice as many run lines as job lines.
-use Rattle.std.proofs.Common.{◌≡◌, ℕ, ◌+◌, ◌*◌, ◌<◌, ◌≤◌, List, length, refl, ap, ◌∙◌, arith}
+use Rattle.std.proofs.Common.{◌≡◌, ℕ, ◌+◌, ◌*◌, ◌≤◌, length, ap, ◌∙◌, arith}
 use Rattle.std.specs.Prelude.{sum_by}
-use Rattle.std.specs.List.{flat_map, range_with_len}
+use Rattle.std.specs.List.{range_with_len}
 use Rattle.std.proofs.lemmas.List.{length-map}
 use Rattle.std.proofs.lemmas.List.Concat.{length-flat_map}
 use Rattle.cl_runs.specs.TaskTiming.{System, timing_at, IsSound}
@@ -9,7 +9,7 @@ use Rattle.cl_runs.specs.Run.{Run, jobs_of}
 use Rattle.cl_runs.specs.Legal.{IsLegal}
 use Rattle.cl_trace.specs.Trace.{JobOf, task_items, core_items, job_items, run_items}
 use Rattle.cl_trace.proofs.Totals.{total, total_mono, total_twice, of_key, keys_apart}
-use Rattle.cl_trace.proofs.CoreTurns.{core_jobs, core_lines}
+use Rattle.cl_trace.proofs.CoreTurns.{core_lines}
 
 module _ (system : System) (sound : IsSound system) (run : Run) (legal : IsLegal system run) where
   all_jobs : length (job_items run) ≡ total (λ i. length (jobs_of run i)) 0 (length system.tasks)

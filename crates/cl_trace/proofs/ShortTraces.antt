@@ -1,31 +1,23 @@
 -- The traces of legal runs of valid models are short.
-use Rattle.std.proofs.Common.{◌≡◌, ℕ, ◌+◌, ◌*◌, ◌<◌, ◌≤◌, List, length, map, sym, ap, subst, arith}
+use Rattle.std.proofs.Common.{ℕ, ◌+◌, ◌*◌, ◌<◌, ◌≤◌, length, sym, subst, arith}
 use Rattle.std.specs.Prelude.{All}
 use Rattle.std.proofs.lemmas.List.Elements.{All-map}
 use Rattle.cl_model.specs.declared.limits.TheConstants.{MOST_TICKS}
 use Rattle.cl_model.specs.declared.model.SystemModel.{SystemModel}
-use Rattle.cl_model.specs.declared.stimulus.StimulusKind.{StimulusKind}
-use Rattle.cl_model.specs.declared.stimulus.StimulusKind.TheVariants.{Periodic, Sporadic, Burst}
-use Rattle.cl_model.specs.declared.task.RunnableDef.{RunnableDef}
 use Rattle.cl_model.specs.AreNamed.{AreNamed}
 use Rattle.cl_model.specs.ByNumber.{task_at, stimulus_of}
-use Rattle.cl_model.specs.Ranges.{IsKindInRange}
 use Rattle.cl_model.specs.Timing.{greatest_jitter}
 use Rattle.cl_model.specs.Validity.{IsValid}
 use Rattle.cl_model.proofs.ValidTasks.{kind_in_range, runnables_in_range}
 use Rattle.cl_runs.specs.TaskTiming.{TimeRange, Timing, timing_at}
-use Rattle.cl_runs.specs.SystemOf.{range_of, timing_of, system_of}
+use Rattle.cl_runs.specs.SystemOf.{range_of, system_of}
 use Rattle.cl_runs.specs.Run.{Run}
 use Rattle.cl_runs.specs.Legal.{IsLegal}
 use Rattle.cl_runs.proofs.ModelSystem.{count_is, timing_is, system_sound}
 use Rattle.cl_trace.specs.Executions.{executions}
 use Rattle.cl_trace.specs.Trace.{spelled}
+use Rattle.cl_trace.proofs.LegalTraces.{jitter_small}
 use Rattle.cl_trace.proofs.TraceLength.{spelled_short}
-
-little_jitter : (kind : StimulusKind) → IsKindInRange kind → greatest_jitter kind ≤ MOST_TICKS
-little_jitter (Periodic period offset jitter) in_range = in_range.2
-little_jitter (Sporadic least greatest) in_range = omega arith
-little_jitter (Burst period offset count distance) in_range = omega arith
 
 abbrev HasFewTicks : Timing → Type 0
 HasFewTicks timing = (greatest_jitter timing.pattern ≤ MOST_TICKS) × All (λ (range : TimeRange). range.greatest ≤ MOST_TICKS) timing.ranges
@@ -34,7 +26,7 @@ few_ticks : (model : SystemModel) → IsValid model → (i : ℕ) → i < length
 few_ticks model valid i is =
     let below : i < length model.tasks = omega (arith, is, count_is model) in
     subst HasFewTicks (sym (timing_is model i below)) (
-      little_jitter (stimulus_of model i) (kind_in_range model valid i below),
+      jitter_small (stimulus_of model i) (kind_in_range model valid i below),
       All-map (λ (range : TimeRange). range.greatest ≤ MOST_TICKS) range_of (task_at model i).runnables
           (λ k r h. (runnables_in_range model valid i below k r h).greatest.1),
     )

@@ -1,6 +1,5 @@
 -- Each text is the trace of a run, or has a first bad line.
-use Rattle.std.proofs.Common.{◌≡◌, ◌≢◌, ℕ, zero, suc, ◌+◌, ◌-◌, ◌<◌, ◌≤◌, ◌⊎◌, inl, inr, Option, Some, None, List, [], ◌∷◌, ◌++◌, length, get_or, map, replicate, set, take, refl, sym, ap, ◌∙◌, subst, arith, append_assoc, length-append}
-use Rattle.std.specs.List.{All, flat_map, range_with_len}
+use Rattle.std.proofs.Common.{◌≡◌, ◌≢◌, ℕ, zero, suc, ◌+◌, ◌-◌, ◌<◌, ◌≤◌, ◌⊎◌, inl, inr, Option, None, List, [], ◌∷◌, ◌++◌, length, get_or, map, replicate, set, take, refl, sym, ap, ◌∙◌, subst, arith, append_assoc, length-append}
 use Rattle.std.proofs.lemmas.Bool.{cases_lt}
 use Rattle.std.proofs.lemmas.List.{get_or-replicate, length-replicate, get_or_past}
 use Rattle.std.proofs.lemmas.List.Elements.{All-nil, All-cons}
@@ -11,10 +10,11 @@ use Rattle.cl_runs.specs.declared.job.Job.{Job}
 use Rattle.cl_runs.specs.declared.job.JobTable.{JobTable}
 use Rattle.cl_runs.specs.Run.{Run, core_entries}
 use Rattle.cl_trace.specs.declared.limits.TheConstants.{MOST_TRACE_TICKS}
-use Rattle.cl_trace.specs.Trace.{Item, Title, Ticks, JobOf, Runs, End, item_text, text_of}
-use Rattle.cl_trace.specs.Rules.{IsJobOf, IsTraceOf, IsBadLine}
-use Rattle.cl_trace.specs.Inner.Bodies.{AreJobsOf, AreJobLists, IsStretchWithin, FitsEntries, appended, AreEntriesOf, AreAllEntriesOf, IsRunWith, AreCores, IsBody, IsReadUpTo}
+use Rattle.cl_trace.specs.Trace.{Title, Ticks, JobOf, Runs, End, item_text, text_of}
+use Rattle.cl_trace.specs.Rules.{IsJobOf, IsTraceOf, IsBadTraceLine}
+use Rattle.cl_trace.specs.Inner.Bodies.{AreJobsOf, AreJobLists, entries_appended, AreEntriesOf, AreAllEntriesOf, IsRunWith, AreCores, IsBody, IsReadSoFar}
 use Rattle.cl_trace.specs.Inner.Pieces.{AreTasksNamed, newlines}
+use Rattle.cl_trace.proofs.BadCases.{cases_of}
 use Rattle.cl_trace.proofs.BadLines.{no_below, too_long, no_title, no_ticks, read_up_to}
 use Rattle.cl_trace.proofs.CoreLines.{cores_more, other_core}
 use Rattle.cl_trace.proofs.Decisions.{Decided, BeginsWith, begins_or_not, some_below, IsNextJob, next_job_or_none, IsNextRun, next_run_or_none}
@@ -22,7 +22,7 @@ use Rattle.cl_trace.proofs.JobLines.{item_longer, no_lists, lists_more}
 use Rattle.cl_trace.proofs.OneReading.{tasks_named}
 use Rattle.cl_trace.proofs.Readings.{read_trace_of}
 use Rattle.cl_trace.proofs.RunLines.{no_end, no_entries, entries_more, entries_all}
-use Rattle.cl_trace.proofs.RunWith.{with_pushed, entries_of_core, cores_same, ticks_same}
+use Rattle.cl_trace.proofs.RunWith.{with_pushed, entries_of_core, cores_same}
 use Rattle.cl_trace.proofs.StretchItems.{EndsOther, appended_busy}
 
 -- ---- job lines
@@ -93,7 +93,7 @@ module _ (model : SystemModel) where
       → AreEntriesOf model ticks core text entries left → EndsOther entries None → EntriesRead ticks core text
   entries_read ticks core text zero entries left within are busy = absurd (omega (arith, within))
   entries_read ticks core text (suc fuel) entries left within are busy = by_next (next_run_or_none model ticks core entries left)
-      (λ task from to next. entries_read ticks core text fuel (appended entries task from to) next.begins.0
+      (λ task from to next. entries_read ticks core text fuel (entries_appended entries task from to) next.begins.0
       (omega (arith, item_longer model (Runs task from to) left next.begins.0 next.begins.1, within))
       (entries_more model ticks core text entries left are busy task from to next.begins.0 next.within next.fits next.begins.1)
       (appended_busy entries from busy next.fits.after task to next.within.some next.fits.changes))
@@ -170,10 +170,10 @@ module _ (model : SystemModel) where
 -- ---- whole texts
 
 abbrev pub HasAnswer : SystemModel → (text : List ℕ) → Type 0
-HasAnswer model text = ((run : Run) × IsTraceOf model text run) ⊎ ((line : ℕ) × IsBadLine model text line)
+HasAnswer model text = ((run : Run) × IsTraceOf model text run) ⊎ ((line : ℕ) × IsBadTraceLine model text line)
 
 module _ (model : SystemModel) (valid : IsValid model) (named : AreTasksNamed model) (text : List ℕ) where
-  ended : (run : Run) (rest : List ℕ) → IsReadUpTo model text run rest → HasAnswer model text
+  ended : (run : Run) (rest : List ℕ) → IsReadSoFar model text run rest → HasAnswer model text
   ended run rest read = by_end (begins_or_not (item_text model End) rest)
     where
       some_left : (byte : ℕ) (bytes : List ℕ) → byte ∷ bytes ≢ []
@@ -182,12 +182,18 @@ module _ (model : SystemModel) (valid : IsValid model) (named : AreTasksNamed mo
       by_more : (more : List ℕ) → rest ≡ item_text model End ++ more → HasAnswer model text
       by_more [] last = inl (run, read_trace_of model text run rest read last)
       by_more (byte ∷ bytes) last =
-          inr (newlines (take (length text - length (byte ∷ bytes)) text) + 1, too_long model valid named text run rest read _ (byte ∷ bytes) last (some_left byte bytes) refl)
+          inr (
+            newlines (take (length text - length (byte ∷ bytes)) text) + 1,
+            cases_of model text _ (too_long model valid named text run rest read _ (byte ∷ bytes) last (some_left byte bytes) refl),
+          )
 
       by_end : Decided (BeginsWith (item_text model End) rest) → HasAnswer model text
       by_end (inl last) = by_more last.0 last.1
       by_end (inr none) =
-          inr (newlines (take (length text - length rest) text) + 1, no_below model valid named text run rest read _ (λ after is. none (after, is)) refl)
+          inr (
+            newlines (take (length text - length rest) text) + 1,
+            cases_of model text _ (no_below model valid named text run rest read _ (λ after is. none (after, is)) refl),
+          )
 
   body_of : (ticks : ℕ) → ticks ≤ MOST_TRACE_TICKS → (behind behind_ticks : List ℕ) → text ≡ item_text model Title ++ behind
       → behind ≡ item_text model (Ticks ticks) ++ behind_ticks → HasAnswer model text
@@ -211,14 +217,14 @@ module _ (model : SystemModel) (valid : IsValid model) (named : AreTasksNamed mo
       by_ticks : ((n : ℕ) × (n < suc MOST_TRACE_TICKS) × BeginsWith (item_text model (Ticks n)) behind)
           ⊎ ((n : ℕ) → n < suc MOST_TRACE_TICKS → BeginsWith (item_text model (Ticks n)) behind → ⊥) → HasAnswer model text
       by_ticks (inl found) = body_of found.0 (omega (arith, found.1)) behind found.2.0 title found.2.1
-      by_ticks (inr none) = inr (2, no_ticks model text behind title (λ ticks after few is. none ticks (omega (arith, few)) (after, is)))
+      by_ticks (inr none) = inr (2, cases_of model text 2 (no_ticks model text behind title (λ ticks after few is. none ticks (omega (arith, few)) (after, is))))
 
   title_of : HasAnswer model text
   title_of = by_title (begins_or_not (item_text model Title) text)
     where
       by_title : Decided (BeginsWith (item_text model Title) text) → HasAnswer model text
       by_title (inl found) = ticks_of found.0 found.1
-      by_title (inr none) = inr (1, no_title model text (λ after is. none (after, is)))
+      by_title (inr none) = inr (1, cases_of model text 1 (no_title model text (λ after is. none (after, is))))
 
 pub some_answer : (model : SystemModel) → IsValid model → AreNamed model → (text : List ℕ) → HasAnswer model text
 some_answer model valid named text = title_of model valid (tasks_named model named) text

@@ -10,7 +10,7 @@ use Rattle.cl_run_data.specs.Stretches.{entries_from, AreLongest, AreStretchesOf
 use Rattle.cl_run_data.specs.Inner.StretchPlaces.{end_from}
 use Rattle.cl_run_data.proofs.StretchFacts.{length-entries, end_at_last, ends_rise, ends_after as ends_after_start, entry_of_stretch, longest_push, entries_push}
 use Rattle.cl_trace.specs.Stretches.{stretches_of}
-use Rattle.cl_trace.specs.Inner.Bodies.{idle_up_to, appended}
+use Rattle.cl_trace.specs.Inner.Bodies.{idle_up_to, entries_appended}
 use Rattle.cl_trace.specs.Trace.{Runs, stretch_item, stretch_items}
 use Rattle.cl_trace.proofs.LongestStretches.{own_stretches, only_stretches}
 
@@ -79,7 +79,7 @@ module _ (entries : List (Option ℕ)) (ss : List Stretch) (are : AreStretchesOf
       ∙ items_push ss 0 one_more
       ∙ ap (λ n. stretch_items 0 ss ++ stretch_item who n (length entries + ticks)) length_is
 
--- ---- what is appended for a run line: idle ticks up to it, and the ticks of the task
+-- ---- what is entries_appended for a run line: idle ticks up to it, and the ticks of the task
 
 -- replicated entries end with themselves
 pub ends_replicate : (entries : List (Option ℕ)) (n : ℕ) (who other : Option ℕ) → 0 < n → who ≢ other → EndsOther (entries ++ replicate n who) other
@@ -126,7 +126,7 @@ module _ (entries : List (Option ℕ)) (from : ℕ) (busy : EndsOther entries No
           subst (λ es. EndsOther es (Some task)) (sym (no_idle same)) (λ tick end. changes tick end same)
     ]
 
-    pub appended_items : stretch_items 0 (stretches_of (appended entries task from to)) ≡ stretch_items 0 (stretches_of entries) ++ Runs task from to ∷ []
+    pub appended_items : stretch_items 0 (stretches_of (entries_appended entries task from to)) ≡ stretch_items 0 (stretches_of entries) ++ Runs task from to ∷ []
     appended_items =
         let last : from + (to - from) ≡ to = omega arith in
         items_more_of (idle_up_to entries from) (stretches_of (idle_up_to entries from)) (own_stretches (idle_up_to entries from)) (Some task) (to - from) (omega arith) idle_ends
@@ -134,13 +134,13 @@ module _ (entries : List (Option ℕ)) (from : ℕ) (busy : EndsOther entries No
         ∙ ap (λ n. stretch_items 0 (stretches_of (idle_up_to entries from)) ++ Runs task from n ∷ []) last
         ∙ ap (λ is. is ++ Runs task from to ∷ []) idle_items
 
-    pub appended_length : length (appended entries task from to) ≡ to
+    pub appended_length : length (entries_appended entries task from to) ≡ to
     appended_length = omega (arith, length-append (idle_up_to entries from) (replicate (to - from) (Some task)), length-replicate (to - from) (Some task), idle_length, some)
 
-    pub appended_busy : EndsOther (appended entries task from to) None
+    pub appended_busy : EndsOther (entries_appended entries task from to) None
     appended_busy = ends_replicate (idle_up_to entries from) (to - from) (Some task) None (omega arith) (some_none task)
 
--- what holds of each entry, and of what is appended
+-- what holds of each entry, and of what is entries_appended
 pub all_replicate : (P : Option ℕ → Type 0) (entries : List (Option ℕ)) (n : ℕ) (who : Option ℕ) → All P entries → P who → All P (entries ++ replicate n who)
 all_replicate P entries n who all one = All-append P entries (replicate n who) all (by_count n)
   where

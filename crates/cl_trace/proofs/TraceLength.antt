@@ -1,5 +1,5 @@
 -- How long the trace of a legal run is.
-use Rattle.std.proofs.Common.{◌≡◌, ℕ, zero, suc, ◌+◌, ◌*◌, ◌<◌, ◌≤◌, inl, inr, Bool, true, false, cond, eqb, Option, Some, None, List, [], ◌∷◌, ◌++◌, length, get_or, codes, refl, sym, ap, ◌∙◌, arith}
+use Rattle.std.proofs.Common.{◌≡◌, ℕ, zero, suc, ◌+◌, ◌*◌, ◌<◌, ◌≤◌, Bool, true, false, cond, eqb, Option, Some, None, List, [], ◌∷◌, ◌++◌, length, get_or, codes, refl, ap, ◌∙◌, arith}
 use Rattle.std.specs.Prelude.{sum_by, All, map}
 use Rattle.std.specs.List.{flat_map, range_with_len, AllZip}
 use Rattle.std.specs.Option.{option_eq}
@@ -15,13 +15,13 @@ use Rattle.cl_model.specs.Timing.{greatest_jitter}
 use Rattle.cl_runs.specs.declared.job.Job.{Job}
 use Rattle.cl_runs.specs.TaskTiming.{TimeRange, Timing, System, timing_at, IsSound}
 use Rattle.cl_runs.specs.Table.{HasTimes, LiesIn}
-use Rattle.cl_runs.specs.Arrivals.{AreArrivalsFrom, FollowPattern}
+use Rattle.cl_runs.specs.Arrivals.{AreArrivalsFrom}
 use Rattle.cl_runs.specs.Run.{Run, jobs_of, core_entries}
 use Rattle.cl_runs.specs.Legal.{IsLegal}
 use Rattle.cl_run_data.specs.declared.stretches.Stretch.{Stretch}
 use Rattle.cl_trace.specs.Executions.{job_executions, executions}
 use Rattle.cl_trace.specs.Stretches.{before_stretches, stretches_from, stretches_of}
-use Rattle.cl_trace.specs.Trace.{Item, Title, Ticks, JobOf, Runs, End, numbers, item_text, text_of, task_items, stretch_item, stretch_items, core_items, job_items, run_items, items_of, spelled}
+use Rattle.cl_trace.specs.Trace.{Item, Title, Ticks, JobOf, Runs, End, numbers, item_text, task_items, stretch_item, stretch_items, core_items, job_items, run_items, items_of, spelled}
 use Rattle.cl_trace.proofs.LineLengths.{IsShort, numbers_short, job_short, run_short}
 use Rattle.cl_trace.proofs.RunTurns.{run_lines}
 use Rattle.cl_trace.proofs.Totals.{total, total_mono}

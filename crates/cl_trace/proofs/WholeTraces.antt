@@ -1,26 +1,26 @@
--- The lines of a trace are good ones, with nothing behind the last: so it has no bad line, and its lines are told by it.
-use Rattle.std.proofs.Common.{◌≡◌, ◌≢◌, ℕ, suc, ◌<◌, ◌≤◌, Option, None, List, [], ◌∷◌, ◌++◌, length, get_or, refl, sym, ap, ◌∙◌, subst, arith}
+-- The lines of a trace are good ones, with nothing behind the last: so it has no bad line, and its lines are told by
+-- it.
+use Rattle.std.proofs.Common.{◌≡◌, ℕ, ◌<◌, Option, None, List, [], ◌∷◌, ◌++◌, length, get_or, refl, sym, ap, ◌∙◌, subst, arith}
 use Rattle.std.specs.List.{All, flat_map, range_with_len}
-use Rattle.std.proofs.Math.ListN.{length-map}
 use Rattle.std.proofs.lemmas.List.{append-nil, get_or_default}
-use Rattle.std.proofs.lemmas.List.Elements.{All-nil, All-cons, All-append, All-head}
+use Rattle.std.proofs.lemmas.List.Elements.{All-cons, All-append, All-head}
 use Rattle.cl_model.specs.declared.model.SystemModel.{SystemModel}
-use Rattle.cl_model.specs.AreNamed.{AreNamed}
 use Rattle.cl_model.specs.ByNumber.{task_at}
 use Rattle.cl_model.specs.Validity.{IsValid}
 use Rattle.cl_runs.specs.declared.job.Job.{Job}
 use Rattle.cl_runs.specs.Table.{no_job}
-use Rattle.cl_runs.specs.TaskTiming.{Timing, timing_at}
-use Rattle.cl_runs.specs.Run.{Run, jobs_of, core_entries, IsEntryOf}
-use Rattle.cl_runs.specs.SystemOf.{system_of, range_of}
-use Rattle.cl_runs.proofs.ModelSystem.{count_is, timing_is}
+use Rattle.cl_runs.specs.Run.{Run, core_entries, IsEntryOf}
+use Rattle.cl_runs.specs.SystemOf.{system_of}
+use Rattle.cl_runs.proofs.ModelSystem.{count_is, range_count_is}
 use Rattle.cl_trace.specs.Stretches.{stretches_of}
-use Rattle.cl_trace.specs.Trace.{Item, Title, Ticks, JobOf, Runs, End, item_text, text_of, job_items, run_items, core_items, items_of, spelled}
-use Rattle.cl_trace.specs.Rules.{IsOpen, IsAboveJob, IsAboveRun, IsJobOf, MayStand, AreGoodAfter, IsTraceOf, IsBadLine}
+use Rattle.cl_trace.specs.Trace.{Item, Title, Ticks, JobOf, Runs, End, text_of, job_items, run_items, core_items, items_of, spelled}
+use Rattle.cl_trace.specs.Rules.{IsOpen, IsAboveJob, IsAboveRun, IsJobOf, MayStand, AreGoodAfter, IsTraceOf, IsBadTraceLine}
 use Rattle.cl_trace.specs.Inner.Bodies.{jobs_in, items_in}
+use Rattle.cl_trace.specs.Inner.Pieces.{AreTasksNamed}
+use Rattle.cl_trace.proofs.BadCases.{IsStuckAt, stuck_of}
 use Rattle.cl_trace.proofs.BadLines.{IsRun, all_flat, jobs_open, runs_only, run_open}
 use Rattle.cl_trace.proofs.GoodLines.{head_items, good_append, good_body}
-use Rattle.cl_trace.proofs.OneReading.{IsStuck, lines_once, tasks_named}
+use Rattle.cl_trace.proofs.OneReading.{IsStuck, lines_once}
 use Rattle.cl_trace.proofs.RunLines.{all_right}
 
 module _ (model : SystemModel) (text : List ℕ) (run : Run) (trace : IsTraceOf model text run) where
@@ -37,9 +37,6 @@ module _ (model : SystemModel) (text : List ℕ) (run : Run) (trace : IsTraceOf 
   pub lines_are : items_of run ≡ lines_above ++ End ∷ []
   unfolding job_items run_items
   lines_are = refl
-
-  ranges_are : (task : ℕ) → task < length model.tasks → length (timing_at (system_of model) task).ranges ≡ length (task_at model task).runnables
-  ranges_are task lt = ap (λ (t : Timing). length t.ranges) (timing_is model task lt) ∙ length-map (task_at model task).runnables range_of
 
   jobs_are : (task : ℕ) → task < length run.table.jobs → All (IsJobOf model task) (jobs_in run.table.jobs task)
   jobs_are task lt job d below =
@@ -58,7 +55,7 @@ module _ (model : SystemModel) (text : List ℕ) (run : Run) (trace : IsTraceOf 
       times_are : (task job : ℕ) (d : Job) → task < length (system_of model).tasks → task < length model.tasks → job < length (jobs_in run.table.jobs task)
           → length (get_or (jobs_in run.table.jobs task) job d).times ≡ length (task_at model task).runnables
       times_are task job d in_system in_model below =
-          ap (λ (j : Job). length j.times) (same_default task job d below) ∙ trace.in_form.times task job in_system below ∙ ranges_are task in_model
+          ap (λ (j : Job). length j.times) (same_default task job d below) ∙ trace.in_form.times task job in_system below ∙ range_count_is model task in_model
 
   good_lines : AreGoodAfter model [] lines_above
   good_lines = good_body model run.table.ticks run run.table.jobs (length run.table.jobs) (length run.entries) trace.within.ticks jobs_are
@@ -101,8 +98,8 @@ module _ (model : SystemModel) (text : List ℕ) (run : Run) (trace : IsTraceOf 
   closed (Runs task from to) stands = last_of (IsAboveRun model task from) stands.in_order
   closed End stands = last_of IsOpen stands.unended
 
-  pub stuck : IsStuck model ([] ++ (lines_above ++ End ∷ [])) []
-  stuck item after stands = absurd (closed item stands)
+  pub none_below_last : IsStuck model ([] ++ (lines_above ++ End ∷ [])) []
+  none_below_last item after stands = absurd (closed item stands)
 
   pub whole : text ≡ text_of model (lines_above ++ End ∷ []) ++ []
   unfolding spelled
@@ -111,19 +108,22 @@ module _ (model : SystemModel) (text : List ℕ) (run : Run) (trace : IsTraceOf 
 too_few : (ticks : ℕ) (body : List Item) → [] ≡ Title ∷ Ticks ticks ∷ body → ⊥
 too_few ticks body is = omega (arith, ap length is)
 
-module _ (model : SystemModel) (valid : IsValid model) (named : AreNamed model) (text : List ℕ) where
+module _ (model : SystemModel) (valid : IsValid model) (named : AreTasksNamed model) (text : List ℕ) where
   -- two runs of which a text is the trace have the same lines
   pub same_lines : (one other : Run) → IsTraceOf model text one → IsTraceOf model text other → items_of one ≡ items_of other
   same_lines one other first second =
-      let same = lines_once model valid (tasks_named model named) (lines_above model text one first ++ End ∷ []) (lines_above model text other second ++ End ∷ [])
+      let same = lines_once model valid named (lines_above model text one first ++ End ∷ []) (lines_above model text other second ++ End ∷ [])
       [] [] [] (λ ticks head. absurd (too_few ticks head.body head.head)) (good_trace model text one first) (good_trace model text other second)
-      (sym (whole model text one first) ∙ whole model text other second) (stuck model text one first) (stuck model text other second) in
+      (sym (whole model text one first) ∙ whole model text other second) (none_below_last model text one first) (none_below_last model text other second) in
       lines_are model text one first ∙ same.0 ∙ sym (lines_are model text other second)
 
   -- a trace has no bad line
-  pub no_bad_line : (run : Run) (number : ℕ) → IsTraceOf model text run → IsBadLine model text number → ⊥
-  no_bad_line run number trace bad =
-      let same = lines_once model valid (tasks_named model named) (lines_above model text run trace ++ End ∷ []) bad.items
-      [] [] bad.rest (λ ticks head. absurd (too_few ticks head.body head.head)) (good_trace model text run trace) bad.good
-      (sym (whole model text run trace) ∙ bad.parts) (stuck model text run trace) bad.bad in
-      last_of model text run trace IsOpen (subst (All IsOpen) (sym same.0) (bad.unended (sym same.1)))
+  pub no_bad_line : (run : Run) (number : ℕ) → IsTraceOf model text run → IsBadTraceLine model text number → ⊥
+  no_bad_line run number trace bad = not_stuck (stuck_of model text number bad)
+    where
+      not_stuck : IsStuckAt model text number → ⊥
+      not_stuck stuck =
+          let same = lines_once model valid named (lines_above model text run trace ++ End ∷ []) stuck.items
+          [] [] stuck.rest (λ ticks head. absurd (too_few ticks head.body head.head)) (good_trace model text run trace) stuck.good
+          (sym (whole model text run trace) ∙ stuck.parts) (none_below_last model text run trace) stuck.bad in
+          last_of model text run trace IsOpen (subst (All IsOpen) (sym same.0) (stuck.unended (sym same.1)))

@@ -1,4 +1,4 @@
--- How many times runnables are executed. Source: this project's profile.
+-- How many times runnables are executed.
 use Rattle.std.specs.Prelude.{ℕ, List, length, sum_by}
 use Rattle.cl_runs.specs.declared.job.Job.{Job}
 use Rattle.cl_runs.specs.declared.job.JobTable.{JobTable}

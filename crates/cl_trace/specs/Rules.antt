@@ -1,6 +1,6 @@
 -- Which lines a trace may have, which run a text is the trace of, and which line of a text is the first bad one.
--- Source: this project's profile.
-use Rattle.std.specs.Prelude.{◌≡◌, ◌≢◌, ℕ, suc, ◌<◌, ◌≤◌, List, [], ◌∷◌, ◌++◌, length, All}
+use Rattle.std.specs.Prelude.{◌≡◌, ◌≢◌, ℕ, suc, ◌<◌, ◌≤◌, ◌⊎◌, List, [], ◌∷◌, ◌++◌, length, All, Contains}
+use Rattle.cl_text.specs.Standing.{NoneStands}
 use Rattle.cl_model.specs.declared.model.SystemModel.{SystemModel}
 use Rattle.cl_model.specs.ByNumber.{task_at, core_of}
 use Rattle.cl_runs.specs.declared.job.Job.{Job}
@@ -41,13 +41,13 @@ IsAboveJob task item = IsOpen item
 
 -- a run line of a task may stand below one of another, up to `end`: its core isn't before that one's; where the core is
 -- the same, it begins at that end or later, and where it begins there, it is of another task
-pub record Follows (model : SystemModel) (other end task from : ℕ) : Type 0 where
+pub record IsBelowRun (model : SystemModel) (other end task from : ℕ) : Type 0 where
   pub cores : core_of model other ≤ core_of model task
   pub after : core_of model other ≡ core_of model task → end ≤ from
   pub changes : core_of model other ≡ core_of model task → end ≡ from → other ≢ task
 
 abbrev pub IsAboveRun : SystemModel → (task from : ℕ) → Item → Type 0
-IsAboveRun model task from (Runs other start end) = Follows model other end task from
+IsAboveRun model task from (Runs other start end) = IsBelowRun model other end task from
 IsAboveRun model task from item = IsOpen item
 
 -- a job line below these
@@ -98,13 +98,37 @@ pub record IsTraceOf (model : SystemModel) (text : List ℕ) (run : Run) : Type 
   pub within : IsWithinLimits run
   pub spelled : text ≡ spelled model run
 
--- lines of the text are good up to one of that number, counted from 1, and no line that may stand there does: the text
--- ends too early, it goes on after the last line, or another line stands there
-pub record IsBadLine (model : SystemModel) (text : List ℕ) (number : ℕ) : Type 0 where
-  pub items : List Item
-  pub rest : List ℕ
+-- these lines of the text, above that of a number, are good, and the text goes on with this rest: lines are counted
+-- from 1
+pub record IsGoodUpTo (model : SystemModel) (text : List ℕ) (number : ℕ) (items : List Item) (rest : List ℕ) : Type 0 where
   pub good : AreGoodAfter model [] items
   pub parts : text ≡ text_of model items ++ rest
-  pub bad : (item : Item) (after : List ℕ) → MayStand model items item → rest ≢ item_text model item ++ after
-  pub unended : rest ≡ [] → All IsOpen items
   pub counted : number ≡ suc (length items)
+
+-- the text ends before its last line
+pub record EndsEarly (model : SystemModel) (text : List ℕ) (number : ℕ) : Type 0 where
+  pub items : List Item
+  pub good : IsGoodUpTo model text number items []
+  pub unended : All IsOpen items
+
+-- it goes on behind its last line
+pub record EndsLate (model : SystemModel) (text : List ℕ) (number : ℕ) : Type 0 where
+  pub items : List Item
+  pub rest : List ℕ
+  pub good : IsGoodUpTo model text number items rest
+  pub ended : Contains items End
+  pub some_left : rest ≢ []
+
+-- it goes on before that with another line than those that may stand there
+pub record HasOtherLine (model : SystemModel) (text : List ℕ) (number : ℕ) : Type 0 where
+  pub items : List Item
+  pub rest : List ℕ
+  pub good : IsGoodUpTo model text number items rest
+  pub unended : All IsOpen items
+  pub some_left : rest ≢ []
+  pub other : NoneStands (item_text model) (MayStand model items) rest
+
+-- the first bad line of the text has that number, counted from 1: it is missing, or it stands behind the last line, or
+-- it isn't one that may stand there
+abbrev pub IsBadTraceLine : SystemModel → (text : List ℕ) → (number : ℕ) → Type 0
+IsBadTraceLine model text number = EndsEarly model text number ⊎ (EndsLate model text number ⊎ HasOtherLine model text number)

@@ -3,8 +3,8 @@ use Rattle.std.specs.Prelude.{ℕ, suc, ◌==◌, if◌then◌else◌, Option, L
 use Rattle.std.specs.Option.{option_eq}
 use Rattle.cl_run_data.specs.declared.stretches.Stretch.{Stretch}
 
--- an entry that lasts up to a tick, before the stretches that begin there: it joins the first of them where that has the
--- same entry, and is a stretch of its own otherwise
+-- an entry that lasts up to a tick, before the stretches that begin there: it joins the first of them where that has
+-- the same entry, and is a stretch of its own otherwise
 abbrev pub before_stretches : (who : Option ℕ) (end : ℕ) → List Stretch → List Stretch
 before_stretches who end [] = record { who = who; end = end } ∷ []
 before_stretches who end (next ∷ stretches) = if option_eq ◌==◌ who next.who then next ∷ stretches

@@ -1,4 +1,4 @@
--- The lines of a trace, and the trace of a run. Source: this project's profile.
+-- The lines of a trace, and the trace of a run.
 use Rattle.std.specs.Prelude.{ℕ, Option, Some, None, List, [], ◌∷◌, ◌++◌, length, map, codes, decimal}
 use Rattle.std.specs.List.{flat_map, range_with_len}
 use Rattle.cl_text.specs.Line.{line}
@@ -35,8 +35,8 @@ numbers ns = flat_map number_text ns
 abbrev pub ticks_words : (ticks : ℕ) → List ℕ
 ticks_words ticks = codes "ticks" ++ numbers (ticks ∷ [])
 
-abbrev pub job_words : (name : List ℕ) → Job → List ℕ
-job_words name job = codes "job " ++ name ++ numbers (job.arrival ∷ job.release ∷ job.times)
+abbrev pub job_line_words : (name : List ℕ) → Job → List ℕ
+job_line_words name job = codes "job " ++ name ++ numbers (job.arrival ∷ job.release ∷ job.times)
 
 abbrev pub run_words : (name : List ℕ) (from to : ℕ) → List ℕ
 run_words name from to = codes "run " ++ name ++ numbers (from ∷ to ∷ [])
@@ -45,7 +45,7 @@ run_words name from to = codes "run " ++ name ++ numbers (from ∷ to ∷ [])
 abbrev pub item_words : SystemModel → Item → List ℕ
 item_words model Title = codes "chainlat trace 1"
 item_words model (Ticks ticks) = ticks_words ticks
-item_words model (JobOf task job) = job_words (task_at model task).name job
+item_words model (JobOf task job) = job_line_words (task_at model task).name job
 item_words model (Runs task from to) = run_words (task_at model task).name from to
 item_words model End = codes "end"
 

@@ -1,7 +1,6 @@
 //! Traces: runs as text.
 #![tactic(auto)]
 
-mod fault;
 mod job_lines;
 pub mod laws;
 mod limits;
@@ -11,7 +10,6 @@ mod reading;
 mod run_lines;
 mod writing;
 
-pub use fault::TraceFault;
 pub use limits::{MOST_TRACE_NUMBER, MOST_TRACE_TICKS};
-pub use reading::read_trace;
+pub use reading::{TraceFault, read_trace};
 pub use writing::write_trace;

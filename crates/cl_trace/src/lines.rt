@@ -3,6 +3,7 @@ ghost use Rattle.std.specs.Prelude.{◌≡◌, ◌≢◌, ◌<◌, ◌≤◌, �
 ghost use Rattle.cl_text.specs.Line.{line};
 ghost use Rattle.cl_model.specs.Name.{IsName};
 ghost use Rattle.cl_model.specs.ByNumber.{task_at};
+ghost use Rattle.cl_model.specs.Validity.{IsValid};
 ghost use Rattle.cl_runs.specs.declared.job.Job.{Job};
 ghost use Rattle.cl_trace.specs.declared.limits.TheConstants.{MOST_TRACE_TICKS, MOST_TRACE_NUMBER};
 ghost use Rattle.cl_trace.specs.Trace.{numbers, ticks_words, run_words, JobOf, Runs, item_text};
@@ -83,8 +84,8 @@ fn job_head_after<'a>(name: &[u8], text: &'a [u8]) -> Option<(u64, u64, &'a [u8]
     two_after(text, MOST_TRACE_NUMBER)
 }
 
-/// The job of a task that the text begins with a line of, and what follows the line. `None` exactly where it begins with
-/// no such line.
+/// The job of a task that the text begins with a line of, and what follows the line. `None` exactly where it begins
+/// with no such line.
 pub(crate) fn job_after<'a>(
     alloc: Global,
     model: &ValidModel,
@@ -98,7 +99,7 @@ pub(crate) fn job_after<'a>(
     ensures none { IfOk result (λ found. IfNone found ((job : Job) (rest : List ℕ)
         → IsJobOf model.now task job → text.now ≢ item_text model.now (JobOf task job) ++ rest)) }
 {
-    let task = &model.plain().tasks.as_slice()[task as usize];
+    let task = model.task(task);
     let Some((arrival, release, behind)) = job_head_after(task.name.as_slice(), text) else {
         return Ok(None);
     };
@@ -118,14 +119,15 @@ pub(crate) fn job_after<'a>(
     }
 }
 
-/// The stretch of a task of the model that the text begins with a line of, its ticks at most `most`, and what follows the
-/// line. `None` exactly where it begins with no such line.
+/// The stretch of a task of the model that the text begins with a line of, its ticks at most `most`, and what follows
+/// the line. `None` exactly where it begins with no such line.
 pub(crate) fn run_after<'a>(
     model: &ValidModel,
     text: &'a [u8],
     most: u64,
 ) -> Option<(RunLine, &'a [u8])>
-    requires { AreTasksNamed model.now }
+    requires named { AreTasksNamed model.now }
+    requires valid { IsValid model.now }
     ensures some { IfSome result (λ read. text.now ≡ item_text model.now (Runs read.0.task read.0.from read.0.to) ++ read.1.now) }
     ensures within { IfSome result (λ read. (read.0.task < length model.now.tasks) × (read.0.to ≤ most)) }
     ensures none { IfNone result ((task from to : ℕ) (rest : List ℕ) → task < length model.now.tasks → from ≤ most → to ≤ most

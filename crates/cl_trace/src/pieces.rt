@@ -3,6 +3,7 @@ ghost use Rattle.std.specs.Prelude.{◌≡◌, ◌≢◌, ◌<◌, ◌≤◌, �
 ghost use Rattle.cl_text.specs.Line.{first_word, is_graphic};
 ghost use Rattle.cl_model.specs.Name.{IsName};
 ghost use Rattle.cl_model.specs.ByNumber.{task_at};
+ghost use Rattle.cl_model.specs.Validity.{IsValid};
 ghost use Rattle.cl_trace.specs.Trace.{number_text};
 ghost use Rattle.cl_trace.specs.Inner.Pieces.{IsRead};
 
@@ -41,14 +42,13 @@ pub(crate) fn number_after(text: &[u8], most: u64) -> Option<(u64, &[u8])>
 
 /// The task of the model whose name the text begins with, and what follows it.
 pub(crate) fn task_after<'a>(model: &ValidModel, text: &'a [u8]) -> Option<(u32, &'a [u8])>
+    requires { IsValid model.now }
     ensures within { IfSome result (λ read. read.0 < length model.now.tasks) }
     ensures some { IfSome result (λ read. text.now ≡ (task_at model.now read.0).name ++ read.1.now) }
     ensures only { (task byte : ℕ) (rest : List ℕ) → task < length model.now.tasks → IsName (task_at model.now task).name
         → is_graphic byte ≡ false → text.now ≡ (task_at model.now task).name ++ byte ∷ rest → IsRead result task (byte ∷ rest) }
 {
     let (word, rest) = word_after(text)?;
-    // read for its validity: names tell tasks apart
-    let _plain = model.plain();
     let name = Name::read(word)?;
     let task = model.task_named(&name)?;
     Some((task, rest))

@@ -1,12 +1,13 @@
 //! A trace, read as a run.
-ghost use Rattle.std.specs.Prelude.{◌≡◌, ◌+◌, ◌≤◌, ◌++◌, ℕ, List, ◌-◌, length, take, Err, IfOk};
-ghost use Rattle.cl_trace.specs.declared.fault.TraceFault.TheVariants.{BadLine};
+ghost use Rattle.std.specs.Prelude.{◌≡◌, ◌+◌, ◌≤◌, ◌-◌, length, take, IfOk};
+ghost use Rattle.cl_text.specs.LinesFault.{IfBadLine, ReadsThis};
+ghost use Rattle.cl_model.specs.Validity.{IsValid};
+ghost use Rattle.cl_runs.specs.Run.{Run};
 ghost use Rattle.cl_trace.specs.declared.limits.TheConstants.{MOST_TRACE_TICKS};
-ghost use Rattle.cl_trace.specs.Rules.{IsTraceOf, IsBadLine};
-ghost use Rattle.cl_trace.specs.Inner.Bodies.{IsBody, IsReadUpTo, AreCores};
+ghost use Rattle.cl_trace.specs.Rules.{IsTraceOf, IsBadTraceLine};
+ghost use Rattle.cl_trace.specs.Inner.Bodies.{IsBody, IsReadSoFar, AreCores};
 ghost use Rattle.cl_trace.specs.Inner.Pieces.{AreTasksNamed, newlines};
 
-use crate::fault::TraceFault;
 use crate::job_lines::table_after;
 use crate::lines::ticks_after;
 use crate::pieces::after;
@@ -14,8 +15,12 @@ use crate::run_lines::runs_after;
 use cl_model::{List, ValidModel};
 use cl_run_data::RunData;
 use cl_runs::{Job, JobTable};
+use cl_text::LinesFault;
 use cl_time::NoMemory;
 use std::alloc::Global;
+
+/// Why a text was not read as a run.
+pub type TraceFault = LinesFault;
 
 /// The run of the lines behind the two first, as many as stand there, and what follows them.
 fn body_after<'a>(
@@ -26,6 +31,7 @@ fn body_after<'a>(
 ) -> Result<(RunData, &'a [u8]), NoMemory>
     ensures body { IfOk result (λ read. IsBody model.now ticks text.now read.0 read.1.now) }
     ensures named { IfOk result (λ _. AreTasksNamed model.now) }
+    ensures valid { IfOk result (λ _. IsValid model.now) }
 {
     let mut jobs = List::new(alloc);
     match table_after(alloc, model, text, &mut jobs) {
@@ -42,6 +48,7 @@ fn runs_of<'a>(
     text: &'a [u8],
 ) -> Result<(RunData, &'a [u8]), NoMemory>
     requires { AreTasksNamed model.now }
+    ensures valid { IsValid model.now }
     ensures table { IfOk result (λ read. read.0.table ≡ table) }
     ensures cores { IfOk result (λ read. length read.0.entries ≡ length model.now.cores) }
     ensures runs { IfOk result (λ read. AreCores model.now table.ticks (length model.now.cores) text.now read.0 read.1.now) }
@@ -65,12 +72,13 @@ fn line_at(text: &[u8], left: &[u8]) -> u64
 
 /// The run of a trace: each core's entries in each tick, and the jobs of each task. Times are in ticks.
 ///
-/// The run is in form, and the text spells it. `BadLine` comes exactly where the text is no trace: at its first line that
-/// breaks its rule, counted from 1, or that is missing. `NoMemory` comes where there is no memory for the run. Either leaves
-/// nothing.
+/// The run is in form, and the text spells it. `BadLine` comes exactly where the text is no trace: at its first line
+/// that breaks its rule, counted from 1, or that is missing. `NoMemory` comes where there is no memory for the run.
+/// Either leaves nothing.
 pub fn read_trace(alloc: Global, model: &ValidModel, text: &[u8]) -> Result<RunData, TraceFault>
     ensures run { IfOk result (IsTraceOf model.now text.now) }
-    ensures bad_line { (line : ℕ) → result ≡ Err (BadLine line) → IsBadLine model.now text.now line }
+    ensures bad_line { IfBadLine result (IsBadTraceLine model.now text.now) }
+    ensures only { (run : Run) → IsTraceOf model.now text.now run → ReadsThis result run }
 {
     let Some(behind_title) = after(text, b"chainlat trace 1\n") else {
         return Err(TraceFault::BadLine { line: 1 });
@@ -86,13 +94,13 @@ pub fn read_trace(alloc: Global, model: &ValidModel, text: &[u8]) -> Result<RunD
 
 /// The run, where nothing but the last line is left of the text.
 fn ended(model: &ValidModel, text: &[u8], run: RunData, left: &[u8]) -> Result<RunData, TraceFault>
-    requires body { IsReadUpTo model.now text.now run left.now }
+    requires body { IsReadSoFar model.now text.now run left.now }
     requires named { AreTasksNamed model.now }
+    requires valid { IsValid model.now }
     ensures run { IfOk result (IsTraceOf model.now text.now) }
-    ensures bad_line { (line : ℕ) → result ≡ Err (BadLine line) → IsBadLine model.now text.now line }
+    ensures bad_line { IfBadLine result (IsBadTraceLine model.now text.now) }
+    ensures only { (run : Run) → IsTraceOf model.now text.now run → ReadsThis result run }
 {
-    // read for its validity: a task has a core of the model
-    let _plain = model.plain();
     match after(left, b"end\n") {
         Some(nothing) if nothing.is_empty() => Ok(run),
         Some(more) => Err(TraceFault::BadLine {

@@ -1,9 +1,10 @@
 //! The run lines of a trace: the entries of each core.
 ghost use Rattle.std.specs.Prelude.{◌≡◌, ◌<◌, ◌≤◌, ◌≢◌, ◌↔◌, ◌++◌, ℕ, List, [], length, IsTrue, OnOk, IfOk, IfSome, IfNone};
+ghost use Rattle.cl_model.specs.Validity.{IsValid};
 ghost use Rattle.cl_runs.specs.Run.{core_entries};
 ghost use Rattle.cl_trace.specs.declared.lines.RunLine.{RunLine};
 ghost use Rattle.cl_trace.specs.Trace.{Runs, item_text};
-ghost use Rattle.cl_trace.specs.Inner.Bodies.{IsStretchWithin, FitsEntries, AreAllEntriesOf, IsRunWith, AreCores, appended};
+ghost use Rattle.cl_trace.specs.Inner.Bodies.{IsStretchWithin, FitsEntries, AreAllEntriesOf, IsRunWith, AreCores, entries_appended};
 ghost use Rattle.cl_trace.specs.Inner.Pieces.{AreTasksNamed};
 
 use crate::lines::{RunLine, run_after};
@@ -11,8 +12,8 @@ use cl_model::ValidModel;
 use cl_run_data::RunData;
 use cl_time::NoMemory;
 
-/// Whether a stretch may be appended to the entries of a core so far: it is of a task of that core, begins where they end
-/// or later, and is a longest one.
+/// Whether a stretch may be appended to the entries of a core so far: it is of a task of that core, begins where they
+/// end or later, and is a longest one.
 fn fits_core(model: &ValidModel, run: &RunData, core: u32, line: RunLine) -> bool
     requires is_core { core < length run.now.entries }
     requires is_task { line.task < length model.now.tasks }
@@ -33,6 +34,7 @@ fn stretch_after<'a>(
     text: &'a [u8],
 ) -> Option<(RunLine, &'a [u8])>
     requires named { AreTasksNamed model.now }
+    requires valid { IsValid model.now }
     requires is_core { core < length run.now.entries }
     ensures some { IfSome result (λ read. text.now ≡ item_text model.now (Runs read.0.task read.0.from read.0.to) ++ read.1.now) }
     ensures within { IfSome result (λ read. IsStretchWithin model.now run.now.table.ticks read.0.task read.0.from read.0.to) }
@@ -54,7 +56,7 @@ fn append(run: &mut RunData, core: u32, line: RunLine) -> Result<(), NoMemory>
     requires after { length (core_entries run.old core) ≤ line.from }
     requires some { line.from < line.to }
     requires in_time { line.to ≤ run.old.table.ticks }
-    ensures { OnOk result (IsRunWith run.old run.new core (appended (core_entries run.old core) line.task line.from line.to)) }
+    ensures { OnOk result (IsRunWith run.old run.new core (entries_appended (core_entries run.old core) line.task line.from line.to)) }
 {
     let idle = line.from - run.filled(core);
     run.push(core, None, idle)?;
@@ -69,6 +71,7 @@ fn entries_after<'a>(
     text: &'a [u8],
 ) -> Result<&'a [u8], NoMemory>
     requires named { AreTasksNamed model.now }
+    requires valid { IsValid model.now }
     requires is_core { core < length run.old.entries }
     requires of_model { core < length model.now.cores }
     requires empty { core_entries run.old core ≡ [] }

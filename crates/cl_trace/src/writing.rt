@@ -4,7 +4,7 @@ ghost use Rattle.cl_text.specs.Line.{line};
 ghost use Rattle.cl_model.specs.ByNumber.{task_at};
 ghost use Rattle.cl_runs.specs.Run.{IsInForm};
 ghost use Rattle.cl_runs.specs.SystemOf.{system_of};
-ghost use Rattle.cl_trace.specs.Trace.{JobOf, number_text, numbers, job_words, run_words, text_of, job_items, run_items, core_items, stretch_item, stretch_items, spelled};
+ghost use Rattle.cl_trace.specs.Trace.{JobOf, number_text, numbers, job_line_words, run_words, text_of, job_items, run_items, core_items, stretch_item, stretch_items, spelled};
 ghost use Rattle.cl_trace.specs.Inner.TaskStretches.{IsOfTask};
 
 use cl_model::ValidModel;
@@ -62,7 +62,7 @@ fn put_task(text: &mut Text, model: &ValidModel, task: u32, jobs: &[Job]) -> Res
 
 /// Puts a job of a task of that name.
 fn put_job(text: &mut Text, name: &[u8], job: &Job) -> Result<(), NoMemory>
-    ensures { OnOk result (text.new ≡ text.old ++ line (job_words name.now job.now)) }
+    ensures { OnOk result (text.new ≡ text.old ++ line (job_line_words name.now job.now)) }
 {
     text.put(b"job ")?;
     text.put(name)?;
@@ -155,7 +155,5 @@ fn name_of(model: &ValidModel, task: u32) -> &[u8]
     requires { task < length model.now.tasks }
     ensures { result.now ≡ (task_at model.now task).name }
 {
-    model.plain().tasks.as_slice()[task as usize]
-        .name
-        .as_slice()
+    model.task(task).name.as_slice()
 }

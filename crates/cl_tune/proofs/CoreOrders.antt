@@ -1,6 +1,6 @@
 -- The best order of a core of a valid model is the one that is filled from the lowest priority upward.
 use Rattle.std.proofs.Common.{◌≡◌, ℕ, ◌<◌, Bool, true, Option, Some, None, List, length, refl, sym, ◌∙◌, subst, arith}
-use Rattle.std.specs.Prelude.{◌==◌}
+use Rattle.std.specs.Prelude.{All, ◌==◌}
 use Rattle.std.specs.List.{range_with_len}
 use Rattle.std.specs.List.Sorted.{IsPermutation}
 use Rattle.std.proofs.lemmas.Bool.{eqb-true, eq-eqb, and_parts, and_from}
@@ -13,9 +13,10 @@ use Rattle.cl_runs.specs.TaskTiming.{System, timing_at}
 use Rattle.cl_runs.proofs.ModelSystem.{count_is, system_sound}
 use Rattle.cl_tune.specs.BestOrders.{IsBestOrder, HasNoOrder}
 use Rattle.cl_tune.specs.Inner.Filling.{best_order}
-use Rattle.cl_tune.specs.Orders.{IsPassingOrder}
+use Rattle.cl_tune.specs.Orders.{IsPassing, IsPassingOrder}
 use Rattle.cl_tune.proofs.Members.{has, has_filter, AreDistinct, HaveSame, permutes, permuted_same, permuted_distinct}
 use Rattle.cl_tune.proofs.FilledOrders.{AreAscending, ascending_distinct, ascending_filter, ascending_range, AllFit, IsOrderOf, IsFirstFit, IsAnswer, filled}
+use Rattle.cl_tune.proofs.NewPriorities.{ordered_system}
 use Rattle.cl_tune.proofs.Timings.{core_is}
 use Rattle.cl_tune.proofs.UnderOrders.{range_below, range_has, passing_fits, fitting_passes}
 
@@ -57,10 +58,15 @@ module _ (model : SystemModel) (valid : IsValid model) (core : ℕ) where
     all x h on = same x ∙ task_there x h on
 
     passing_from : IsPermutation tasks order → AllFit system 0 order → IsPassingOrder model core order
-    passing_from moved fit = record { tasks = moved; pass = fitting_passes system core order once known all fit }
+    passing_from moved fit = record {
+      tasks = moved;
+      pass = subst (λ (under : System). All (IsPassing under) order) (sym (ordered_system model core order))
+          (fitting_passes system core order once known all fit);
+    }
 
     fits_from : IsPassingOrder model core order → AllFit system 0 order
-    fits_from passing = passing_fits system core order once known all passing.pass
+    fits_from passing = passing_fits system core order once known all
+        (subst (λ (under : System). All (IsPassing under) order) (ordered_system model core order) passing.pass)
 
   order_of : (order : List ℕ) → IsPassingOrder model core order → IsOrderOf system tasks order
   order_of order passing = record {

@@ -85,10 +85,10 @@ module _ (system : System) where
   AllFit block [] = Unit {0}
   AllFit block (task ∷ tasks) = (fits_below system block tasks task ≡ true) × AllFit (max block (hold task)) tasks
 
-  -- an order of tasks that wait
-  pub record IsOrderOf (waiting order : List ℕ) : Type 0 where
+  -- an order of the unplaced tasks
+  pub record IsOrderOf (unplaced order : List ℕ) : Type 0 where
     pub once : AreDistinct order
-    pub same : HaveSame order waiting
+    pub same : HaveSame order unplaced
 
   -- one task is taken out of an order that fits and put below the rest
   pub moved_down : (block : ℕ) (order : List ℕ) (task : ℕ) → AreDistinct order → has task order ≡ true → IsPattern (timing_at system task).pattern
@@ -112,130 +112,130 @@ module _ (system : System) where
             subst (λ n. AllFit n (without task xs)) swapped (again there_rest well fit.1),
           )
 
-  -- the order without one task is an order of those that wait without it
-  order_without : (waiting order : List ℕ) (task : ℕ) → IsOrderOf waiting order → IsOrderOf (without task waiting) (without task order)
-  order_without waiting order task is = record {
+  -- the order without one task is an order of the unplaced without it
+  order_without : (unplaced order : List ℕ) (task : ℕ) → IsOrderOf unplaced order → IsOrderOf (without task unplaced) (without task order)
+  order_without unplaced order task is = record {
     once = distinct_filter (λ y. not (y == task)) order is.once;
-    same = λ x. has_filter (λ y. not (y == task)) x order ∙ ap (λ b. b && not (x == task)) (is.same x) ∙ sym (has_filter (λ y. not (y == task)) x waiting);
+    same = λ x. has_filter (λ y. not (y == task)) x order ∙ ap (λ b. b && not (x == task)) (is.same x) ∙ sym (has_filter (λ y. not (y == task)) x unplaced);
   }
 
-  -- the rest of an order is an order of those that wait without its first
-  order_tail : (waiting rest : List ℕ) (task : ℕ) → IsOrderOf waiting (task ∷ rest) → IsOrderOf (without task waiting) rest
-  order_tail waiting rest task is = record { once = is.once.1; same = same_without task rest waiting is.once.0 is.same }
+  -- the rest of an order is an order of the unplaced without its first
+  order_tail : (unplaced rest : List ℕ) (task : ℕ) → IsOrderOf unplaced (task ∷ rest) → IsOrderOf (without task unplaced) rest
+  order_tail unplaced rest task is = record { once = is.once.1; same = same_without task rest unplaced is.once.0 is.same }
 
   -- and the other way round
-  order_cons : (waiting rest : List ℕ) (task : ℕ) → has task waiting ≡ true → IsOrderOf (without task waiting) rest → IsOrderOf waiting (task ∷ rest)
-  order_cons waiting rest task there is = record {
-    once = (is.same task ∙ has_filter (λ y. not (y == task)) task waiting ∙ and_right (has task waiting) (not (task == task)) (not_from_true (task == task) (has_itself task)), is.once);
+  order_cons : (unplaced rest : List ℕ) (task : ℕ) → has task unplaced ≡ true → IsOrderOf (without task unplaced) rest → IsOrderOf unplaced (task ∷ rest)
+  order_cons unplaced rest task there is = record {
+    once = (is.same task ∙ has_filter (λ y. not (y == task)) task unplaced ∙ and_right (has task unplaced) (not (task == task)) (not_from_true (task == task) (has_itself task)), is.once);
     same = λ x. go x (task == x) refl;
   }
     where
-      go : (x : ℕ) (b : Bool) → (task == x) ≡ b → has x (task ∷ rest) ≡ has x waiting
-      go x true e = ap (λ b. b || has x rest) e ∙ sym (ap (λ n. has n waiting) (sym (eqb-true task x e)) ∙ there)
+      go : (x : ℕ) (b : Bool) → (task == x) ≡ b → has x (task ∷ rest) ≡ has x unplaced
+      go x true e = ap (λ b. b || has x rest) e ∙ sym (ap (λ n. has n unplaced) (sym (eqb-true task x e)) ∙ there)
       go x false e =
           let other : (x == task) ≡ false = false_from_ne_true (x == task)
           (λ t. true≢false (sym (has_itself task) ∙ ap (λ n. task == n) (sym (eqb-true x task t)) ∙ e)) in
-          ap (λ b. b || has x rest) e ∙ is.same x ∙ has_filter (λ y. not (y == task)) x waiting
-          ∙ ap (λ b. has x waiting && b) (not_from_false (x == task) other) ∙ pass (has x waiting)
+          ap (λ b. b || has x rest) e ∙ is.same x ∙ has_filter (λ y. not (y == task)) x unplaced
+          ∙ ap (λ b. has x unplaced && b) (not_from_false (x == task) other) ∙ pass (has x unplaced)
         where
           pass : (b : Bool) → (b && true) ≡ b
           pass true = refl
           pass false = refl
 
   -- the first of an order that fits is among those that fit below all others
-  first_fits : (block : ℕ) (waiting rest : List ℕ) (task : ℕ) → AreDistinct waiting → IsOrderOf waiting (task ∷ rest)
-      → fits_below system block rest task ≡ true → fits system block waiting task ≡ true
-  first_fits block waiting rest task once is fit =
-      let tail = order_tail waiting rest task is in
-      fits_same system block rest (without task waiting) task tail.once (distinct_filter (λ y. not (y == task)) waiting once) tail.same fit
+  first_fits : (block : ℕ) (unplaced rest : List ℕ) (task : ℕ) → AreDistinct unplaced → IsOrderOf unplaced (task ∷ rest)
+      → fits_below system block rest task ≡ true → fits system block unplaced task ≡ true
+  first_fits block unplaced rest task once is fit =
+      let tail = order_tail unplaced rest task is in
+      fits_same system block rest (without task unplaced) task tail.once (distinct_filter (λ y. not (y == task)) unplaced once) tail.same fit
 
   -- ---- the order that is filled
 
-  -- what is answered for tasks that wait: the first order that fits, or that none does
-  pub record IsFirstFit (block : ℕ) (waiting order : List ℕ) : Type 0 where
-    pub is_order : IsOrderOf waiting order
+  -- what is answered for the unplaced tasks: the first order that fits, or that none does
+  pub record IsFirstFit (block : ℕ) (unplaced order : List ℕ) : Type 0 where
+    pub is_order : IsOrderOf unplaced order
     pub fit : AllFit block order
-    pub first : (other : List ℕ) → IsOrderOf waiting other → AllFit block other → ComesNoLater order other
+    pub first : (other : List ℕ) → IsOrderOf unplaced other → AllFit block other → ComesNoLater order other
 
-  abbrev pub NoneFits : (block : ℕ) (waiting : List ℕ) → Type 0
-  NoneFits block waiting = (order : List ℕ) → IsOrderOf waiting order → AllFit block order → ⊥
+  abbrev pub NoneFits : (block : ℕ) (unplaced : List ℕ) → Type 0
+  NoneFits block unplaced = (order : List ℕ) → IsOrderOf unplaced order → AllFit block order → ⊥
 
-  abbrev pub IsAnswer : (block : ℕ) (waiting : List ℕ) → Option (List ℕ) → Type 0
-  IsAnswer block waiting None = NoneFits block waiting
-  IsAnswer block waiting (Some order) = IsFirstFit block waiting order
+  abbrev pub IsAnswer : (block : ℕ) (unplaced : List ℕ) → Option (List ℕ) → Type 0
+  IsAnswer block unplaced None = NoneFits block unplaced
+  IsAnswer block unplaced (Some order) = IsFirstFit block unplaced order
 
-  no_task : (waiting : List ℕ) → 0 ≡ length waiting → waiting ≡ []
+  no_task : (unplaced : List ℕ) → 0 ≡ length unplaced → unplaced ≡ []
   no_task [] none = refl
   no_task (x ∷ xs) none = absurd (omega (arith, none))
 
-  module _ (block : ℕ) (waiting : List ℕ) (up : AreAscending waiting) (well : (x : ℕ) → has x waiting ≡ true → IsPattern (timing_at system x).pattern) where
+  module _ (block : ℕ) (unplaced : List ℕ) (up : AreAscending unplaced) (well : (x : ℕ) → has x unplaced ≡ true → IsPattern (timing_at system x).pattern) where
     -- where none fits below all others, no order fits
-    nothing : (left : ℕ) → suc left ≡ length waiting → find (fits system block waiting) waiting ≡ None → NoneFits block waiting
-    nothing left some none [] is fit = absurd (omega (arith, some, lengths_agree [] waiting is.once (ascending_distinct waiting up) is.same))
+    nothing : (left : ℕ) → suc left ≡ length unplaced → find (fits system block unplaced) unplaced ≡ None → NoneFits block unplaced
+    nothing left some none [] is fit = absurd (omega (arith, some, lengths_agree [] unplaced is.once (ascending_distinct unplaced up) is.same))
     nothing left some none (task ∷ rest) is fit =
-        let there : has task waiting ≡ true = sym (is.same task) ∙ has_head task rest in
-        let fails = all_at (λ x. fits system block waiting x ≡ false) waiting task (none_passes (fits system block waiting) waiting none) there in
-        true≢false (sym (first_fits block waiting rest task (ascending_distinct waiting up) is fit.0) ∙ fails)
+        let there : has task unplaced ≡ true = sym (is.same task) ∙ has_head task rest in
+        let fails = all_at (λ x. fits system block unplaced x ≡ false) unplaced task (none_passes (fits system block unplaced) unplaced none) there in
+        true≢false (sym (first_fits block unplaced rest task (ascending_distinct unplaced up) is fit.0) ∙ fails)
 
-    module _ (task : ℕ) (found : find (fits system block waiting) waiting ≡ Some task) where
+    module _ (task : ℕ) (found : find (fits system block unplaced) unplaced ≡ Some task) where
       -- where no order of the rest fits above what is found, none fits
-      nothing_above : NoneFits (max block (hold task)) (without task waiting) → NoneFits block waiting
+      nothing_above : NoneFits (max block (hold task)) (without task unplaced) → NoneFits block unplaced
       nothing_above none order is fit =
-          let there : has task order ≡ true = is.same task ∙ (found_passes (fits system block waiting) waiting task found).0 in
-          none (without task order) (order_without waiting order task is)
-          (moved_down block order task is.once there (well task (found_passes (fits system block waiting) waiting task found).0) fit)
+          let there : has task order ≡ true = is.same task ∙ (found_passes (fits system block unplaced) unplaced task found).0 in
+          none (without task order) (order_without unplaced order task is)
+          (moved_down block order task is.once there (well task (found_passes (fits system block unplaced) unplaced task found).0) fit)
 
       -- what is found and the first order of the rest is the first order
-      first_above : (rest : List ℕ) → IsFirstFit (max block (hold task)) (without task waiting) rest → IsFirstFit block waiting (task ∷ rest)
+      first_above : (rest : List ℕ) → IsFirstFit (max block (hold task)) (without task unplaced) rest → IsFirstFit block unplaced (task ∷ rest)
       first_above rest best =
-          let passes = found_passes (fits system block waiting) waiting task found in
+          let passes = found_passes (fits system block unplaced) unplaced task found in
           record {
-            is_order = order_cons waiting rest task passes.0 best.is_order;
+            is_order = order_cons unplaced rest task passes.0 best.is_order;
             fit = (
-              fits_same system block (without task waiting) rest task (distinct_filter (λ y. not (y == task)) waiting (ascending_distinct waiting up)) best.is_order.once
+              fits_same system block (without task unplaced) rest task (distinct_filter (λ y. not (y == task)) unplaced (ascending_distinct unplaced up)) best.is_order.once
                   (λ x. sym (best.is_order.same x)) passes.1,
               best.fit,
             );
             first = comes_first;
           }
         where
-          comes_first : (other : List ℕ) → IsOrderOf waiting other → AllFit block other → ComesNoLater (task ∷ rest) other
-          comes_first [] is fit = absurd (false≢true (is.same task ∙ (found_passes (fits system block waiting) waiting task found).0))
+          comes_first : (other : List ℕ) → IsOrderOf unplaced other → AllFit block other → ComesNoLater (task ∷ rest) other
+          comes_first [] is fit = absurd (false≢true (is.same task ∙ (found_passes (fits system block unplaced) unplaced task found).0))
           comes_first (x ∷ xs) is fit =
-              let there : has x waiting ≡ true = sym (is.same x) ∙ has_head x xs in
-              let least = found_least (fits system block waiting) waiting task x up found there (first_fits block waiting xs x (ascending_distinct waiting up) is fit.0) in
+              let there : has x unplaced ≡ true = sym (is.same x) ∙ has_head x xs in
+              let least = found_least (fits system block unplaced) unplaced task x up found there (first_fits block unplaced xs x (ascending_distinct unplaced up) is fit.0) in
               elim (cases_order task x) [
                 | inl same ↦ inr (
                   same,
                   best.first xs
-                      (subst (λ n. IsOrderOf (without n waiting) xs) (sym same) (order_tail waiting xs x is))
+                      (subst (λ n. IsOrderOf (without n unplaced) xs) (sym same) (order_tail unplaced xs x is))
                       (subst (λ n. AllFit (max block (hold n)) xs) (sym same) fit.1),
                 )
                 | inr (inl below) ↦ inl below
                 | inr (inr above) ↦ absurd (omega (arith, least, above))
               ]
 
-  pub filled : (count block : ℕ) (waiting : List ℕ) → count ≡ length waiting → AreAscending waiting
-      → ((x : ℕ) → has x waiting ≡ true → IsPattern (timing_at system x).pattern) → IsAnswer block waiting (best_order system count block waiting)
-  filled zero block waiting none up well = subst (λ (list : List ℕ). IsFirstFit block list []) (sym (no_task waiting none)) (record {
+  pub filled : (count block : ℕ) (unplaced : List ℕ) → count ≡ length unplaced → AreAscending unplaced
+      → ((x : ℕ) → has x unplaced ≡ true → IsPattern (timing_at system x).pattern) → IsAnswer block unplaced (best_order system count block unplaced)
+  filled zero block unplaced none up well = subst (λ (list : List ℕ). IsFirstFit block list []) (sym (no_task unplaced none)) (record {
     is_order = record { once = tt; same = λ x. refl };
     fit = tt;
     first = λ other is fit. tt;
   })
-  filled (suc count) block waiting some up well = go (find (fits system block waiting) waiting) refl
-      (λ task there. filled count (max block (hold task)) (without task waiting)
-      (omega (arith, some, length_without task waiting (ascending_distinct waiting up) there))
-      (ascending_filter (λ y. not (y == task)) waiting up)
-      (λ x is. well x (and_parts (has x waiting) (not (x == task)) (sym (has_filter (λ y. not (y == task)) x waiting) ∙ is)).0))
+  filled (suc count) block unplaced some up well = go (find (fits system block unplaced) unplaced) refl
+      (λ task there. filled count (max block (hold task)) (without task unplaced)
+      (omega (arith, some, length_without task unplaced (ascending_distinct unplaced up) there))
+      (ascending_filter (λ y. not (y == task)) unplaced up)
+      (λ x is. well x (and_parts (has x unplaced) (not (x == task)) (sym (has_filter (λ y. not (y == task)) x unplaced) ∙ is)).0))
     where
-      above : (task : ℕ) → find (fits system block waiting) waiting ≡ Some task → (rest : Option (List ℕ)) → IsAnswer (max block (hold task)) (without task waiting) rest
-          → IsAnswer block waiting (option_map (λ order. task ∷ order) rest)
-      above task found None none = nothing_above block waiting up well task found none
-      above task found (Some rest) best = first_above block waiting up well task found rest best
+      above : (task : ℕ) → find (fits system block unplaced) unplaced ≡ Some task → (rest : Option (List ℕ)) → IsAnswer (max block (hold task)) (without task unplaced) rest
+          → IsAnswer block unplaced (option_map (λ order. task ∷ order) rest)
+      above task found None none = nothing_above block unplaced up well task found none
+      above task found (Some rest) best = first_above block unplaced up well task found rest best
 
-      go : (first : Option ℕ) → find (fits system block waiting) waiting ≡ first
-          → ((task : ℕ) → has task waiting ≡ true → IsAnswer (max block (hold task)) (without task waiting) (best_order system count (max block (hold task)) (without task waiting)))
-          → IsAnswer block waiting (option_and_then (λ task. option_map (λ order. task ∷ order) (best_order system count (max block (hold task)) (without task waiting))) first)
-      go None found again = nothing block waiting up well count some found
-      go (Some task) found again = above task found (best_order system count (max block (hold task)) (without task waiting))
-          (again task (found_passes (fits system block waiting) waiting task found).0)
+      go : (first : Option ℕ) → find (fits system block unplaced) unplaced ≡ first
+          → ((task : ℕ) → has task unplaced ≡ true → IsAnswer (max block (hold task)) (without task unplaced) (best_order system count (max block (hold task)) (without task unplaced)))
+          → IsAnswer block unplaced (option_and_then (λ task. option_map (λ order. task ∷ order) (best_order system count (max block (hold task)) (without task unplaced))) first)
+      go None found again = nothing block unplaced up well count some found
+      go (Some task) found again = above task found (best_order system count (max block (hold task)) (without task unplaced))
+          (again task (found_passes (fits system block unplaced) unplaced task found).0)

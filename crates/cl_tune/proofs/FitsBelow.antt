@@ -3,7 +3,6 @@ use Rattle.std.proofs.Common.{◌≡◌, ℕ, ◌+◌, ◌-◌, ◌*◌, ◌/◌
 use Rattle.std.specs.Prelude.{◌==◌, sum_by, is_some, fold}
 use Rattle.std.specs.Int.{div_ceil}
 use Rattle.std.specs.List.{list_all}
-use Rattle.std.specs.Option.{option_map}
 use Rattle.std.proofs.lemmas.Bool.{false≢true, cases_lt, cases_eq, and_parts, and_from}
 use Rattle.std.proofs.lemmas.Grind.{div_ceil_times}
 use Rattle.std.proofs.lemmas.Nat.{div-add-mod'}
@@ -20,10 +19,10 @@ use Rattle.cl_stim.specs.Releases.{most_releases}
 use Rattle.cl_resp.specs.declared.question.Above.{Above}
 use Rattle.cl_resp.specs.declared.question.Question.{Question}
 use Rattle.cl_resp.specs.Question.{greatest_execution, hold_of, longest_hold, taken_by}
-use Rattle.cl_resp.specs.Response.{demand, busy_window, response_to}
+use Rattle.cl_resp.specs.Response.{Response, demand, response_to, AsksNoMore}
 use Rattle.cl_resp.proofs.Greatest.{greatest_within}
+use Rattle.cl_resp.proofs.LessAsked.{answered_no_later}
 use Rattle.cl_resp.proofs.StimulusKinds.{kind_of-as_stimulus}
-use Rattle.cl_resp.proofs.Windows.{no_window_holds, none_where_none_holds}
 use Rattle.cl_tune.specs.Inner.Filling.{without, question_below, spans_few, fits_below}
 use Rattle.cl_tune.proofs.Members.{has, AreDistinct, HaveSame, all_at, has_filter, sum_without, sums_agree, has_place}
 
@@ -111,30 +110,13 @@ demand_below system block others task width =
 
 -- ---- a question that asks less
 
-some_mapped : {X Y : Type 0} (f : X → Y) (o : Option X) → is_some (option_map f o) ≡ is_some o
-some_mapped f None = refl
-some_mapped f (Some x) = refl
-
--- there is a response exactly where there is a window
-pub response_is : (question : Question) → is_some (response_to question) ≡ is_some (busy_window question)
-response_is question = some_mapped _ (busy_window question)
-
--- a question that asks no more of the same windows has a response where the other has one
-pub asks_less : (question other : Question) → question.deadline ≡ other.deadline → question.jitter ≡ other.jitter
-    → ((width : ℕ) → 1 ≤ width → demand question width ≤ demand other width)
-    → is_some (response_to other) ≡ true → is_some (response_to question) ≡ true
-asks_less question other deadlines jitters less is =
-    response_is question ∙ go (busy_window question) refl
+-- a question that asks no more than another has a response where that has one
+pub asks_less : (question other : Question) → AsksNoMore question other → is_some (response_to other) ≡ true → is_some (response_to question) ≡ true
+asks_less question other less is = go (response_to other) refl is
   where
-    go : (window : Option ℕ) → busy_window question ≡ window → is_some (busy_window question) ≡ true
-    go (Some width) found = ap is_some found
-    go None none =
-        let no_other = none_where_none_holds other (λ width some within. omega (
-          arith,
-          no_window_holds question none width some (omega (arith, within, deadlines, jitters)),
-          less width some,
-        )) in
-        absurd (false≢true (sym (response_is other ∙ ap is_some no_other) ∙ is))
+    go : (latest : Option Response) → response_to other ≡ latest → is_some latest ≡ true → is_some (response_to question) ≡ true
+    go None none is = absurd (false≢true is)
+    go (Some latest) answered is = ap is_some (answered_no_later question other less latest answered).answered
 
 -- ---- a task fits below others
 
@@ -154,8 +136,11 @@ fits_fewer system block less others fewer task within asks fit =
     let parts = and_parts (spans_few system others task) (is_some (response_to (question_below system block others task))) fit in
     and_from (spans_few system fewer task) (is_some (response_to (question_below system less fewer task)))
     (few_fewer (λ other. not (spans_too_many (timing_at system task).deadline (timing_at system other).pattern)) others fewer within parts.0)
-    (asks_less (question_below system less fewer task) (question_below system block others task) refl refl
-    (λ width some. omega (arith, demand_below system less fewer task width, demand_below system block others task width, asks width some)) parts.1)
+    (asks_less (question_below system less fewer task) (question_below system block others task) (record {
+      deadline = refl;
+      jitter = refl;
+      needs = λ width some. omega (arith, demand_below system less fewer task width, demand_below system block others task width, asks width some);
+    }) parts.1)
 
 -- the order of the others doesn't matter
 pub fits_same : (system : System) (block : ℕ) (others same : List ℕ) (task : ℕ) → AreDistinct others → AreDistinct same → HaveSame others same

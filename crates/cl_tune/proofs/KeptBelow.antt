@@ -20,20 +20,23 @@ use Rattle.cl_model.specs.Named.{index_of, runnable_names, all_runnables}
 use Rattle.cl_model.specs.Ranges.{IsInRange}
 use Rattle.cl_model.specs.Validity.{IsValid}
 use Rattle.cl_model.proofs.GroupFacts.{groups_at_are}
+use Rattle.cl_model.specs.Kinds.{is_timed, is_periodic}
 use Rattle.cl_runs.specs.SystemOf.{system_of}
 use Rattle.cl_runs.specs.TaskTiming.{timing_at}
 use Rattle.cl_runs.proofs.ModelSystem.{count_is, system_sound}
-use Rattle.cl_comm.specs.AccessMoments.{is_timed}
 use Rattle.cl_resp.proofs.Filters.{maps_agree}
 use Rattle.cl_bound.specs.declared.answer.TaskAnswer.{TaskAnswer}
 use Rattle.cl_bound.specs.declared.answer.TaskAnswer.TheVariants as answers
 use Rattle.cl_bound.specs.Answers.{answer_to, answers_of, is_late, NoneIsLate}
 use Rattle.cl_bound.specs.Bounds.{Lengths, AreBoundsOf, settled_timings, bounds_of}
+use Rattle.cl_bound.specs.NoGreater.{AreNoGreater}
 use Rattle.cl_bound.proofs.SettledChains.{settled_sums}
-use Rattle.cl_exact.specs.TimedPeriodic.{is_periodic, is_timed_periodic_task, are_timed_periodic, is_timed_periodic_chain}
+use Rattle.cl_exact.specs.TimedPeriodic.{is_timed_periodic_task, are_timed_periodic, is_timed_periodic_chain}
 use Rattle.cl_exact.proofs.ExactOnce.{exact_unique, within_or_past}
 use Rattle.cl_exact.specs.ExactLengths.{Witnesses, AreExactLengths}
 use Rattle.cl_exact.specs.Hyperperiod.{IsWithinLimit, IsPastLimit}
+use Rattle.cl_exact.specs.SameArrivals.{HaveSameArrivals}
+use Rattle.cl_exact.proofs.SameArrivals.{exact_same, within_same, past_same}
 use Rattle.cl_analyse.specs.declared.findings.ChainAnswer.{ChainAnswer}
 use Rattle.cl_analyse.specs.declared.findings.ChainAnswer.TheVariants as bounded
 use Rattle.cl_analyse.specs.declared.findings.ExactAnswer.{ExactAnswer}
@@ -51,8 +54,7 @@ use Rattle.cl_tune.specs.Headroom.{is_met, Keeps}
 use Rattle.cl_tune.specs.Scaled.{scaled_runnable, scaled_task, scaled}
 use Rattle.cl_tune.proofs.ScaledValid.{names_of_runnables, scaled_valid}
 use Rattle.cl_tune.proofs.ScaledAnswers.{all_in_time, range_stays}
-use Rattle.cl_tune.proofs.ScaledBounds.{patterns_same, deadlines_same, accesses_same, AreNoGreater, bounds_sooner}
-use Rattle.cl_tune.proofs.ScaledExact.{HaveSameArrivals, exact_same, within_same, past_same}
+use Rattle.cl_tune.proofs.ScaledBounds.{patterns_same, deadlines_same, accesses_same, bounds_sooner}
 
 -- ---- groups
 

@@ -5,6 +5,7 @@ pub mod Members
 pub mod FitsBelow
 pub mod FilledOrders
 pub mod Priorities
+pub mod NewPriorities
 pub mod UnderOrders
 pub mod CoreOrders
 pub mod OrdersTogether
@@ -14,7 +15,6 @@ pub mod ReorderedValid
 pub mod ScaledValid
 pub mod ScaledAnswers
 pub mod ScaledBounds
-pub mod ScaledExact
 pub mod KeptBelow
 pub mod KeptFindings
 pub mod OneOrder

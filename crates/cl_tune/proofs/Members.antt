@@ -10,12 +10,6 @@ use Rattle.std.proofs.lemmas.List.Sums.{sum_by-cons}
 use Rattle.std.proofs.lemmas.List.Sorted.{IsPermutation-refl, IsPermutation-cons, IsPermutation-trans, IsPermutation-middle, IsPermutation-sym, sum_by-IsPermutation, list_any-IsPermutation}
 use Rattle.cl_tune.specs.Inner.Filling.{without}
 
--- two tests that pass together are the same
-pub same_tests : (a b : Bool) → (a ≡ true → b ≡ true) → (b ≡ true → a ≡ true) → a ≡ b
-same_tests true b there back = sym (there refl)
-same_tests false true there back = back refl
-same_tests false false there back = refl
-
 -- ---- which numbers a list has
 
 -- whether a number stands in a list

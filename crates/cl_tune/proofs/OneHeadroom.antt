@@ -1,6 +1,6 @@
 -- A valid model has a headroom answer, and but one: whether a percentage keeps is decided, and there are but 1,000.
 use Rattle.std.proofs.Common.{◌≡◌, ℕ, zero, suc, ◌<◌, ◌≤◌, ◌⊎◌, inl, inr, Bool, true, false, Option, Some, None, List, [], ◌∷◌, length, map, refl, ap, subst, arith}
-use Rattle.std.specs.Prelude.{All, IfSome}
+use Rattle.std.specs.Prelude.{All, IfSome, IsNone, ◌↔◌}
 use Rattle.std.proofs.lemmas.Bool.{true≢false, false≢true, cases_lt, cases_eq, cases_order}
 use Rattle.std.proofs.lemmas.List.{length-map}
 use Rattle.std.proofs.lemmas.List.Elements.{All-nil, All-cons, All-head, All-tail}
@@ -16,7 +16,7 @@ use Rattle.cl_analyse.specs.declared.findings.Findings.{Findings}
 use Rattle.cl_analyse.specs.declared.findings.Verdict.{Verdict}
 use Rattle.cl_analyse.proofs.SomeFindings.{some_findings}
 use Rattle.cl_tune.specs.declared.percent.TheConstants.{MOST_PERCENT}
-use Rattle.cl_tune.specs.Headroom.{is_met, Keeps, IsGreatestKept, IsHeadroom}
+use Rattle.cl_tune.specs.Headroom.{is_met, Keeps, IsGreatestKept, IsHeadroom, SmallerKeep}
 use Rattle.cl_tune.specs.Scaled.{scaled_task, scaled}
 use Rattle.cl_tune.proofs.KeptBelow.{kept_below}
 use Rattle.cl_tune.proofs.KeptFindings.{IsKept, keeping, kept_of}
@@ -137,6 +137,17 @@ module _ (model : SystemModel) (valid : IsValid model) where
 
   pub some_headroom : (answer : Option ℕ) × IsHeadroom model answer
   some_headroom = greatest_up_to MOST_PERCENT (omega arith) (λ other above within kept. absurd (omega (arith, above, within)))
+
+  -- ---- what follows from it
+
+  pub smaller_keep : (answer : Option ℕ) → IsHeadroom model answer → SmallerKeep model answer
+  smaller_keep None is = tt
+  smaller_keep (Some percent) is = λ less within. kept_below model valid less percent within is.kept
+
+  -- there is none exactly where 1 percent doesn't keep
+  pub none_exactly : (answer : Option ℕ) → IsHeadroom model answer → IsNone answer ↔ (Keeps model 1 → ⊥)
+  none_exactly None is = ((λ none. is), (λ fails. refl))
+  none_exactly (Some percent) is = ((λ none. absurd (true≢false none)), (λ fails. absurd (fails (kept_below model valid 1 percent is.some is.kept))))
 
   -- ---- and but one
 

@@ -1,4 +1,5 @@
--- The priorities that an order gives: those of the tasks after a task are higher, and those of the tasks before it lower.
+-- The priorities that an order gives: those of the tasks after a task are higher, and those of the tasks before it
+-- lower.
 use Rattle.std.proofs.Common.{◌≡◌, ℕ, suc, ◌+◌, ◌<◌, ◌≤◌, inl, inr, Bool, true, false, not, ◌||◌, nat_lt, Some, None, List, [], ◌∷◌, ◌++◌, length, refl, sym, ap, ◌∙◌, arith}
 use Rattle.std.specs.Prelude.{◌==◌, unwrap_or}
 use Rattle.std.specs.List.{prefix_len}

@@ -1,5 +1,5 @@
--- The best priorities of the tasks of a model: they are in range, those of tasks of one core differ, and deadlines span few
--- least distances of tasks that they put above.
+-- The best priorities of the tasks of a model: they are in range, those of tasks of one core differ, and deadlines span
+-- few least distances of tasks that they put above.
 use Rattle.std.proofs.Common.{◌≡◌, ℕ, ◌<◌, ◌≤◌, false, nat_lt, List, length, refl, sym, ap, ◌∙◌, arith}
 use Rattle.std.specs.Prelude.{◌==◌, slice_index}
 use Rattle.std.proofs.lemmas.Bool.{eq-eqb, lt-ltb, and_from}
@@ -16,8 +16,9 @@ use Rattle.cl_runs.specs.TaskTiming.{Timing, timing_at}
 use Rattle.cl_runs.proofs.ModelSystem.{count_is}
 use Rattle.cl_resp.specs.Question.{is_above}
 use Rattle.cl_tune.specs.BestOrders.{AreBestPriorities}
-use Rattle.cl_tune.specs.Orders.{timing_with, system_with}
-use Rattle.cl_tune.proofs.OrdersTogether.{count_with, timing_with_is, order_at, in_order_at, pass_together}
+use Rattle.cl_tune.specs.Priorities.{with_priorities}
+use Rattle.cl_tune.proofs.NewPriorities.{timing_with, has_priorities}
+use Rattle.cl_tune.proofs.OrdersTogether.{order_at, in_order_at, pass_together}
 use Rattle.cl_tune.proofs.Priorities.{priority_few, priorities_apart}
 use Rattle.cl_tune.proofs.Timings.{core_is, pattern_is, deadline_is}
 
@@ -51,13 +52,14 @@ module _ (model : SystemModel) (valid : IsValid model) (priorities : List ℕ) (
       → spans_too_many (deadline_of model i) (stimulus_of model j) ≡ false
   spans_few i j hi hj cores higher =
       let system = system_of model in
-      let with = system_with system priorities in
-      let one = timing_with_is system priorities i (omega (arith, hi, count_is model)) in
-      let other = timing_with_is system priorities j (omega (arith, hj, count_is model)) in
+      let with = system_of (with_priorities model given) in
+      let has = has_priorities model given in
+      let one = has.each i (omega (arith, hi, count_is model)) in
+      let other = has.each j (omega (arith, hj, count_is model)) in
       ap (λ n. spans_too_many n (stimulus_of model j)) (sym (ap (λ (t : Timing). t.deadline) one ∙ deadline_is model i hi))
       ∙ ap (λ (k : StimulusKind). spans_too_many (timing_at with i).deadline k) (sym (ap (λ (t : Timing). t.pattern) other ∙ pattern_is model j hj))
-      ∙ (pass_together model valid priorities best i hi).few_distances j (omega (arith, hj, count_is model, count_with system priorities))
+      ∙ (pass_together model valid priorities best i hi).few_distances j (omega (arith, hj, count_is model, has.as_many))
       (ap (λ (t : Timing). is_above t (timing_at with j)) one
-      ∙ ap (λ (t : Timing). is_above (timing_with system priorities i) t) other
+      ∙ ap (λ (t : Timing). is_above (timing_with system given i) t) other
       ∙ and_from ((timing_at system j).core == (timing_at system i).core) (nat_lt (given i) (given j))
       (eq-eqb _ _ (core_is model j hj ∙ cores ∙ sym (core_is model i hi))) (lt-ltb _ _ higher))

@@ -1,7 +1,7 @@
--- A valid model with the best priorities on all its cores is valid: on each core they are in range and differ, deadlines
--- span few least distances, and no other check looks at priorities.
+-- A valid model with the best priorities on all its cores is valid: on each core they are in range and differ,
+-- deadlines span few least distances, and no other check looks at priorities.
 use Rattle.std.proofs.Common.{◌≡◌, ℕ, suc, ◌+◌, ◌<◌, inl, inr, Bool, true, false, not, ◌||◌, nat_lt, Option, Some, None, List, [], ◌∷◌, ◌++◌, length, get_or, take, map, refl, sym, ap, ◌∙◌, arith}
-use Rattle.std.specs.Prelude.{◌==◌, filter, slice_get, unwrap_or}
+use Rattle.std.specs.Prelude.{◌==◌, filter, slice_get, slice_index, unwrap_or}
 use Rattle.std.specs.List.{list_any, range_with_len, take-map}
 use Rattle.std.specs.Option.{option_and_then}
 use Rattle.std.specs.Cmp.Lexicographic.{bytes_decides}
@@ -33,9 +33,9 @@ use Rattle.cl_model.proofs.NoRefusals.{all_none}
 use Rattle.cl_model.proofs.Refused.{each_none, each_same}
 use Rattle.cl_resp.proofs.Filters.{filter-map, by_number}
 use Rattle.cl_tune.specs.BestOrders.{AreBestPriorities}
-use Rattle.cl_tune.specs.Reordered.{reordered_task, reordered}
+use Rattle.cl_tune.specs.Priorities.{task_with, with_priorities}
 use Rattle.cl_tune.proofs.Members.{has_place}
-use Rattle.cl_tune.proofs.ReorderedModels.{count_made, task_made}
+use Rattle.cl_tune.proofs.NewPriorities.{count_made, task_made}
 use Rattle.cl_tune.proofs.ReorderedPriorities.{distinct, in_range, spans_few}
 use Rattle.cl_tune.proofs.ScaledValid.{each_mapped, names_checked}
 use Rattle.cl_tune.proofs.UnderOrders.{range_below}
@@ -96,13 +96,16 @@ module _ (xs ys : List TaskDef) (alike : map bare xs ≡ map bare ys) where
   alike_before i = sym (take-map bare i xs) ∙ ap (take i) alike ∙ take-map bare i ys
 
 module _ (model : SystemModel) (priorities : List ℕ) where
+  abbrev given : ℕ → ℕ
+  given = slice_index priorities
+
   abbrev made : SystemModel
-  made = reordered model priorities
+  made = with_priorities model given
 
   all_alike : map bare made.tasks ≡ map bare model.tasks
-  unfolding reordered
+  unfolding with_priorities
   all_alike =
-      map-map bare (reordered_task model priorities) (range_with_len 0 (length model.tasks))
+      map-map bare (task_with model given) (range_with_len 0 (length model.tasks))
       ∙ sym (map-map bare (task_at model) (range_with_len 0 (length model.tasks)))
       ∙ ap (map bare) (by_number model.tasks no_task)
 
@@ -120,7 +123,7 @@ module _ (model : SystemModel) (priorities : List ℕ) where
       ∙ each_mapped 0 (runnable_repeats model.tasks) bare model.tasks
 
   names_same : name_checks made ≡ name_checks model
-  unfolding reordered
+  unfolding with_priorities
   names_same = names_checked model made.tasks (same_names made.tasks model.tasks all_alike) repeats_same
 
   -- ---- chains
@@ -150,15 +153,15 @@ module _ (model : SystemModel) (priorities : List ℕ) where
       (λ k label. ap (λ b. when b M45 (at_spot k hops)) (misses_same chain k label)))
 
   chains_same : each (chain_check made) made.chains ≡ each (chain_check model) model.chains
-  unfolding reordered
+  unfolding with_priorities
   chains_same = each_same 0 (chain_check made) (chain_check model) model.chains chain_same
 
   stimuli_same : stimulus_checks made ≡ stimulus_checks model
-  unfolding stimulus_checks reordered
+  unfolding stimulus_checks with_priorities
   stimuli_same = refl
 
   requirements_same : each (requirement_check made) made.requirements ≡ each (requirement_check model) model.requirements
-  unfolding reordered
+  unfolding with_priorities
   requirements_same = refl
 
   module _ (valid : IsValid model) (best : AreBestPriorities model priorities) where
@@ -169,7 +172,7 @@ module _ (model : SystemModel) (priorities : List ℕ) where
       task = task_at model i
 
       abbrev changed : TaskDef
-      changed = reordered_task model priorities i
+      changed = task_with model given i
 
       core_same : (j : ℕ) → same_name task.core (task_at model j).core ≡ true → core_of model j ≡ core_of model i
       core_same j is = ap (λ name. unwrap_or (index_of name (core_names model)) 0) (sym ((bytes_decides task.core (task_at model j).core).0 is))
@@ -177,19 +180,19 @@ module _ (model : SystemModel) (priorities : List ℕ) where
       none_alike : list_any (λ (other : TaskDef). other.priority == changed.priority) (tasks_on task.core (take i made.tasks)) ≡ false
       none_alike = none_among (λ (other : TaskDef). other.priority == changed.priority) (λ (other : TaskDef). same_name task.core other.core) no_task (take i made.tasks)
           (λ j lt on.
-          let before : j < i = omega (arith, lt, length-take-le i made.tasks (omega (arith, h, count_made model priorities))) in
+          let before : j < i = omega (arith, lt, length-take-le i made.tasks (omega (arith, h, count_made model given))) in
           let g : j < length model.tasks = omega (arith, before, h) in
-          let at : get_or (take i made.tasks) j no_task ≡ reordered_task model priorities j = get_or-take i made.tasks j no_task before ∙ task_made model priorities j no_task g in
+          let at : get_or (take i made.tasks) j no_task ≡ task_with model given j = get_or-take i made.tasks j no_task before ∙ task_made model given j no_task g in
           let cores = core_same j (sym (ap (λ (other : TaskDef). same_name task.core other.core) at) ∙ on) in
           ap (λ (other : TaskDef). other.priority == changed.priority) at
-          ∙ false_from_ne_true ((reordered_task model priorities j).priority == changed.priority)
+          ∙ false_from_ne_true ((task_with model given j).priority == changed.priority)
           (λ same. absurd (omega (arith, before, distinct model valid priorities best j i g h cores (eqb-true _ _ same)))))
 
       same_room : length (tasks_on task.core (take i made.tasks)) ≡ length (tasks_on task.core (take i model.tasks))
       same_room = as_many (take i made.tasks) (take i model.tasks) (alike_before made.tasks model.tasks all_alike i) task.core
 
       naming_kept : naming_checks model i task ≡ [] → naming_checks made i changed ≡ []
-      unfolding naming_checks reordered
+      unfolding naming_checks with_priorities
       naming_kept none =
           let kind = kind_named model task.stimulus in
           let earlier = tasks_on task.core (take i model.tasks) in
@@ -211,7 +214,7 @@ module _ (model : SystemModel) (priorities : List ℕ) where
 
       bodies_kept : body_checks (label_names model) (labels_written (all_runnables (take i model.tasks))) (entry_of part.Task i) task ≡ []
           → body_checks (label_names made) (labels_written (all_runnables (take i made.tasks))) (entry_of part.Task i) changed ≡ []
-      unfolding reordered
+      unfolding with_priorities
       bodies_kept none = ap (λ (before : List RunnableDef). body_checks (label_names model) (labels_written before) (entry_of part.Task i) task) (all_before i) ∙ none
 
       count_kept : count_check model i ≡ [] → count_check made i ≡ []
@@ -228,12 +231,12 @@ module _ (model : SystemModel) (priorities : List ℕ) where
 
       -- ---- its deadline
 
-      not_outpaced : (j : ℕ) → j < length model.tasks → core_of model j ≡ core_of model i → is_outpaced_by made changed (reordered_task model priorities j) ≡ false
-      unfolding reordered
+      not_outpaced : (j : ℕ) → j < length model.tasks → core_of model j ≡ core_of model i → is_outpaced_by made changed (task_with model given j) ≡ false
+      unfolding with_priorities
       not_outpaced j g cores =
           let other = task_at model j in
           let spans : StimulusKind → Bool = λ kind. is_some_and (kind_named model other.stimulus) (spans_too_many (deadline_under kind task)) in
-          let higher = nat_lt changed.priority (reordered_task model priorities j).priority in
+          let higher = nat_lt changed.priority (task_with model given j).priority in
           elim (cases_Bool higher) [
             | inl is ↦ and_right higher (is_some_and (kind_named model task.stimulus) spans)
                 (none_passes (kind_named model task.stimulus) spans no_stimulus
@@ -246,8 +249,8 @@ module _ (model : SystemModel) (priorities : List ℕ) where
       deadline_kept = ap (λ b. when b M42 (task_key i key.Deadline))
           (none_among (is_outpaced_by made changed) (λ (other : TaskDef). same_name task.core other.core) no_task made.tasks
           (λ j lt on.
-          let g : j < length model.tasks = omega (arith, lt, count_made model priorities) in
-          let at = task_made model priorities j no_task g in
+          let g : j < length model.tasks = omega (arith, lt, count_made model given) in
+          let at = task_made model given j no_task g in
           ap (is_outpaced_by made changed) at
           ∙ not_outpaced j g (core_same j (sym (ap (λ (other : TaskDef). same_name task.core other.core) at) ∙ on))))
 
@@ -256,19 +259,19 @@ module _ (model : SystemModel) (priorities : List ℕ) where
     tasks_pass : task_checks model ≡ [] → task_checks made ≡ []
     tasks_pass none = each_passes 0 (task_check made) no_task made.tasks
         (λ i j at lt.
-        let h : i < length model.tasks = omega (arith, lt, count_made model priorities) in
+        let h : i < length model.tasks = omega (arith, lt, count_made model given) in
         let same : j ≡ i = omega (arith, at) in
         ap (λ n. task_check made n (get_or made.tasks i no_task)) same
-        ∙ ap (task_check made i) (task_made model priorities i no_task h)
+        ∙ ap (task_check made i) (task_made model given i no_task h)
         ∙ task_kept i h (each_none (task_check model) model.tasks i no_task none h))
 
     deadlines_pass : deadline_checks made ≡ []
     deadlines_pass = each_passes 0 (deadline_check made) no_task made.tasks
         (λ i j at lt.
-        let h : i < length model.tasks = omega (arith, lt, count_made model priorities) in
+        let h : i < length model.tasks = omega (arith, lt, count_made model given) in
         let same : j ≡ i = omega (arith, at) in
         ap (λ n. deadline_check made n (get_or made.tasks i no_task)) same
-        ∙ ap (deadline_check made i) (task_made model priorities i no_task h)
+        ∙ ap (deadline_check made i) (task_made model given i no_task h)
         ∙ deadline_kept i h)
 
     all_pass : refusals_of model ≡ [] → refusals_of made ≡ []
@@ -285,7 +288,7 @@ module _ (model : SystemModel) (priorities : List ℕ) where
 
     -- ---- ranges
 
-    task_stays : (i : ℕ) → i < length model.tasks → IsTaskInRange (reordered_task model priorities i)
+    task_stays : (i : ℕ) → i < length model.tasks → IsTaskInRange (task_with model given i)
     task_stays i h =
         let task = valid.in_range.tasks i no_task h in
         record {
@@ -296,7 +299,7 @@ module _ (model : SystemModel) (priorities : List ℕ) where
         }
 
     stays : IsInRange made
-    unfolding reordered
+    unfolding with_priorities
     stays =
         let counts = valid.in_range.counts in
         record {
@@ -304,17 +307,17 @@ module _ (model : SystemModel) (priorities : List ℕ) where
             cores = counts.cores;
             stimuli = counts.stimuli;
             labels = counts.labels;
-            tasks = omega (arith, counts.tasks, count_made model priorities);
+            tasks = omega (arith, counts.tasks, count_made model given);
             chains = counts.chains;
             requirements = counts.requirements;
           };
           stimuli = valid.in_range.stimuli;
-          tasks = All-map IsTaskInRange (reordered_task model priorities) (range_with_len 0 (length model.tasks))
-              (has_place (λ i. IsTaskInRange (reordered_task model priorities i)) (range_with_len 0 (length model.tasks))
+          tasks = All-map IsTaskInRange (task_with model given) (range_with_len 0 (length model.tasks))
+              (has_place (λ i. IsTaskInRange (task_with model given i)) (range_with_len 0 (length model.tasks))
               (λ i there. task_stays i (omega (arith, range_below 0 (length model.tasks) i there))));
           chains = valid.in_range.chains;
           requirements = valid.in_range.requirements;
         }
 
-pub reordered_valid : (model : SystemModel) → IsValid model → (priorities : List ℕ) → AreBestPriorities model priorities → IsValid (reordered model priorities)
+pub reordered_valid : (model : SystemModel) → IsValid model → (priorities : List ℕ) → AreBestPriorities model priorities → IsValid (with_priorities model (slice_index priorities))
 reordered_valid model valid priorities best = record { in_range = stays model priorities valid best; accepted = all_pass model priorities valid best valid.accepted }

@@ -1,7 +1,6 @@
 -- Smaller percentages: greatest times are smaller, so are blocking and demand, and no task answers later.
 use Rattle.std.proofs.Common.{◌≡◌, ℕ, zero, suc, ◌+◌, ◌-◌, ◌*◌, ◌/◌, ◌≤◌, Bool, true, false, cond, Option, Some, None, List, [], ◌∷◌, length, get_or, map, refl, sym, ap, ◌∙◌, arith}
 use Rattle.std.specs.Prelude.{All, filter, sum_by}
-use Rattle.std.specs.Option.{option_map}
 use Rattle.std.proofs.lemmas.Bool.{true≢false}
 use Rattle.std.proofs.lemmas.List.{length-map}
 use Rattle.std.proofs.lemmas.List.Elements.{All-from_get_or, All-cons, All-head, All-nil, All-tail}
@@ -14,17 +13,18 @@ use Rattle.cl_model.specs.declared.model.SystemModel.{SystemModel}
 use Rattle.cl_model.specs.declared.task.RunnableDef.{RunnableDef}
 use Rattle.cl_model.specs.declared.task.TaskDef.{TaskDef}
 use Rattle.cl_model.specs.Ranges.{IsRunnableInRange, IsTaskInRange, IsInRange}
+use Rattle.cl_model.specs.Holds.{greatest_by}
 use Rattle.cl_runs.specs.SystemOf.{range_of, timing_of, system_of}
 use Rattle.cl_runs.specs.TaskTiming.{TimeRange, Timing}
 use Rattle.cl_stim.specs.AnyStimulus.{kind_of, as_stimulus}
 use Rattle.cl_stim.specs.Releases.{most_releases}
 use Rattle.cl_resp.specs.declared.question.Above.{Above}
 use Rattle.cl_resp.specs.declared.question.Question.{Question}
-use Rattle.cl_resp.specs.Question.{greatest_execution, is_above, may_block, greatest_by, hold_of, longest_hold, block_of, taken_by, question_of}
-use Rattle.cl_resp.specs.Response.{demand, busy_window, response_to}
+use Rattle.cl_resp.specs.Question.{greatest_execution, is_above, may_block, hold_of, longest_hold, block_of, taken_by, question_of}
+use Rattle.cl_resp.specs.Response.{Response, demand, response_to, AsksNoMore}
 use Rattle.cl_resp.proofs.Filters.{filter-map}
 use Rattle.cl_resp.proofs.Greatest.{greatest_mapped, greatest_within, greatest_least}
-use Rattle.cl_resp.proofs.Windows.{window_is_least, no_window_holds}
+use Rattle.cl_resp.proofs.LessAsked.{answered_no_later}
 use Rattle.cl_bound.specs.declared.answer.TaskAnswer.{TaskAnswer}
 use Rattle.cl_bound.specs.declared.answer.TaskAnswer.TheVariants.{Late}
 use Rattle.cl_bound.specs.Answers.{answer_with, answer_to, answers_of, answer_at, is_late, response_in}
@@ -71,34 +71,21 @@ hold_rises false less more le = omega arith
 
 -- ---- questions
 
--- where a question asks no more of the same windows than another that has a response, it has one that is no later
-pub answers_sooner : (question other : Question) → question.deadline ≡ other.deadline → question.jitter ≡ other.jitter
-    → ((width : ℕ) → demand question width ≤ demand other width)
-    → is_late (answer_with (response_to other)) ≡ false
+-- where a question asks no more than another that has a response, it has one that is no later
+answers_sooner : (question other : Question) → AsksNoMore question other → is_late (answer_with (response_to other)) ≡ false
     → (is_late (answer_with (response_to question)) ≡ false)
     × (response_in (answer_with (response_to question)) ≤ response_in (answer_with (response_to other)))
-answers_sooner question other deadlines jitters less timely = go (busy_window question) (busy_window other) refl refl timely
+answers_sooner question other less timely = go (response_to other) refl timely
   where
-    answer_of : Question → Option ℕ → TaskAnswer
-    answer_of q window = answer_with (option_map (λ window. record { window = window; response = q.jitter + window }) window)
-
-    go : (one two : Option ℕ) → busy_window question ≡ one → busy_window other ≡ two
-        → is_late (answer_with (option_map (λ window. record { window = window; response = other.jitter + window }) (busy_window other))) ≡ false
-        → (is_late (answer_with (option_map (λ window. record { window = window; response = question.jitter + window }) (busy_window question))) ≡ false)
-        × (response_in (answer_with (option_map (λ window. record { window = window; response = question.jitter + window }) (busy_window question)))
-        ≤ response_in (answer_with (option_map (λ window. record { window = window; response = other.jitter + window }) (busy_window other))))
-    go one None is none timely =
-        let late = sym (ap (λ window. is_late (answer_with (option_map (λ window. record { window = window; response = other.jitter + window }) window))) none) ∙ timely in
-        absurd (true≢false late)
-    go None (Some width) none is timely =
-        let window = window_is_least other width is in
-        absurd (omega (arith, no_window_holds question none width window.some (omega (arith, window.within, deadlines, jitters)), less width, window.enough))
-    go (Some one) (Some width) found is timely =
-        let window = window_is_least other width is in
-        let least = (window_is_least question one found).least width window.some (omega (arith, less width, window.enough)) in
-        let here = ap (λ window. answer_with (option_map (λ window. record { window = window; response = question.jitter + window }) window)) found in
-        let there = ap (λ window. answer_with (option_map (λ window. record { window = window; response = other.jitter + window }) window)) is in
-        (ap is_late here, omega (arith, least, jitters, ap response_in here, ap response_in there))
+    go : (latest : Option Response) → response_to other ≡ latest → is_late (answer_with latest) ≡ false
+        → (is_late (answer_with (response_to question)) ≡ false)
+        × (response_in (answer_with (response_to question)) ≤ response_in (answer_with (response_to other)))
+    go None none timely = absurd (true≢false timely)
+    go (Some latest) answered timely =
+        let sooner = answered_no_later question other less latest answered in
+        let here = ap answer_with sooner.answered in
+        let there = ap answer_with answered in
+        (ap is_late here, omega (arith, sooner.no_later, ap response_in here, ap response_in there))
 
 -- ---- answers of two scaled models
 
@@ -187,7 +174,11 @@ module _ (model : SystemModel) (less more : ℕ) (le : less ≤ more) where
   task_sooner : (task : TaskDef) → is_late (answered more task) ≡ false
       → (is_late (answered less task) ≡ false) × (response_in (answered less task) ≤ response_in (answered more task))
   unfolding asked
-  task_sooner task timely = answers_sooner (asked less task) (asked more task) (same_deadline task) (same_jitter task) (demand_rises task) timely
+  task_sooner task timely = answers_sooner (asked less task) (asked more task) (record {
+    deadline = same_deadline task;
+    jitter = same_jitter task;
+    needs = λ width some. demand_rises task width;
+  }) timely
 
   answers_are : (percent : ℕ) → answers_of (system_of (scaled model percent)) ≡ map (answered percent) model.tasks
   unfolding answers_of

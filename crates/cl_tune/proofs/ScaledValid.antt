@@ -1,5 +1,5 @@
--- A scaled model of a valid one is valid where it is in range: no check but that of the order of execution times looks at
--- greatest times, and the least times are kept.
+-- A scaled model of a valid one is valid where it is in range: no check but that of the order of execution times looks
+-- at greatest times, and the least times are kept.
 use Rattle.std.proofs.Common.{◌≡◌, ℕ, ◌+◌, Bool, not, ◌||◌, nat_lt, Option, Some, None, List, [], ◌∷◌, ◌++◌, length, take, map, refl, sym, ap, ◌∙◌, arith}
 use Rattle.std.specs.Prelude.{◌==◌, slice_get}
 use Rattle.std.specs.List.{list_any}
@@ -25,7 +25,8 @@ use Rattle.cl_model.specs.Place.{entry_of, at_key, at_sub, at_spot}
 use Rattle.cl_model.specs.Ranges.{IsInRange}
 use Rattle.cl_model.specs.Refusals.{when, unless, in_order, each_from, each}
 use Rattle.cl_model.specs.ValidNames.{name_checks, stimulus_checks, repeats, section_repeats, runnable_repeats}
-use Rattle.cl_model.specs.ValidTasks.{task_key, core_check, stimulus_check, late_check, release_check, room_check, naming_checks, times_check, reads_check, writes_check, twice_check, contest_check, runnable_checks, body_check, body_checks, count_check, task_check, task_checks, is_outpaced_by, deadline_check, deadline_checks}
+use Rattle.cl_model.specs.ValidTasks.{task_key, core_check, stimulus_check, late_check, release_check, room_check, naming_checks, times_check, reads_check, writes_check}
+use Rattle.cl_model.specs.ValidTasks.{twice_check, contest_check, runnable_checks, body_check, body_checks, count_check, task_check, task_checks, is_outpaced_by, deadline_check, deadline_checks}
 use Rattle.cl_model.specs.Validity.{step_check, step_of, misses_label, hop_check, lengths_check, chain_check, requirement_check, refusals_of, IsValid}
 use Rattle.cl_model.proofs.ListFacts.{list_any-map}
 use Rattle.cl_model.proofs.NoRefusals.{all_none}
@@ -47,7 +48,8 @@ each_kept n check other f kept (x ∷ xs) none =
     ap (λ list. list ++ each_from (n + 1) other (map f xs)) (kept n x (none_before (check n x) (each_from (n + 1) check xs) none))
     ∙ each_kept (n + 1) check other f kept xs (none_behind (check n x) (each_from (n + 1) check xs) none)
 
--- other tasks that have the names of the model's tasks, and repeat names of runnables where those do, pass the same checks
+-- other tasks that have the names of the model's tasks, and repeat names of runnables where those do, pass the same
+-- checks
 pub names_checked : (model : SystemModel) (tasks : List TaskDef) → map (λ (task : TaskDef). task.name) tasks ≡ task_names model
     → each (runnable_repeats tasks) tasks ≡ each (runnable_repeats model.tasks) model.tasks
     → name_checks (record model { tasks = tasks }) ≡ name_checks model

@@ -3,21 +3,21 @@ use Rattle.std.proofs.Common.{◌≡◌, ℕ, ◌+◌, ◌-◌, ◌<◌, ◌≤�
 use Rattle.std.proofs.lemmas.List.Folds.{fold-map}
 use Rattle.cl_model.specs.declared.limits.TheConstants.{MOST_TICKS}
 use Rattle.cl_model.specs.declared.model.SystemModel.{SystemModel}
-use Rattle.cl_model.specs.declared.task.RunnableDef.{RunnableDef}
 use Rattle.cl_model.specs.ByNumber.{task_at, core_of, stimulus_of, deadline_of, time_of}
 use Rattle.cl_model.specs.Validity.{IsValid}
 use Rattle.cl_model.proofs.ValidTasks.{runnables_in_range}
+use Rattle.cl_model.specs.Holds.{runnable_hold, task_hold}
 use Rattle.cl_runs.specs.TaskTiming.{TimeRange, Timing, timing_at}
 use Rattle.cl_runs.specs.SystemOf.{range_of, system_of}
 use Rattle.cl_runs.proofs.ModelSystem.{timing_is}
 use Rattle.cl_stim.specs.AnyStimulus.{as_stimulus}
 use Rattle.cl_resp.specs.declared.question.Above.{Above}
-use Rattle.cl_resp.specs.Question.{greatest_execution, greatest_by, hold_of, longest_hold, taken_by}
+use Rattle.cl_resp.specs.Question.{greatest_execution, hold_of, longest_hold, taken_by}
 use Rattle.cl_resp.proofs.Greatest.{greatest_within, greatest_mapped}
 
 -- how long a runnable of a task may hold its core, by number
 abbrev pub hold_at : SystemModel → (task : ℕ) → ℕ
-hold_at model task = greatest_by (λ (runnable : RunnableDef). hold_of (range_of runnable)) (task_at model task).runnables
+hold_at model task = task_hold (task_at model task)
 
 -- what a task takes of its core, by number
 abbrev pub taken_at : SystemModel → (task : ℕ) → Above
@@ -48,7 +48,7 @@ module _ (model : SystemModel) (i : ℕ) (h : i < length model.tasks) where
 
   -- no runnable in range holds its core for longer than the greatest time
   pub hold_few : IsValid model → hold_at model i ≤ MOST_TICKS
-  hold_few valid = greatest_within (λ (runnable : RunnableDef). hold_of (range_of runnable)) (task_at model i).runnables MOST_TICKS
+  hold_few valid = greatest_within runnable_hold (task_at model i).runnables MOST_TICKS
       (λ p d lt. part_few (get_or (task_at model i).runnables p d).whole (get_or (task_at model i).runnables p d).greatest
       (runnables_in_range model valid i h p d lt).greatest.1)
     where

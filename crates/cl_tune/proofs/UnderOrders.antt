@@ -1,31 +1,33 @@
 -- A task passes under an order exactly where it fits below those after it in the order.
-use Rattle.std.proofs.Common.{◌≡◌, ℕ, zero, suc, ◌+◌, ◌*◌, ◌<◌, ◌≤◌, inl, inr, max, Bool, true, false, cond, not, ◌&&◌, nat_lt, nat_le, Option, Some, None, List, [], ◌∷◌, ◌++◌, length, map, refl, sym, ap, ◌∙◌, subst, append_assoc, arith}
+use Rattle.std.proofs.Common.{◌≡◌, ℕ, zero, suc, ◌+◌, ◌*◌, ◌<◌, ◌≤◌, inl, inr, max, Bool, true, false, not, ◌&&◌, nat_lt, nat_le, Option, Some, None, List, [], ◌∷◌, ◌++◌, length, map, refl, sym, ap, ◌∙◌, subst, append_assoc, arith}
 use Rattle.std.specs.Prelude.{All, ◌==◌, filter, sum_by, is_some}
 use Rattle.std.specs.List.{range_with_len}
 use Rattle.std.proofs.lemmas.Bool.{false≢true, eqb-true, eq-eqb, lt-ltb, ltb-true, le-leb, leb-true, and_parts, and_from, or_cases, or_left, or_right, cond-true, not_from_false, not-true, cases_eq}
 use Rattle.std.proofs.lemmas.Simd.{map-map}
 use Rattle.std.proofs.lemmas.List.Elements.{All-head, All-tail, All-nil, All-cons}
 use Rattle.std.proofs.lemmas.List.Folds.{fold-map}
-use Rattle.std.proofs.lemmas.List.FromFn.{get_or-map-range_with_len, length-map-range_with_len}
 use Rattle.std.proofs.lemmas.List.Sums.{fold-append, sum_by-le-sum_by, AllPass-from_list_all, list_all-from_AllPass}
 use Rattle.cl_model.specs.declared.stimulus.StimulusKind.{StimulusKind}
 use Rattle.cl_model.specs.Timing.{greatest_jitter}
 use Rattle.cl_model.specs.ValidTasks.{spans_too_many}
-use Rattle.cl_runs.specs.TaskTiming.{TimeRange, Timing, System, timing_at, no_timing}
+use Rattle.cl_model.specs.Holds.{greatest_by}
+use Rattle.cl_model.proofs.ListFacts.{same_tests}
+use Rattle.cl_runs.specs.TaskTiming.{Timing, System, timing_at}
 use Rattle.cl_stim.specs.AnyStimulus.{kind_of}
 use Rattle.cl_stim.specs.Releases.{most_releases}
 use Rattle.cl_resp.specs.declared.question.Above.{Above}
-use Rattle.cl_resp.specs.Question.{greatest_execution, is_above, may_block, greatest_by, longest_hold, block_of, taken_by, question_of, hold_of}
+use Rattle.cl_resp.specs.Question.{greatest_execution, is_above, may_block, longest_hold, block_of, taken_by, question_of}
 use Rattle.cl_resp.specs.Response.{Response, demand, response_to}
 use Rattle.cl_resp.proofs.Filters.{filter-map}
 use Rattle.cl_resp.proofs.Greatest.{greatest_least, greatest_within, greatest_agrees, greatest_mapped}
 use Rattle.cl_resp.proofs.StimulusKinds.{kind_of-as_stimulus}
 use Rattle.cl_bound.specs.Answers.{answer_with, answer_to, is_late}
 use Rattle.cl_tune.specs.Inner.Filling.{question_below, spans_few, fits_below}
-use Rattle.cl_tune.specs.Orders.{priority_in, timing_under, system_under, Passes}
-use Rattle.cl_tune.proofs.Members.{same_tests, has, has_head, has_more, has_cases, has_append, has_filter, has_place, AreDistinct, HaveSame, all_at, distinct_filter, sums_agree}
+use Rattle.cl_tune.specs.Orders.{priority_in, IsPassing}
+use Rattle.cl_tune.proofs.Members.{has, has_head, has_more, has_cases, has_append, has_filter, has_place, AreDistinct, HaveSame, all_at, distinct_filter, sums_agree}
 use Rattle.cl_tune.proofs.FitsBelow.{load, demand_below, asks_less}
 use Rattle.cl_tune.proofs.FilledOrders.{AllFit, ascending_range, ascending_distinct}
+use Rattle.cl_tune.proofs.NewPriorities.{timing_with, system_with, count_with, timing_with_is, priority_within}
 use Rattle.cl_tune.proofs.Priorities.{later_is_higher, earlier_is_lower}
 
 -- ---- numbers up to an end
@@ -77,54 +79,32 @@ some_settled (Some response) is = refl
 -- ---- the tasks under an order
 
 module _ (system : System) (core : ℕ) (order : List ℕ) where
+  abbrev given : ℕ → ℕ
+  given = priority_within system core order
+
   abbrev under : System
-  under = system_under system core order
+  under = system_with system given
 
   abbrev timing : ℕ → Timing
-  timing = timing_under system core order
+  timing = timing_with system given
 
   abbrev hold : ℕ → ℕ
   hold task = longest_hold (timing_at system task)
 
-  pub count_under : length under.tasks ≡ length system.tasks
-  unfolding system_under
-  count_under = length-map-range_with_len timing 0 (length system.tasks)
-
-  pub timing_is : (i : ℕ) → i < length system.tasks → timing_at under i ≡ timing i
-  unfolding system_under
-  timing_is i h = get_or-map-range_with_len timing 0 (length system.tasks) i i no_timing h (omega arith)
-
-  pub same_core : (i : ℕ) → (timing i).core ≡ (timing_at system i).core
-  same_core i = elim ((timing_at system i).core == core)
-      as (λ b. (cond b (record (timing_at system i) { priority = priority_in order i }) (timing_at system i)).core ≡ (timing_at system i).core) [ true ↦ refl | false ↦ refl ]
-
-  same_deadline : (i : ℕ) → (timing i).deadline ≡ (timing_at system i).deadline
-  same_deadline i = elim ((timing_at system i).core == core)
-      as (λ b. (cond b (record (timing_at system i) { priority = priority_in order i }) (timing_at system i)).deadline ≡ (timing_at system i).deadline) [ true ↦ refl | false ↦ refl ]
-
-  same_pattern : (i : ℕ) → (timing i).pattern ≡ (timing_at system i).pattern
-  same_pattern i = elim ((timing_at system i).core == core)
-      as (λ b. (cond b (record (timing_at system i) { priority = priority_in order i }) (timing_at system i)).pattern ≡ (timing_at system i).pattern) [ true ↦ refl | false ↦ refl ]
-
-  same_ranges : (i : ℕ) → (timing i).ranges ≡ (timing_at system i).ranges
-  same_ranges i = elim ((timing_at system i).core == core)
-      as (λ b. (cond b (record (timing_at system i) { priority = priority_in order i }) (timing_at system i)).ranges ≡ (timing_at system i).ranges) [ true ↦ refl | false ↦ refl ]
-
   priority_of : (i : ℕ) → (timing_at system i).core ≡ core → (timing i).priority ≡ priority_in order i
-  priority_of i on = ap (λ (t : Timing). t.priority) (cond-true ((timing_at system i).core == core)
-      (record (timing_at system i) { priority = priority_in order i }) (timing_at system i) (eq-eqb _ _ on))
+  priority_of i on = cond-true ((timing_at system i).core == core) (priority_in order i) (timing_at system i).priority (eq-eqb _ _ on)
 
   same_execution : (i : ℕ) → greatest_execution (timing i) ≡ greatest_execution (timing_at system i)
   unfolding greatest_execution
-  same_execution i = ap (λ ranges. sum_by (λ (range : TimeRange). range.greatest) ranges) (same_ranges i)
+  same_execution i = refl
 
   same_hold : (i : ℕ) → longest_hold (timing i) ≡ hold i
   unfolding longest_hold
-  same_hold i = ap (λ ranges. greatest_by hold_of ranges) (same_ranges i)
+  same_hold i = refl
 
   same_load : (width i : ℕ) → most_releases (kind_of (taken_by (timing i)).stimulus) width * (taken_by (timing i)).time ≡ load system width i
   same_load width i =
-      ap (λ (k : StimulusKind). most_releases k width * greatest_execution (timing i)) (kind_of-as_stimulus (timing i).pattern ∙ same_pattern i)
+      ap (λ (k : StimulusKind). most_releases k width * greatest_execution (timing i)) (kind_of-as_stimulus (timing i).pattern)
       ∙ ap (λ n. most_releases (timing_at system i).pattern width * n) (same_execution i)
 
   module _ (once : AreDistinct order) (known : (x : ℕ) → has x order ≡ true → (x < length system.tasks) × ((timing_at system x).core ≡ core))
@@ -181,7 +161,7 @@ module _ (system : System) (core : ℕ) (order : List ℕ) where
       on_core_of x there same =
           let below : x < length system.tasks = omega (arith, range_below 0 (length system.tasks) x there) in
           let core_is : (timing_at system x).core ≡ core =
-          sym (same_core x) ∙ eqb-true (timing x).core (timing task).core same ∙ same_core task ∙ (known task itself).1 in
+          eqb-true (timing x).core (timing task).core same ∙ (known task itself).1 in
           record {
             in_order = all x below core_is;
             priority = priority_of x core_is;
@@ -196,7 +176,7 @@ module _ (system : System) (core : ℕ) (order : List ℕ) where
         priority = priority_of x (known x is).1;
         own = priority_of task (known task itself).1;
         in_everything = range_has 0 (length system.tasks) x (omega arith) (omega (arith, (known x is).0));
-        cores = eq-eqb _ _ (same_core x ∙ (known x is).1 ∙ sym (known task itself).1 ∙ sym (same_core task));
+        cores = eq-eqb _ _ ((known x is).1 ∙ sym (known task itself).1);
       }
 
       -- the tasks of higher priority are those after it
@@ -249,7 +229,7 @@ module _ (system : System) (core : ℕ) (order : List ℕ) where
           ])
 
       block_is : block_of under (timing task) ≡ max (greatest_by hold front) (hold task)
-      unfolding block_of system_under blocks
+      unfolding block_of system_with blocks
       block_is =
           ap (greatest_by longest_hold) (filter-map (may_block (timing task)) timing everything)
           ∙ greatest_mapped longest_hold timing (filter blocks everything)
@@ -259,7 +239,7 @@ module _ (system : System) (core : ℕ) (order : List ℕ) where
 
       loads_above : (width : ℕ) → sum_by (λ (above : Above). most_releases (kind_of above.stimulus) width * above.time) (map taken_by (filter (is_above (timing task)) under.tasks))
           ≡ sum_by (load system width) rest
-      unfolding system_under above
+      unfolding system_with above
       loads_above width =
           let takes : Above → ℕ = λ above. most_releases (kind_of above.stimulus) width * above.time in
           ap (λ (list : List Timing). sum_by takes (map taken_by list)) (filter-map (is_above (timing task)) timing everything)
@@ -280,49 +260,45 @@ module _ (system : System) (core : ℕ) (order : List ℕ) where
 
       -- ---- a task passes exactly where it fits
 
-      spans_is : (x : ℕ) → spans_too_many (timing task).deadline (timing x).pattern ≡ spans_too_many (timing_at system task).deadline (timing_at system x).pattern
-      spans_is x = ap (λ deadline. spans_too_many deadline (timing x).pattern) (same_deadline task)
-          ∙ ap (λ (k : StimulusKind). spans_too_many (timing_at system task).deadline k) (same_pattern x)
-
       -- in words of the timings under the order
-      passes_is : Passes under task
+      passes_is : IsPassing under task
           → ((x : ℕ) → x < length system.tasks → above x ≡ true → spans_too_many (timing task).deadline (timing x).pattern ≡ false)
           × (is_late (answer_to under (timing task)) ≡ false)
       unfolding above
       passes_is passes = (
         (λ x h higher.
-            let at = timing_is x h in
-            let own = timing_is task (known task itself).0 in
+            let at = timing_with_is system given x h in
+            let own = timing_with_is system given task (known task itself).0 in
             ap (λ (k : StimulusKind). spans_too_many (timing task).deadline k) (sym (ap (λ (t : Timing). t.pattern) at))
             ∙ ap (λ deadline. spans_too_many deadline (timing_at under x).pattern) (sym (ap (λ (t : Timing). t.deadline) own))
-            ∙ passes.few_distances x (omega (arith, h, count_under))
+            ∙ passes.few_distances x (omega (arith, h, count_with system given))
             (ap (λ (t : Timing). is_above t (timing_at under x)) own ∙ ap (λ (t : Timing). is_above (timing task) t) at ∙ higher)),
-        ap (λ (t : Timing). is_late (answer_to under t)) (sym (timing_is task (known task itself).0)) ∙ passes.in_time,
+        ap (λ (t : Timing). is_late (answer_to under t)) (sym (timing_with_is system given task (known task itself).0)) ∙ passes.in_time,
       )
 
       passes_from : ((x : ℕ) → x < length system.tasks → above x ≡ true → spans_too_many (timing task).deadline (timing x).pattern ≡ false)
-          → (is_late (answer_to under (timing task)) ≡ false) → Passes under task
+          → (is_late (answer_to under (timing task)) ≡ false) → IsPassing under task
       unfolding above
       passes_from few in_time = record {
         few_distances = λ x h higher.
-            let lt : x < length system.tasks = omega (arith, h, count_under) in
-            let at = timing_is x lt in
-            let own = timing_is task (known task itself).0 in
+            let lt : x < length system.tasks = omega (arith, h, count_with system given) in
+            let at = timing_with_is system given x lt in
+            let own = timing_with_is system given task (known task itself).0 in
             ap (λ (t : Timing). spans_too_many t.deadline (timing_at under x).pattern) own
             ∙ ap (λ (t : Timing). spans_too_many (timing task).deadline t.pattern) at
             ∙ few x lt (sym (ap (λ (t : Timing). is_above t (timing_at under x)) own ∙ ap (λ (t : Timing). is_above (timing task) t) at) ∙ higher);
-        in_time = ap (λ (t : Timing). is_late (answer_to under t)) (timing_is task (known task itself).0) ∙ in_time;
+        in_time = ap (λ (t : Timing). is_late (answer_to under t)) (timing_with_is system given task (known task itself).0) ∙ in_time;
       }
 
       deadline_asked : (question_of under (timing task)).deadline ≡ (timing_at system task).deadline
       unfolding question_of
-      deadline_asked = same_deadline task
+      deadline_asked = refl
 
       jitter_asked : (question_of under (timing task)).jitter ≡ greatest_jitter (timing_at system task).pattern
       unfolding question_of
-      jitter_asked = ap (λ (k : StimulusKind). greatest_jitter k) (same_pattern task)
+      jitter_asked = refl
 
-      pub passes_fits : Passes under task → fits_below system (greatest_by hold front) rest task ≡ true
+      pub passes_fits : IsPassing under task → fits_below system (greatest_by hold front) rest task ≡ true
       passes_fits passes =
           let is = passes_is passes in
           and_from (spans_few system rest task) (is_some (response_to (question_below system (greatest_by hold front) rest task)))
@@ -330,45 +306,50 @@ module _ (system : System) (core : ℕ) (order : List ℕ) where
           (has_place (λ x. not (spans_too_many (timing_at system task).deadline (timing_at system x).pattern) ≡ true) rest
           (λ x there.
           let parts = and_parts (has x everything) (above x) (sym (has_filter above x everything) ∙ above_are x ∙ there) in
-          not_from_false _ (sym (spans_is x) ∙ is.0 x (omega (arith, range_below 0 (length system.tasks) x parts.0)) parts.1))))
-          (asks_less (question_below system (greatest_by hold front) rest task) (question_of under (timing task))
-          (sym (deadline_asked)) (sym (jitter_asked))
-          (λ width some. omega (arith, demand_is width)) (settled_some (response_to (question_of under (timing task))) is.1))
+          not_from_false _ (is.0 x (omega (arith, range_below 0 (length system.tasks) x parts.0)) parts.1))))
+          (asks_less (question_below system (greatest_by hold front) rest task) (question_of under (timing task)) (record {
+            deadline = sym deadline_asked;
+            jitter = sym jitter_asked;
+            needs = λ width some. omega (arith, demand_is width);
+          }) (settled_some (response_to (question_of under (timing task))) is.1))
 
-      pub fits_passes : fits_below system (greatest_by hold front) rest task ≡ true → Passes under task
+      pub fits_passes : fits_below system (greatest_by hold front) rest task ≡ true → IsPassing under task
       fits_passes fit =
           let parts = and_parts (spans_few system rest task) (is_some (response_to (question_below system (greatest_by hold front) rest task))) fit in
           passes_from
-          (λ x h higher. spans_is x ∙ not-true _ (all_at (λ y. not (spans_too_many (timing_at system task).deadline (timing_at system y).pattern) ≡ true) rest x
+          (λ x h higher. not-true _ (all_at (λ y. not (spans_too_many (timing_at system task).deadline (timing_at system y).pattern) ≡ true) rest x
           (AllPass-from_list_all (λ other. not (spans_too_many (timing_at system task).deadline (timing_at system other).pattern)) rest parts.0)
           (sym (above_are x) ∙ has_filter above x everything ∙ and_from (has x everything) (above x) (range_has 0 (length system.tasks) x (omega arith) (omega (arith, h))) higher)))
           (some_settled (response_to (question_of under (timing task)))
-          (asks_less (question_of under (timing task)) (question_below system (greatest_by hold front) rest task) deadline_asked jitter_asked
-          (λ width some. omega (arith, demand_is width)) parts.1))
+          (asks_less (question_of under (timing task)) (question_below system (greatest_by hold front) rest task) (record {
+            deadline = deadline_asked;
+            jitter = jitter_asked;
+            needs = λ width some. omega (arith, demand_is width);
+          }) parts.1))
 
     -- ---- all tasks of the order
 
     more_held : (front : List ℕ) (task : ℕ) → greatest_by hold (front ++ task ∷ []) ≡ max (greatest_by hold front) (hold task)
     more_held front task = fold-append (λ (greatest : ℕ) i. max greatest (hold i)) 0 front (task ∷ [])
 
-    all_fit : (front rest : List ℕ) → order ≡ front ++ rest → All (Passes under) rest → AllFit system (greatest_by hold front) rest
+    all_fit : (front rest : List ℕ) → order ≡ front ++ rest → All (IsPassing under) rest → AllFit system (greatest_by hold front) rest
     all_fit front [] split pass = tt
     all_fit front (task ∷ rest) split pass = (
-      passes_fits front task rest split (All-head (Passes under) task rest pass),
+      passes_fits front task rest split (All-head (IsPassing under) task rest pass),
       subst (λ n. AllFit system n rest) (more_held front task)
-          (all_fit (front ++ task ∷ []) rest (split ∙ sym (append_assoc front (task ∷ []) rest)) (All-tail (Passes under) task rest pass)),
+          (all_fit (front ++ task ∷ []) rest (split ∙ sym (append_assoc front (task ∷ []) rest)) (All-tail (IsPassing under) task rest pass)),
     )
 
-    all_pass : (front rest : List ℕ) → order ≡ front ++ rest → AllFit system (greatest_by hold front) rest → All (Passes under) rest
-    all_pass front [] split fit = All-nil (Passes under)
-    all_pass front (task ∷ rest) split fit = All-cons (Passes under) task rest
+    all_pass : (front rest : List ℕ) → order ≡ front ++ rest → AllFit system (greatest_by hold front) rest → All (IsPassing under) rest
+    all_pass front [] split fit = All-nil (IsPassing under)
+    all_pass front (task ∷ rest) split fit = All-cons (IsPassing under) task rest
         (fits_passes front task rest split fit.0)
         (all_pass (front ++ task ∷ []) rest (split ∙ sym (append_assoc front (task ∷ []) rest))
         (subst (λ n. AllFit system n rest) (sym (more_held front task)) fit.1))
 
     -- an order passes exactly where each of its tasks fits
-    pub passing_fits : All (Passes under) order → AllFit system 0 order
+    pub passing_fits : All (IsPassing under) order → AllFit system 0 order
     passing_fits pass = all_fit [] order refl pass
 
-    pub fitting_passes : AllFit system 0 order → All (Passes under) order
+    pub fitting_passes : AllFit system 0 order → All (IsPassing under) order
     fitting_passes fit = all_pass [] order refl fit

@@ -1,4 +1,4 @@
--- The best orders of the cores of a model. Source: this project's profile.
+-- The best orders of the cores of a model.
 use Rattle.std.specs.Prelude.{◌≡◌, ℕ, ◌<◌, List, length, slice_index}
 use Rattle.cl_model.specs.declared.model.SystemModel.{SystemModel}
 use Rattle.cl_model.specs.ByNumber.{core_of}

@@ -1,5 +1,5 @@
--- The headroom of a model: how far its greatest execution times may be scaled. Source: this project's profile.
-use Rattle.std.specs.Prelude.{◌≡◌, ℕ, ◌<◌, ◌≤◌, Bool, true, false, All, Option, Some, None}
+-- The headroom of a model: how far its greatest execution times may be scaled.
+use Rattle.std.specs.Prelude.{◌≡◌, ℕ, ◌<◌, ◌≤◌, Bool, true, false, All, Option, Some, None, IfSome}
 use Rattle.cl_model.specs.declared.model.SystemModel.{SystemModel}
 use Rattle.cl_model.specs.Ranges.{IsInRange}
 use Rattle.cl_bound.specs.declared.answer.TaskAnswer.{TaskAnswer}
@@ -36,3 +36,7 @@ pub record IsGreatestKept (model : SystemModel) (percent : ℕ) : Type 0 where
 abbrev pub IsHeadroom : SystemModel → Option ℕ → Type 0
 IsHeadroom model None = Keeps model 1 → ⊥
 IsHeadroom model (Some percent) = IsGreatestKept model percent
+
+-- each smaller percentage keeps as well, where there is a headroom
+abbrev pub SmallerKeep : SystemModel → Option ℕ → Type 0
+SmallerKeep model headroom = IfSome headroom (λ percent. (less : ℕ) → less ≤ percent → Keeps model less)

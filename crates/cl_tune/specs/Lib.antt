@@ -1,7 +1,7 @@
 pub mod Dictionary
+pub mod Priorities
 pub mod Orders
 pub mod BestOrders
-pub mod Reordered
 pub mod Scaled
 pub mod Headroom
 pub mod Inner

@@ -1,4 +1,4 @@
--- A model whose greatest execution times are scaled by a percentage. Times are in ticks. Source: this project's profile.
+-- A model whose greatest execution times are scaled by a percentage. Times are in ticks.
 use Rattle.std.specs.Prelude.{ℕ, ◌*◌, ◌/◌, max, map}
 use Rattle.cl_model.specs.declared.model.SystemModel.{SystemModel}
 use Rattle.cl_model.specs.declared.task.RunnableDef.{RunnableDef}

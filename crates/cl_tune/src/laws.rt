@@ -1,5 +1,5 @@
 //! What orders and percentages are known to do, as laws over the definitions.
-ghost use Rattle.std.specs.Prelude.{◌≡◌, ℕ, ◌<◌, ◌≤◌, false, List, length, All, Option};
+ghost use Rattle.std.specs.Prelude.{◌≡◌, ℕ, ◌<◌, ◌≤◌, false, List, length, All, Option, slice_index};
 ghost use Rattle.cl_model.specs.declared.model.SystemModel.{SystemModel};
 ghost use Rattle.cl_model.specs.Ranges.{IsInRange};
 ghost use Rattle.cl_model.specs.Validity.{IsValid};
@@ -9,8 +9,8 @@ ghost use Rattle.cl_bound.specs.Answers.{answers_of, is_late};
 ghost use Rattle.cl_tune.specs.declared.answer.OrderAnswer.{OrderAnswer};
 ghost use Rattle.cl_tune.specs.BestOrders.{IsBestOrder, AreBestPriorities, IsOrderAnswer};
 ghost use Rattle.cl_tune.specs.Headroom.{Keeps, IsHeadroom};
-ghost use Rattle.cl_tune.specs.Orders.{system_with, Passes};
-ghost use Rattle.cl_tune.specs.Reordered.{reordered};
+ghost use Rattle.cl_tune.specs.Orders.{IsPassing};
+ghost use Rattle.cl_tune.specs.Priorities.{with_priorities, HasPriorities};
 ghost use Rattle.cl_tune.specs.Scaled.{scaled};
 
 /// A core has but one best order.
@@ -29,21 +29,23 @@ pub fn orders_are_unique()
 /// Each task of a valid model passes where all tasks have their best priorities at once.
 pub fn best_orders_pass_together()
     ensures { (model : SystemModel) → IsValid model → (priorities : List ℕ) → AreBestPriorities model priorities
-        → (task : ℕ) → task < length model.tasks → Passes (system_with (system_of model) priorities) task }
+        → (task : ℕ) → task < length model.tasks → IsPassing (system_of (with_priorities model (slice_index priorities))) task }
 {}
 
-/// A valid model with its best priorities is valid, and its system is the model's with these priorities.
+/// A valid model with its best priorities is valid. The system of a model with other priorities is the model's with
+/// these.
 pub fn reordered_models_are_valid()
     ensures valid { (model : SystemModel) → IsValid model → (priorities : List ℕ) → AreBestPriorities model priorities
-        → IsValid (reordered model priorities) }
-    ensures system { (model : SystemModel) → (priorities : List ℕ)
-        → system_of (reordered model priorities) ≡ system_with (system_of model) priorities }
+        → IsValid (with_priorities model (slice_index priorities)) }
+    ensures system { (model : SystemModel) (priority : ℕ → ℕ)
+        → HasPriorities (system_of model) (system_of (with_priorities model priority)) priority }
 {}
 
 /// No task of a valid model with its best priorities is late.
 pub fn reordered_models_are_in_time()
     ensures { (model : SystemModel) → IsValid model → (priorities : List ℕ) → AreBestPriorities model priorities
-        → All (λ (answer : TaskAnswer). is_late answer ≡ false) (answers_of (system_of (reordered model priorities))) }
+        → All (λ (answer : TaskAnswer). is_late answer ≡ false)
+        (answers_of (system_of (with_priorities model (slice_index priorities)))) }
 {}
 
 /// A scaled model is valid where it is in range.

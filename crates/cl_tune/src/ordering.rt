@@ -46,13 +46,13 @@ fn priorities_by(
 }
 
 /// The best order of the priorities on every core: under it no task of the core is late and no deadline spans too many
-/// least distances of a task of higher priority, and of all such orders it is the first in dictionary order, as a list of
-/// tasks by their numbers from priority 1 upward. Whole runnables block as they do under the order that is tried.
+/// least distances of a task of higher priority, and of all such orders it is the first in dictionary order, as a list
+/// of tasks by their numbers from priority 1 upward. Whole runnables block as they do under the order that is tried.
 ///
 /// With these priorities on all cores at once the model is valid and none of its tasks is late (see `laws`).
 ///
-/// Where no order of some core passes, the answer is the first such core. The only error is `NoMemory`, where memory ran
-/// out. It asks one question of each task that is tried at a place, and counts a step for each.
+/// Where no order of some core passes, the answer is the first such core. The only error is `NoMemory`, where memory
+/// ran out; it leaves nothing. It asks one question of each task that is tried at a place.
 pub fn order<L: Ledger>(
     alloc: Global,
     model: &ValidModel,
@@ -60,8 +60,6 @@ pub fn order<L: Ledger>(
 ) -> Result<OrderAnswer, NoMemory>
     ensures { IfOk result (IsOrderAnswer model.now) }
 {
-    // read for what it says: the model is valid
-    let _plain = model.plain();
     let mut orders = Vec::new(alloc);
     for core in 0..model.cores() {
         let Some(order) = best_order(alloc, model, core, steps)? else {

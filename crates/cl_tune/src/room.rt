@@ -1,8 +1,8 @@
 //! How far the greatest execution times of a model may be scaled.
-ghost use Rattle.std.specs.Prelude.{◌≡◌, ◌≤◌, ◌↔◌, true, false, IsTrue, IfOk, All, MatchBool};
+ghost use Rattle.std.specs.Prelude.{◌≡◌, ◌≤◌, ◌↔◌, true, false, IsTrue, IsNone, IfOk, All, MatchBool};
 ghost use Rattle.cl_model.specs.Validity.{IsValid};
 ghost use Rattle.cl_bound.specs.Answers.{is_late};
-ghost use Rattle.cl_tune.specs.Headroom.{is_met, Keeps, IsHeadroom};
+ghost use Rattle.cl_tune.specs.Headroom.{is_met, Keeps, IsHeadroom, SmallerKeep};
 
 use crate::percent::MOST_PERCENT;
 use crate::scaling::scaled;
@@ -58,14 +58,15 @@ fn adopted(alloc: Global, model: SystemModel) -> Result<ValidModel, NoMemory>
 /// met.
 fn keeps<L: Ledger>(
     alloc: Global,
-    model: &ValidModel,
+    model: &SystemModel,
     percent: u64,
     steps: &mut Steps<L>,
 ) -> Result<bool, NoMemory>
-    requires { percent ≤ MOST_PERCENT }
+    requires valid { IsValid model.now }
+    requires percent { percent ≤ MOST_PERCENT }
     ensures { IfOk result (λ kept. MatchBool kept (Keeps model.now percent) (Keeps model.now percent → ⊥)) }
 {
-    let scaled = scaled(alloc, model.plain(), percent)?;
+    let scaled = scaled(alloc, model, percent)?;
     if !in_range(&scaled) {
         return Ok(false);
     }
@@ -74,22 +75,16 @@ fn keeps<L: Ledger>(
     Ok(is_kept(&findings))
 }
 
-/// The headroom of a model: the greatest percentage from 1 to 1,000 by which all greatest execution times may be scaled,
-/// where each is rounded down but no less than the least time, so that the model stays in range, no task is late and each
-/// requirement is met. Each smaller percentage from 1 up keeps that too, and there is no headroom exactly where 1 percent
-/// doesn't keep it.
-///
-/// The only error is `NoMemory`, where memory ran out. It analyses ten copies of the model or so, and counts their steps.
-pub fn headroom<L: Ledger>(
+/// The greatest percentage that keeps, found by halving what is left. There is none exactly where 1 percent doesn't keep.
+fn greatest_kept<L: Ledger>(
     alloc: Global,
-    model: &ValidModel,
+    model: &SystemModel,
     steps: &mut Steps<L>,
 ) -> Result<Option<u64>, NoMemory>
+    requires { IsValid model.now }
     ensures { IfOk result (IsHeadroom model.now) }
 {
-    // read for what it says: the model is valid
-    let _plain = model.plain();
-    // what keeps is below, and what doesn't is from the end on
+    // `kept` is 0 or a percentage that keeps, and none from `end` up to the most keeps
     let mut kept = 0;
     let mut end = MOST_PERCENT + 1;
     while end - kept > 1 {
@@ -104,4 +99,22 @@ pub fn headroom<L: Ledger>(
         return Ok(None);
     }
     Ok(Some(kept))
+}
+
+/// The headroom of a model: the greatest percentage from 1 to 1,000 by which all greatest execution times may be scaled,
+/// where each is rounded down but no less than the least time, so that the model stays in range, no task is late and
+/// each requirement is met. Each smaller percentage keeps that too, and there is no headroom exactly where 1 percent
+/// doesn't.
+///
+/// The only error is `NoMemory`, where memory ran out; it leaves nothing. It analyses ten copies of the model or so.
+pub fn headroom<L: Ledger>(
+    alloc: Global,
+    model: &ValidModel,
+    steps: &mut Steps<L>,
+) -> Result<Option<u64>, NoMemory>
+    ensures greatest { IfOk result (IsHeadroom model.now) }
+    ensures smaller { IfOk result (SmallerKeep model.now) }
+    ensures none { IfOk result (λ percent. IsNone percent ↔ (Keeps model.now 1 → ⊥)) }
+{
+    greatest_kept(alloc, model.plain(), steps)
 }

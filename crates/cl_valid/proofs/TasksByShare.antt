@@ -10,7 +10,7 @@ use Rattle.cl_model.specs.declared.model.SystemModel.{SystemModel}
 use Rattle.cl_model.specs.declared.stimulus.StimulusKind.{StimulusKind}
 use Rattle.cl_model.specs.declared.task.TaskDef.{TaskDef}
 use Rattle.cl_model.specs.Named.{same_name, is_some_and, index_of, core_names, kind_named, tasks_on}
-use Rattle.cl_model.specs.NameSets.{AreApart}
+use Rattle.cl_model.specs.NameSets.{AreDistinctNames}
 use Rattle.cl_model.specs.Timing.{deadline_under}
 use Rattle.cl_model.specs.ValidTasks.{task_key, core_check, stimulus_check, priority_check, room_check, naming_checks, spans_too_many, is_outpaced_by, deadline_check}
 use Rattle.cl_model.specs.declared.place.Place.{Place}
@@ -30,7 +30,9 @@ pub no_shares : (model : SystemModel) (cores : ℕ) → cores ≡ length (core_n
 no_shares model cores same = splat_is_map (core_names model) cores [] (sym same)
 
 -- the shares of the core that a task names
-pub shares_at : (model : SystemModel) (tasks : List TaskDef) (name : List ℕ) (core : ℕ) (by_core : List (List Share)) (found : List Share) → by_core ≡ shares_by_core model tasks → index_of name (core_names model) ≡ Some core → found ≡ get_or by_core core [] → found ≡ shares_on model tasks name
+pub shares_at : (model : SystemModel) (tasks : List TaskDef) (name : List ℕ) (core : ℕ) (by_core : List (List Share)) (found : List Share)
+    → by_core ≡ shares_by_core model tasks → index_of name (core_names model) ≡ Some core
+    → found ≡ get_or by_core core [] → found ≡ shares_on model tasks name
 shares_at model tasks name core by_core found kept place is =
     let p = place_is name (core_names model) core place in
     is ∙ ap (λ g. get_or g core []) kept ∙ get_or-map (shares_on model tasks) (core_names model) core [] [] p.0 ∙ ap (shares_on model tasks) (sym p.1)
@@ -51,14 +53,19 @@ naming_is model i task kind found is known =
     rw (is, known, priority_is model earlier i task, room_is model earlier i) refl
 
 -- M42 over shares
-pub outpaced_is : (model : SystemModel) (tasks : List TaskDef) (task : TaskDef) (kind : StimulusKind) (found : List Share) → found ≡ map (share_of model) tasks → kind_named model task.stimulus ≡ Some kind → list_any (outpaces task.priority (deadline_under kind task)) found ≡ list_any (is_outpaced_by model task) tasks
+pub outpaced_is : (model : SystemModel) (tasks : List TaskDef) (task : TaskDef) (kind : StimulusKind) (found : List Share) → found ≡ map (share_of model) tasks
+    → kind_named model task.stimulus ≡ Some kind
+    → list_any (outpaces task.priority (deadline_under kind task)) found ≡ list_any (is_outpaced_by model task) tasks
 outpaced_is model tasks task kind found is known =
     ap (list_any (outpaces task.priority (deadline_under kind task))) is ∙ list_any-map (outpaces task.priority (deadline_under kind task)) (share_of model) tasks
     ∙ ap (λ o. list_any (λ other. nat_lt task.priority other.priority && is_some_and o (λ own. is_some_and (kind_named model other.stimulus) (spans_too_many (deadline_under own task)))) tasks) (sym known)
 
 -- M42 for a task, over the shares of its core
-pub deadline_is : (model : SystemModel) (i : ℕ) (task : TaskDef) (core : ℕ) (kind : StimulusKind) (by_core : List (List Share)) (found : List Share) (deadline : ℕ) (late : Bool) (place : Place) → by_core ≡ shares_by_core model model.tasks → index_of task.core (core_names model) ≡ Some core
-    → kind_named model task.stimulus ≡ Some kind → found ≡ get_or by_core core [] → deadline ≡ deadline_under kind task → late ≡ list_any (outpaces task.priority deadline) found → place ≡ task_key i key.Deadline → when late M42 place ≡ deadline_check model i task
+pub deadline_is : (model : SystemModel) (i : ℕ) (task : TaskDef) (core : ℕ) (kind : StimulusKind) (by_core : List (List Share)) (found : List Share) (deadline : ℕ) (late : Bool) (place : Place)
+    → by_core ≡ shares_by_core model model.tasks → index_of task.core (core_names model) ≡ Some core
+    → kind_named model task.stimulus ≡ Some kind → found ≡ get_or by_core core []
+    → deadline ≡ deadline_under kind task → late ≡ list_any (outpaces task.priority deadline) found
+    → place ≡ task_key i key.Deadline → when late M42 place ≡ deadline_check model i task
 deadline_is model i task core kind by_core found deadline late place kept at_core known is due tested here =
     let shares = shares_at model model.tasks task.core core by_core found kept at_core is in
     let test : late ≡ list_any (is_outpaced_by model task) (tasks_on task.core model.tasks) =
@@ -73,7 +80,9 @@ one_more model tasks i task core lt is =
     ∙ ap (λ t. tasks_on core (take i tasks) ++ cond (same_name core t.core) (t ∷ []) []) (sym is)
 
 -- the core that the task names has it too
-named_more : (model : SystemModel) (tasks : List TaskDef) (i : ℕ) (task : TaskDef) (core : List ℕ) → i < length tasks → task ≡ get_or tasks i task → same_name core task.core ≡ true → shares_on model (take (i + 1) tasks) core ≡ shares_on model (take i tasks) core ++ share_of model task ∷ []
+named_more : (model : SystemModel) (tasks : List TaskDef) (i : ℕ) (task : TaskDef) (core : List ℕ) → i < length tasks
+    → task ≡ get_or tasks i task → same_name core task.core ≡ true
+    → shares_on model (take (i + 1) tasks) core ≡ shares_on model (take i tasks) core ++ share_of model task ∷ []
 named_more model tasks i task core lt is same =
     ap (map (share_of model)) (one_more model tasks i task core lt is ∙ ap (λ b. tasks_on core (take i tasks) ++ cond b (task ∷ []) []) same) ∙ map-append (share_of model) (tasks_on core (take i tasks)) (task ∷ [])
 
@@ -103,7 +112,7 @@ put_at f f' names core lt others =
     ] refl)
 
 -- the shares of each core with one more task
-pub shares_more : (model : SystemModel) (tasks : List TaskDef) (i : ℕ) (task : TaskDef) (core : ℕ) (names : List (List ℕ)) (old new : List (List Share)) → AreApart names → i < length tasks → task ≡ get_or tasks i task → index_of task.core names ≡ Some core
+pub shares_more : (model : SystemModel) (tasks : List TaskDef) (i : ℕ) (task : TaskDef) (core : ℕ) (names : List (List ℕ)) (old new : List (List Share)) → AreDistinctNames names → i < length tasks → task ≡ get_or tasks i task → index_of task.core names ≡ Some core
     → old ≡ map (shares_on model (take i tasks)) names → new ≡ set old core (get_or old core [] ++ share_of model task ∷ []) → new ≡ map (shares_on model (take (i + 1) tasks)) names
 shares_more model tasks i task core names old new apart lt is place kept put =
     let p = place_is task.core names core place in

@@ -43,7 +43,9 @@ pub uses_of_more : (tasks : List TaskDef) (i : ℕ) (task : TaskDef) (old new : 
 uses_of_more tasks i task old new lt is kept added =
     added ∙ ap (λ o. o ++ uses_of task.runnables) kept ∙ sym (ap uses_of (flat_more (λ t. t.runnables) tasks i task lt is) ∙ map-append use_of (all_runnables (take i tasks)) task.runnables)
 
-pub labels_of_more : (tasks : List TaskDef) (i : ℕ) (task : TaskDef) (old new : List (List ℕ)) → i < length tasks → task ≡ get_or tasks i task → old ≡ labels_written (all_runnables (take i tasks)) → new ≡ old ++ labels_written task.runnables → new ≡ labels_written (all_runnables (take (i + 1) tasks))
+pub labels_of_more : (tasks : List TaskDef) (i : ℕ) (task : TaskDef) (old new : List (List ℕ)) → i < length tasks → task ≡ get_or tasks i task
+    → old ≡ labels_written (all_runnables (take i tasks)) → new ≡ old ++ labels_written task.runnables
+    → new ≡ labels_written (all_runnables (take (i + 1) tasks))
 labels_of_more tasks i task old new lt is kept added =
     added ∙ ap (λ o. o ++ labels_written task.runnables) kept ∙ sym (ap labels_written (flat_more (λ t. t.runnables) tasks i task lt is) ∙ flat_map-append (λ r. r.writes) (all_runnables (take i tasks)) task.runnables)
 
@@ -53,21 +55,27 @@ pub step_is : (known before written : List (List ℕ)) (place here : Place) (tas
 step_is known before written place here task runnables p runnable same so_far is = rw (so_far, is, same) refl
 
 -- the labels of one more runnable
-pub written_more : (before old new : List (List ℕ)) (runnables : List RunnableDef) (p : ℕ) (runnable : RunnableDef) (labels : List (List ℕ)) → old ≡ before ++ labels_written (take p runnables) → p < length runnables → runnable ≡ get_or runnables p runnable → labels ≡ runnable.writes → new ≡ old ++ labels
+pub written_more : (before old new : List (List ℕ)) (runnables : List RunnableDef) (p : ℕ) (runnable : RunnableDef) (labels : List (List ℕ))
+    → old ≡ before ++ labels_written (take p runnables) → p < length runnables → runnable ≡ get_or runnables p runnable → labels ≡ runnable.writes
+    → new ≡ old ++ labels
     → new ≡ before ++ labels_written (take (p + 1) runnables)
 written_more before old new runnables p runnable labels so_far lt is writes added =
     added ∙ ap (λ o. o ++ labels) so_far ∙ ap (λ l. (before ++ labels_written (take p runnables)) ++ l) writes
     ∙ append_assoc before (labels_written (take p runnables)) runnable.writes ∙ ap (λ l. before ++ l) (sym (flat_more (λ r. r.writes) runnables p runnable lt is))
 
 -- the accesses of one more runnable
-pub uses_more : (before old new : List LabelUse) (runnables : List RunnableDef) (p : ℕ) (runnable : RunnableDef) (label_use : LabelUse) → old ≡ before ++ uses_of (take p runnables) → p < length runnables → runnable ≡ get_or runnables p runnable → label_use ≡ use_of runnable → new ≡ old ++ label_use ∷ []
+pub uses_more : (before old new : List LabelUse) (runnables : List RunnableDef) (p : ℕ) (runnable : RunnableDef) (label_use : LabelUse)
+    → old ≡ before ++ uses_of (take p runnables) → p < length runnables → runnable ≡ get_or runnables p runnable → label_use ≡ use_of runnable
+    → new ≡ old ++ label_use ∷ []
     → new ≡ before ++ uses_of (take (p + 1) runnables)
 uses_more before old new runnables p runnable label_use so_far lt is same added =
     added ∙ ap (λ o. o ++ label_use ∷ []) so_far ∙ ap (λ a. (before ++ uses_of (take p runnables)) ++ a ∷ []) (same ∙ ap use_of is)
     ∙ append_assoc before (uses_of (take p runnables)) (use_of (get_or runnables p runnable) ∷ []) ∙ ap (λ l. before ++ l) (sym (map_more use_of runnables p runnable lt))
 
 -- what is counted of the runnables up to task i
-pub count_is : (model : SystemModel) (i : ℕ) (task : TaskDef) (n : ℕ) (old new : List LabelUse) (place : Place) → i < length model.tasks → task ≡ get_or model.tasks i task → old ≡ uses_of (all_runnables (take i model.tasks)) → new ≡ old ++ uses_of task.runnables → n ≡ length new → place ≡ entry_of part.Task i
+pub count_is : (model : SystemModel) (i : ℕ) (task : TaskDef) (n : ℕ) (old new : List LabelUse) (place : Place) → i < length model.tasks
+    → task ≡ get_or model.tasks i task → old ≡ uses_of (all_runnables (take i model.tasks)) → new ≡ old ++ uses_of task.runnables → n ≡ length new
+    → place ≡ entry_of part.Task i
     → when (nat_lt MOST_RUNNABLES_OF_MODEL n) M41 place ≡ count_check model i
 count_is model i task n old new place lt is kept added counted here =
     let all : new ≡ uses_of (all_runnables (take (i + 1) model.tasks)) = uses_of_more model.tasks i task old new lt is kept added in

@@ -3,7 +3,7 @@ ghost use Rattle.std.specs.Prelude.{◌≡◌, ◌<◌, ◌^◌, ◌+◌, ◌==�
 ghost use Rattle.std.specs.List.{list_any};
 ghost use Rattle.cl_model.specs.Answers.{Answers, Passes};
 ghost use Rattle.cl_model.specs.Named.{index_of, core_names, stimulus_names, kind_named};
-ghost use Rattle.cl_model.specs.NameSets.{AreApart};
+ghost use Rattle.cl_model.specs.NameSets.{AreDistinctNames};
 ghost use Rattle.cl_model.specs.Ranges.{IsInRange};
 ghost use Rattle.cl_model.specs.ValidTasks.{task_key, core_check, stimulus_check, late_check, release_check, room_check, empty_check, naming_checks, task_check, task_checks};
 ghost use Rattle.cl_valid.specs.Inner.TasksByShare.{share_priority_check, share_checks};
@@ -174,7 +174,7 @@ fn check_task(
     requires in_range { IsInRange model.now }
     requires task { slice_get model.now.tasks i ≡ Some task.now }
     requires names { names.now ≡ names_of model.now }
-    requires apart { AreApart (core_names model.now) }
+    requires apart { AreDistinctNames (core_names model.now) }
     requires kept { kept.old ≡ kept_of model.now (take i model.now.tasks) }
     ensures checked { Answers result (task_check model.now i task.now) tt }
     ensures kept { OnOk result (kept.new ≡ kept_of model.now (take (i + 1) model.now.tasks)) }
@@ -196,7 +196,7 @@ pub fn kept_tasks(
 ) -> Result<TasksSoFar, ModelFault>
     requires in_range { IsInRange model.now }
     requires names { names.now ≡ names_of model.now }
-    requires apart { AreApart (core_names model.now) }
+    requires apart { AreDistinctNames (core_names model.now) }
     ensures { Answers result (task_checks model.now) (kept_of model.now model.now.tasks) }
 {
     let mut kept = TasksSoFar {

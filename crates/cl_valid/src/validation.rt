@@ -2,7 +2,7 @@
 ghost use Rattle.std.specs.Prelude.{◌≡◌, ◌↔◌, IfOk, IfErr, OnOk, IsOk, None, Some, []};
 ghost use Rattle.cl_model.specs.Answers.{Answers, IsFaultOf};
 ghost use Rattle.cl_model.specs.Named.{core_names};
-ghost use Rattle.cl_model.specs.NameSets.{AreApart};
+ghost use Rattle.cl_model.specs.NameSets.{AreDistinctNames};
 ghost use Rattle.cl_model.specs.Ranges.{IsInRange};
 ghost use Rattle.cl_model.specs.ValidTasks.{task_checks};
 ghost use Rattle.cl_model.specs.Validity.{IsValid, refusals_of, refusal_of};
@@ -35,7 +35,7 @@ fn check_links(model: &SystemModel, names: &Names, kept: &TasksSoFar) -> Result<
 /// Checks M27 to M47, after the names.
 fn check_parts(alloc: Global, model: &SystemModel, names: &Names) -> Result<(), ModelFault>
     requires in_range { IsInRange model.now }
-    requires apart { AreApart (core_names model.now) }
+    requires apart { AreDistinctNames (core_names model.now) }
     requires names { names.now ≡ names_of model.now }
     ensures { Answers result (part_checks model.now) tt }
 {

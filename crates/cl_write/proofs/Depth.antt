@@ -13,8 +13,8 @@ use Rattle.cl_model.specs.Place.{key_text}
 use Rattle.cl_model.specs.declared.model.SystemModel.{SystemModel}
 use Rattle.cl_model.specs.declared.stimulus.StimulusKind.{StimulusKind}
 use Rattle.cl_model.specs.declared.stimulus.StimulusKind.TheVariants.{Periodic, Sporadic, Burst}
-use Rattle.cl_write.specs.Entries.{Entry, with_member, with_entry, with_entries, members_with, number, number_if, unless_empty, unless_zero, when_true, names, tables}
-use Rattle.cl_write.specs.Writing.{core_entries, label_entries, kind_entries, stimulus_entries, runnable_entries, task_entries, chain_entries, requirement_entries, model_entries, document}
+use Rattle.cl_write.specs.Entries.{Entry, with_member, with_entry, with_entries, members_with, number, number_data_if, unless_empty, unless_zero, when_true, names_data, tables}
+use Rattle.cl_write.specs.Writing.{core_table_entries, label_entries, kind_entries, stimulus_entries, runnable_entries, task_entries, chain_entries, requirement_entries, model_entries, document}
 
 parts : (a b n : ℕ) → max a b ≤ n → (a ≤ n) × (b ≤ n)
 parts a b n h = (omega (arith, h), omega (arith, h))
@@ -64,7 +64,7 @@ tables_within : {X : Type 0} (entries : X → List Entry) (n : ℕ) → ((x : X)
 tables_within entries n each xs =
     array_within (λ x. table (members_with (entries x))) (suc n) (λ x. let all = entries_within n (entries x) no_members (each x) (omega arith) in omega (arith, all)) xs
 
-names_within : (words : List (List ℕ)) → Within 1 (names words)
+names_within : (words : List (List ℕ)) → Within 1 (names_data words)
 names_within words = array_within string 0 (λ word. omega arith) words
 
 zero_within : (n : ℕ) → Within 1 (unless_zero n)
@@ -74,7 +74,7 @@ zero_within n = by_test (n == 0)
     by_test true = tt
     by_test false = omega arith
 
-number_within : (n : Option ℕ) → Within 3 (number_if n)
+number_within : (n : Option ℕ) → Within 3 (number_data_if n)
 number_within None = tt
 number_within (Some n) = omega arith
 
@@ -108,7 +108,7 @@ model_within m = (
   (
     omega arith,
     (
-      deeper _ (tables_within core_entries 1 (λ core. (omega arith, tt)) m.cores),
+      deeper _ (tables_within core_table_entries 1 (λ core. (omega arith, tt)) m.cores),
       (
         deeper _ (tables_within stimulus_entries 1 (λ stimulus. (omega arith, kind_within stimulus.kind)) m.stimuli),
         (

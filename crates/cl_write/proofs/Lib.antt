@@ -4,7 +4,6 @@ pub mod ReadTables
 pub mod ReadBack
 pub mod Depth
 pub mod Inserted
-pub mod Texts
 pub mod NameTexts
 pub mod PlainData
 pub mod PlainModel

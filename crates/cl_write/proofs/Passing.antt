@@ -15,9 +15,9 @@ use Rattle.cl_model.specs.Name.{IsName}
 use Rattle.cl_model.specs.Place.{at_key}
 use Rattle.cl_model.specs.Refusals.{unless, in_order, each_from}
 use Rattle.cl_model.specs.Reading.Checks.{Check, a_name, a_number, a_boolean, an_array, found_or, members_of, fields_checks, field_checks, Field, keys_of, has_only}
-use Rattle.cl_model.specs.Reading.Meanings.{number_of, boolean_of, list_of}
-use Rattle.cl_model.proofs.NoRefusals.{AllNone}
-use Rattle.cl_write.specs.Entries.{Entry, number, number_if, unless_zero, when_true, unless_empty, members_with}
+use Rattle.cl_model.specs.Reading.Meanings.{number_in, boolean_of, list_of}
+use Rattle.cl_model.proofs.NoRefusals.{AllNone, none_in_order}
+use Rattle.cl_write.specs.Entries.{Entry, number, number_data_if, unless_zero, when_true, unless_empty, members_with}
 use Rattle.cl_write.proofs.Found.{entry_at, are_apart, has_keys_among, found, only}
 
 -- ---- single values
@@ -29,11 +29,11 @@ pub number_passes : (low high : ℕ) (place : Place) (n : ℕ) → low ≤ n →
 number_passes low high place n least most = rw (le-leb low n least, le-leb n high most) refl
 
 -- a number that is left out where none is given
-pub number_if_passes : (low high : ℕ) (place : Place) (n : Option ℕ) → IfSome n (λ n. (low ≤ n) × (n ≤ high)) → found_or [] (a_number low high place) (number_if n) ≡ []
+pub number_if_passes : (low high : ℕ) (place : Place) (n : Option ℕ) → IfSome n (λ n. (low ≤ n) × (n ≤ high)) → found_or [] (a_number low high place) (number_data_if n) ≡ []
 number_if_passes low high place None within = refl
 number_if_passes low high place (Some n) within = number_passes low high place n within.0 within.1
 
-pub number_if_means : (n : Option ℕ) → found_or None (λ d. Some (number_of d)) (number_if n) ≡ n
+pub number_if_means : (n : Option ℕ) → found_or None (λ d. Some (number_in d)) (number_data_if n) ≡ n
 number_if_means None = refl
 number_if_means (Some n) = refl
 
@@ -45,7 +45,7 @@ unless_zero_passes high place n most = by_test (n == 0)
     by_test true = refl
     by_test false = number_passes 0 high place n (omega arith) most
 
-pub unless_zero_means : (n : ℕ) → found_or 0 number_of (unless_zero n) ≡ n
+pub unless_zero_means : (n : ℕ) → found_or 0 number_in (unless_zero n) ≡ n
 unless_zero_means n = grind (arith, nat_tests)
 
 -- `true`, where it is
@@ -86,10 +86,6 @@ module _ {X : Type 0} (written : X → Data) where
       all_mean (y ∷ ys) = rw (means y, all_mean ys) refl
 
 -- ---- tables
-
-pub none_in_order : (lists : List (List Refusal)) → AllNone lists → in_order lists ≡ []
-none_in_order [] none = refl
-none_in_order (refusals ∷ lists) none = rw (none.0) (none_in_order lists none.1)
 
 -- what the entries hold at a key passes the checks of the field
 abbrev pub FieldPasses : Place → List Entry → Field → Type 0

@@ -1,5 +1,5 @@
 -- Plain data: names, numbers of a model, booleans, and arrays and tables of these. A text is written of it.
-use Rattle.std.proofs.Common.{◌≡◌, ℕ, ℤ, pos, negsuc, zero, suc, ◌≤◌, ◌<◌, Bool, true, false, cond, ◌&&◌, List, [], ◌∷◌, ◌++◌, refl, sym, subst, ◌∙◌, arith}
+use Rattle.std.proofs.Common.{◌≡◌, ℕ, ℤ, pos, negsuc, zero, suc, ◌≤◌, ◌<◌, Bool, true, false, cond, List, [], ◌∷◌, ◌++◌, refl, sym, subst, ◌∙◌, arith}
 use Rattle.std.specs.Prelude.{codes, decimal}
 use Rattle.std.specs.List.{AllByRecursion}
 use Rattle.std.specs.Str.{IsAscii}
@@ -12,10 +12,12 @@ use Rattle.toml_parser.specs.Strings.{Key}
 use Rattle.toml_writer.specs.Text.{string_text, key_text, path_text, dotted_text}
 use Rattle.toml.specs.Data.{Data, string, integer, float, boolean, datetime, array, table, Items, no_items, item, Members, no_members, member, is_before, has_valid_dates, items_have_valid_dates, members_have_valid_dates, is_sorted, items_are_sorted, members_are_sorted}
 use Rattle.toml.specs.Tables.{Definition, key_value, std_table, array_table, Expression}
-use Rattle.toml.specs.Text.{IsValueText, IsItemsText, IsMembersText, breaks_lines, before_item, after_item, array_end, before_member, table_end, is_section, are_tables, needs_header, pairs, header_of, sections, section, elements, expressions, gap, header_open, header_close, IsLineText, IsLinesText, IsDocumentText}
+use Rattle.toml.specs.Text.{IsValueText, IsItemsText, IsMembersText, breaks_lines, before_item, after_item, array_end, before_member, table_end, is_section, are_tables, needs_header, pairs, header_of}
+use Rattle.toml.specs.Text.{sections, section, elements, expressions, gap, header_open, header_close, IsLineText, IsLinesText, IsDocumentText}
 use Rattle.toml.proofs.Lines.{path_text-last}
 use Rattle.cl_model.specs.declared.limits.TheConstants.{MOST_REQUIRED}
 use Rattle.cl_model.specs.Name.{IsName}
+use Rattle.cl_model.proofs.ListFacts.{both_true}
 use Rattle.cl_write.proofs.NameTexts.{name_is_ascii}
 
 -- a number of a model
@@ -43,9 +45,6 @@ abbrev mutual
 
 -- ---- it has no dates, and its keys ascend
 
-both : (a b : Bool) → a ≡ true → b ≡ true → (a && b) ≡ true
-both a b one other = rw (one, other) refl
-
 mutual
   dates : (d : Data) → IsPlain d → has_valid_dates d ≡ true
   dates (string s) plain = refl
@@ -58,11 +57,11 @@ mutual
 
   items_dates : (ds : Items) → ArePlainItems ds → items_have_valid_dates ds ≡ true
   items_dates no_items plain = refl
-  items_dates (item d ds) plain = both _ _ (dates d plain.0) (items_dates ds plain.1)
+  items_dates (item d ds) plain = both_true _ _ (dates d plain.0) (items_dates ds plain.1)
 
   pub members_dates : (ms : Members) → ArePlain ms → members_have_valid_dates ms ≡ true
   members_dates no_members plain = refl
-  members_dates (member k d ms) plain = both _ _ (dates d plain.2) (members_dates ms plain.3)
+  members_dates (member k d ms) plain = both_true _ _ (dates d plain.2) (members_dates ms plain.3)
 
 mutual
   sorted : (d : Data) → IsPlain d → is_sorted d ≡ true
@@ -76,11 +75,11 @@ mutual
 
   items_sorted : (ds : Items) → ArePlainItems ds → items_are_sorted ds ≡ true
   items_sorted no_items plain = refl
-  items_sorted (item d ds) plain = both _ _ (sorted d plain.0) (items_sorted ds plain.1)
+  items_sorted (item d ds) plain = both_true _ _ (sorted d plain.0) (items_sorted ds plain.1)
 
   pub members_sorted : (ms : Members) → ArePlain ms → members_are_sorted ms ≡ true
   members_sorted no_members plain = refl
-  members_sorted (member k d ms) plain = both _ _ (both _ _ plain.1 (sorted d plain.2)) (members_sorted ms plain.3)
+  members_sorted (member k d ms) plain = both_true _ _ (both_true _ _ plain.1 (sorted d plain.2)) (members_sorted ms plain.3)
 
 -- ---- values
 

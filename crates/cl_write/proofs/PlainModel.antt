@@ -1,4 +1,4 @@
--- The document of a model in range whose names are names is plain.
+-- The document of a model in range whose names_data are names_data is plain.
 use Rattle.std.proofs.Common.{◌≡◌, ℕ, ◌≤◌, Bool, true, false, cond, List, [], ◌∷◌, map, get_or, All, Option, Some, None, Ordering, Less, Equal, Greater, refl, sym, ap, ◌∙◌, zero, suc, arith}
 use Rattle.std.specs.Prelude.{IfSome, ◌==◌, nat_lt}
 use Rattle.std.specs.List.{AllByRecursion, list_all}
@@ -30,8 +30,9 @@ use Rattle.cl_model.specs.AreNamed.{IsRunnableNamed, IsTaskNamed, IsChainNamed, 
 use Rattle.cl_model.specs.Name.{IsName}
 use Rattle.cl_model.specs.Place.{key_text}
 use Rattle.cl_model.specs.Ranges.{IsTime, IsKindInRange, IsRunnableInRange, IsTaskInRange, IsInRange}
-use Rattle.cl_write.specs.Entries.{Entry, with_member, with_entry, with_entries, members_with, number, number_if, unless_zero, when_true, unless_empty, names, tables}
-use Rattle.cl_write.specs.Writing.{access_word, length_word, core_entries, label_entries, kind_entries, stimulus_entries, runnable_entries, task_entries, chain_entries, requirement_entries, model_entries, document}
+use Rattle.cl_model.specs.Kinds.{access_word}
+use Rattle.cl_write.specs.Entries.{Entry, with_member, with_entry, with_entries, members_with, number, number_data_if, unless_zero, when_true, unless_empty, names_data, tables}
+use Rattle.cl_write.specs.Writing.{length_word, core_table_entries, label_entries, kind_entries, stimulus_entries, runnable_entries, task_entries, chain_entries, requirement_entries, model_entries, document}
 use Rattle.cl_write.proofs.PlainData.{IsPlain, ArePlainItems, ArePlain}
 
 -- ---- keys are ASCII
@@ -119,7 +120,7 @@ entries_plain (entry ∷ entries) ms each all = entries_plain entries (with_entr
 
 -- ---- values
 
-number_if_plain : (n : Option ℕ) → IfSome n (λ n. n ≤ MOST_REQUIRED) → IsPlainValue (number_if n)
+number_if_plain : (n : Option ℕ) → IfSome n (λ n. n ≤ MOST_REQUIRED) → IsPlainValue (number_data_if n)
 number_if_plain None within = tt
 number_if_plain (Some n) within = within
 
@@ -142,7 +143,7 @@ array_plain : {X : Type 0} (f : X → Data) (xs : List X) → All (λ x. IsPlain
 array_plain f [] all = tt
 array_plain f (x ∷ xs) all = items_plain f (x ∷ xs) (recursion_from_All (λ x. IsPlain (f x)) (x ∷ xs) all)
 
-names_plain : (words : List (List ℕ)) → All IsName words → IsPlainValue (names words)
+names_plain : (words : List (List ℕ)) → All IsName words → IsPlainValue (names_data words)
 names_plain words all = array_plain string words all
 
 tables_plain : {X : Type 0} (entries : X → List Entry) (xs : List X) → All (λ x. ArePlainEntries (entries x)) xs → IsPlainValue (tables entries xs)
@@ -209,7 +210,7 @@ document_is_plain m in_range named = entries_plain (model_entries m) no_members 
   (
     omega arith,
     (
-      tables_plain core_entries m.cores (λ k d lt. (named.cores k d lt, tt)),
+      tables_plain core_table_entries m.cores (λ k d lt. (named.cores k d lt, tt)),
       (
         tables_plain stimulus_entries m.stimuli (λ k d lt. (named.stimuli k d lt, kind_plain (get_or m.stimuli k d).kind (in_range.stimuli k d lt))),
         (

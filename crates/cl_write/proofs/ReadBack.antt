@@ -14,15 +14,15 @@ use Rattle.cl_model.specs.Place.{section_place, at_item}
 use Rattle.cl_model.specs.Ranges.{IsInRange}
 use Rattle.cl_model.specs.Reading.{sections, section_checks, top_keys, model_checks, model_meaning, model_in, document_of, model_of, version_of}
 use Rattle.cl_model.specs.Reading.Checks.{an_array, a_table, found_or, value_at}
-use Rattle.cl_model.specs.Reading.Meanings.{list_of, table_of, number_of}
+use Rattle.cl_model.specs.Reading.Meanings.{list_of, table_of, number_in}
 use Rattle.cl_model.specs.Reading.Tables.{core_meaning, stimulus_meaning, label_meaning, task_meaning, chain_meaning, requirement_meaning, core_fields, stimulus_entry_checks, label_fields, task_fields, chain_fields, requirement_fields}
 use Rattle.cl_model.specs.Reading.Checks.{fields_checks}
 use Rattle.cl_model.specs.Refusals.{answer}
-use Rattle.cl_model.proofs.NoRefusals.{AllNone}
+use Rattle.cl_model.proofs.NoRefusals.{AllNone, none_in_order}
 use Rattle.cl_write.specs.Entries.{Entry, tables, with_entries, members_with}
-use Rattle.cl_write.specs.Writing.{core_entries, label_entries, stimulus_entries, task_entries, chain_entries, requirement_entries, model_entries, document}
+use Rattle.cl_write.specs.Writing.{core_table_entries, label_entries, stimulus_entries, task_entries, chain_entries, requirement_entries, model_entries, document}
 use Rattle.cl_write.proofs.Found.{entry_at, found, only}
-use Rattle.cl_write.proofs.Passing.{unless_empty_passes, unless_empty_means, none_in_order}
+use Rattle.cl_write.proofs.Passing.{unless_empty_passes, unless_empty_means}
 use Rattle.cl_write.proofs.ReadTables.{core_passes, core_means, label_passes, label_means, stimulus_passes, stimulus_means, task_passes, task_means, chain_passes, chain_means, requirement_passes, requirement_means}
 
 -- what stands at a key of the document
@@ -42,7 +42,7 @@ section_means entries meaning means xs = unless_empty_means (λ x. table (member
 module _ (model : SystemModel) (in_range : IsInRange model) (named : AreNamed model) where
   sections_pass : AllNone (map (section_checks 2 (members_with (model_entries model))) sections)
   sections_pass = (
-    rw (at model key.Core) (section_passes core_entries MOST_CORES (fields_checks core_fields) part.Core model.cores in_range.counts.cores
+    rw (at model key.Core) (section_passes core_table_entries MOST_CORES (fields_checks core_fields) part.Core model.cores in_range.counts.cores
         (λ k d lt. core_passes (get_or model.cores k d) (named.cores k d lt))),
     (
       rw (at model key.Stimulus) (section_passes stimulus_entries MOST_STIMULI (stimulus_entry_checks 2) part.Stimulus model.stimuli in_range.counts.stimuli
@@ -84,7 +84,7 @@ document_means model =
       at model key.Task,
       at model key.Chain,
       at model key.Requirement,
-      section_means core_entries core_meaning core_means model.cores,
+      section_means core_table_entries core_meaning core_means model.cores,
       section_means stimulus_entries (stimulus_meaning 2) stimulus_means model.stimuli,
       section_means label_entries label_meaning label_means model.labels,
       section_means task_entries task_meaning task_means model.tasks,
@@ -101,7 +101,7 @@ reads_as_model bytes model in_range named is =
 -- and their version is 2
 pub reads_as_version : (bytes : List ℕ) (model : SystemModel) → document_of bytes ≡ Some (document model) → version_of bytes ≡ 2
 unfolding version_of document
-reads_as_version bytes model is = rw is (ap (λ v. found_or 0 number_of v) (at model key.Version))
+reads_as_version bytes model is = rw is (ap (λ v. found_or 0 number_in v) (at model key.Version))
 
 -- entries put into no members make the document
 pub made : (model : SystemModel) (before after : Members) → before ≡ no_members → after ≡ with_entries (model_entries model) before → after ≡ document model

@@ -25,21 +25,25 @@ use Rattle.cl_model.specs.Name.{IsName}
 use Rattle.cl_model.specs.Place.{at_key, at_sub, at_spot}
 use Rattle.cl_model.specs.Ranges.{IsKindInRange, IsRunnableInRange, IsTaskInRange, IsChainInRange}
 use Rattle.cl_model.specs.Reading.Checks.{a_name, a_word, a_table_of, field_checks, fields_checks, keys_of, found_or, meaning_of, names, value_at}
-use Rattle.cl_model.specs.Reading.Meanings.{text_of, list_of, table_of, word_if}
-use Rattle.cl_model.specs.Reading.Tables.{core_fields, core_meaning, label_fields, label_meaning, StimulusForm, periodic_form, sporadic_form, burst_form, stimulus_forms, stimulus_fields, form_checks, stimulus_entry_checks, stimulus_meaning, runnable_fields, runnables, runnable_meaning, access_words, task_fields, task_meaning, chain_fields, chain_meaning, length_words, requirement_fields, requirement_meaning}
+use Rattle.cl_model.specs.Reading.Meanings.{text_in, list_of, table_of, word_if}
+use Rattle.cl_model.specs.Reading.Tables.{core_fields, core_meaning, label_fields, label_meaning, StimulusForm, periodic_form, sporadic_form, burst_form, stimulus_forms, stimulus_fields, form_checks}
+use Rattle.cl_model.specs.Reading.Tables.{stimulus_entry_checks, stimulus_meaning, runnable_fields, runnables, runnable_meaning, access_words, task_fields, task_meaning, chain_fields, chain_meaning}
+use Rattle.cl_model.specs.Reading.Tables.{length_words, requirement_fields, requirement_meaning}
+use Rattle.cl_model.specs.Kinds.{access_word}
+use Rattle.cl_model.proofs.NoRefusals.{none_in_order}
 use Rattle.cl_write.specs.Entries.{Entry, members_with}
 use Rattle.cl_write.specs.Entries as entries
-use Rattle.cl_write.specs.Writing.{access_word, length_word, core_entries, label_entries, stimulus_entries, runnable_entries, task_entries, chain_entries, requirement_entries}
+use Rattle.cl_write.specs.Writing.{length_word, core_table_entries, label_entries, stimulus_entries, runnable_entries, task_entries, chain_entries, requirement_entries}
 use Rattle.cl_write.proofs.Found.{entry_at, are_apart, has_keys_among, found}
-use Rattle.cl_write.proofs.Passing.{name_passes, number_passes, number_if_passes, number_if_means, unless_zero_passes, unless_zero_means, when_true_passes, when_true_means, unless_empty_passes, unless_empty_means, none_in_order, FieldPasses, fields_pass, checks_pass, table_passes}
+use Rattle.cl_write.proofs.Passing.{name_passes, number_passes, number_if_passes, number_if_means, unless_zero_passes, unless_zero_means, when_true_passes, when_true_means, unless_empty_passes, unless_empty_means, FieldPasses, fields_pass, checks_pass, table_passes}
 
 -- ---- cores and labels
 
-pub core_passes : (core : CoreDef) → IsName core.name → (place : Place) → fields_checks core_fields place (members_with (core_entries core)) ≡ []
-core_passes core named place = table_passes place (core_entries core) refl core_fields refl (name_passes (at_key key.Name place) core.name named, tt)
+pub core_passes : (core : CoreDef) → IsName core.name → (place : Place) → fields_checks core_fields place (members_with (core_table_entries core)) ≡ []
+core_passes core named place = table_passes place (core_table_entries core) refl core_fields refl (name_passes (at_key key.Name place) core.name named, tt)
 
-pub core_means : (core : CoreDef) → core_meaning (members_with (core_entries core)) ≡ core
-core_means core = rw (found key.Name (core_entries core) refl) refl
+pub core_means : (core : CoreDef) → core_meaning (members_with (core_table_entries core)) ≡ core
+core_means core = rw (found key.Name (core_table_entries core) refl) refl
 
 pub label_passes : (label : LabelDef) → IsName label.name → (place : Place) → fields_checks label_fields place (members_with (label_entries label)) ≡ []
 label_passes label named place = table_passes place (label_entries label) refl label_fields refl (name_passes (at_key key.Name place) label.name named, tt)
@@ -51,7 +55,7 @@ label_means label = rw (found key.Name (label_entries label) refl) refl
 
 -- what the word at `kind` stands for
 abbrev form_named : List Entry → Option StimulusForm
-form_named entries = found_or None (λ d. meaning_of (stimulus_forms 2) (text_of d)) (entry_at key.Kind entries)
+form_named entries = found_or None (λ d. meaning_of (stimulus_forms 2) (text_in d)) (entry_at key.Kind entries)
 
 -- a table of the keys of a stimulus and those of its kind
 stimulus_with : (place : Place) (entries : List Entry) (form : StimulusForm) → are_apart entries ≡ true → form_named entries ≡ Some form
@@ -60,7 +64,7 @@ stimulus_with : (place : Place) (entries : List Entry) (form : StimulusForm) →
 unfolding stimulus_entry_checks
 stimulus_with place entries form apart is both among own =
     let named : word_if (stimulus_forms 2) key.Kind (members_with entries) ≡ Some form =
-    ap (λ v. found_or None (λ d. meaning_of (stimulus_forms 2) (text_of d)) v) (found key.Kind entries apart) ∙ is in
+    ap (λ v. found_or None (λ d. meaning_of (stimulus_forms 2) (text_in d)) v) (found key.Kind entries apart) ∙ is in
     let checks = fields_pass place entries apart (stimulus_fields 2) both in
     let kind : form_checks place (members_with entries) (word_if (stimulus_forms 2) key.Kind (members_with entries)) ≡ [] =
     rw named (checks_pass place entries apart (key.Name ∷ key.Kind ∷ keys_of form.fields) form.fields among own) in
@@ -130,11 +134,11 @@ stimulus_means s = stimulus_kind_means s.name s.kind
 
 -- ---- arrays of names
 
-names_pass : (limit : ℕ) (place : Place) (words : List (List ℕ)) → length words ≤ limit → All IsName words → found_or [] (names limit place) (entries.names words) ≡ []
+names_pass : (limit : ℕ) (place : Place) (words : List (List ℕ)) → length words ≤ limit → All IsName words → found_or [] (names limit place) (entries.names_data words) ≡ []
 names_pass limit place words short named = unless_empty_passes string limit at_spot a_name place words short (λ k d lt there. name_passes there (get_or words k d) (named k d lt))
 
-names_mean : (words : List (List ℕ)) → found_or [] (λ d. map text_of (list_of d)) (entries.names words) ≡ words
-names_mean words = unless_empty_means string text_of (λ word. refl) words
+names_mean : (words : List (List ℕ)) → found_or [] (λ d. map text_in (list_of d)) (entries.names_data words) ≡ words
+names_mean words = unless_empty_means string text_in (λ word. refl) words
 
 -- ---- runnables
 

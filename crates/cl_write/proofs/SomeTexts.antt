@@ -6,13 +6,13 @@ use Rattle.cl_model.specs.declared.model.SystemModel.{SystemModel}
 use Rattle.cl_model.specs.AreNamed.{AreNamed}
 use Rattle.cl_model.specs.Ranges.{IsInRange}
 use Rattle.cl_model.specs.Reading.{document_of}
+use Rattle.cl_model.proofs.DocumentTexts.{document_of-text}
 use Rattle.cl_write.specs.Texts.{IsTextOf}
 use Rattle.cl_write.specs.Writing.{document}
 use Rattle.cl_write.proofs.Depth.{document_is_shallow}
 use Rattle.cl_write.proofs.PlainData.{document_text, members_dates, members_sorted}
 use Rattle.cl_write.proofs.PlainModel.{document_is_plain}
 use Rattle.cl_write.proofs.ReadBack.{reads_as_model, reads_as_version}
-use Rattle.cl_write.proofs.Texts.{document_of-text}
 
 -- a text of the document is a text of the model
 pub text_of_document : (text : List ℕ) (model : SystemModel) → IsInRange model → AreNamed model → document_of text ≡ Some (document model) → IsTextOf model text

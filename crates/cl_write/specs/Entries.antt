@@ -38,9 +38,9 @@ abbrev pub number : ℕ → Data
 number n = integer (pos n)
 
 -- a number, where one is given
-abbrev pub number_if : Option ℕ → Option Data
-number_if None = None
-number_if (Some n) = Some (number n)
+abbrev pub number_data_if : Option ℕ → Option Data
+number_data_if None = None
+number_data_if (Some n) = Some (number n)
 
 -- a number that isn't 0
 abbrev pub unless_zero : ℕ → Option Data
@@ -55,9 +55,9 @@ abbrev pub unless_empty : {X : Type 0} → (X → Data) → List X → Option Da
 unless_empty written [] = None
 unless_empty written (x ∷ xs) = Some (array (items_of (map written (x ∷ xs))))
 
--- the array of these names, if there is one
-abbrev pub names : List (List ℕ) → Option Data
-names words = unless_empty string words
+-- the array of these names_data, if there is one
+abbrev pub names_data : List (List ℕ) → Option Data
+names_data words = unless_empty string words
 
 -- the array of the tables of these entries, if there is an item
 abbrev pub tables : {X : Type 0} → (X → List Entry) → List X → Option Data

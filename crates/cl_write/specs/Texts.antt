@@ -1,5 +1,4 @@
 -- A text of a model.
--- Source: this project's profile.
 use Rattle.std.specs.Prelude.{◌≡◌, ℕ, List, Ok}
 use Rattle.cl_model.specs.declared.model.SystemModel.{SystemModel}
 use Rattle.cl_model.specs.Reading.{model_of, version_of}

@@ -1,6 +1,5 @@
 -- The document that is written of a model, of version 2. Keys whose value is the default are left out: an offset and a
 -- jitter of 0, `whole` where it is false, a deadline that isn't given, empty lists and empty sections.
--- Source: this project's profile.
 use Rattle.std.specs.Prelude.{ℕ, List, [], ◌∷◌, Some, codes}
 use Rattle.toml.specs.Data.{string, Members}
 use Rattle.cl_model.specs.declared.chain.ChainDef.{ChainDef}
@@ -18,15 +17,10 @@ use Rattle.cl_model.specs.declared.task.AccessKind.{AccessKind}
 use Rattle.cl_model.specs.declared.task.AccessKind.TheVariants.{Explicit, Implicit, Timed}
 use Rattle.cl_model.specs.declared.task.RunnableDef.{RunnableDef}
 use Rattle.cl_model.specs.declared.task.TaskDef.{TaskDef}
-use Rattle.cl_write.specs.Entries.{Entry, number, number_if, unless_zero, when_true, names, tables, members_with}
+use Rattle.cl_model.specs.Kinds.{access_word}
+use Rattle.cl_write.specs.Entries.{Entry, number, number_data_if, unless_zero, when_true, names_data, tables, members_with}
 
 -- ---- words
-
--- the word of a kind of access
-abbrev pub access_word : AccessKind → List ℕ
-access_word Explicit = codes "explicit"
-access_word Implicit = codes "implicit"
-access_word Timed = codes "timed"
 
 -- the word of a kind of length
 abbrev pub length_word : LengthKind → List ℕ
@@ -36,8 +30,8 @@ length_word Reduced = codes "reduced"
 
 -- ---- tables
 
-abbrev pub core_entries : CoreDef → List Entry
-core_entries core = (key.Name, Some (string core.name)) ∷ []
+abbrev pub core_table_entries : CoreDef → List Entry
+core_table_entries core = (key.Name, Some (string core.name)) ∷ []
 
 abbrev pub label_entries : LabelDef → List Entry
 label_entries label = (key.Name, Some (string label.name)) ∷ []
@@ -72,8 +66,8 @@ runnable_entries runnable =
     ∷ (key.Least, Some (number runnable.least))
     ∷ (key.Greatest, Some (number runnable.greatest))
     ∷ (key.Whole, when_true runnable.whole)
-    ∷ (key.Reads, names runnable.reads)
-    ∷ (key.Writes, names runnable.writes)
+    ∷ (key.Reads, names_data runnable.reads)
+    ∷ (key.Writes, names_data runnable.writes)
     ∷ []
 
 abbrev pub task_entries : TaskDef → List Entry
@@ -83,15 +77,15 @@ task_entries task =
     ∷ (key.Stimulus, Some (string task.stimulus))
     ∷ (key.Priority, Some (number task.priority))
     ∷ (key.Access, Some (string (access_word task.access)))
-    ∷ (key.Deadline, number_if task.deadline)
+    ∷ (key.Deadline, number_data_if task.deadline)
     ∷ (key.Runnable, tables runnable_entries task.runnables)
     ∷ []
 
 abbrev pub chain_entries : ChainDef → List Entry
 chain_entries chain =
     (key.Name, Some (string chain.name))
-    ∷ (key.Runnables, names chain.runnables)
-    ∷ (key.Labels, names chain.labels)
+    ∷ (key.Runnables, names_data chain.runnables)
+    ∷ (key.Labels, names_data chain.labels)
     ∷ []
 
 abbrev pub requirement_entries : RequirementDef → List Entry
@@ -108,7 +102,7 @@ abbrev pub model_entries : SystemModel → List Entry
 model_entries model =
     (key.Format, Some (string (codes "chainlat")))
     ∷ (key.Version, Some (number 2))
-    ∷ (key.Core, tables core_entries model.cores)
+    ∷ (key.Core, tables core_table_entries model.cores)
     ∷ (key.Stimulus, tables stimulus_entries model.stimuli)
     ∷ (key.Label, tables label_entries model.labels)
     ∷ (key.Task, tables task_entries model.tasks)

@@ -4,24 +4,13 @@ ghost use Rattle.toml.specs.View.{table_view};
 ghost use Rattle.cl_model.specs.declared.stimulus.StimulusKind.TheVariants.{Periodic, Sporadic, Burst};
 ghost use Rattle.cl_model.specs.Ranges.{IsKindInRange};
 ghost use Rattle.cl_write.specs.Entries.{with_entries};
-ghost use Rattle.cl_write.specs.Writing.{access_word, length_word, kind_entries};
+ghost use Rattle.cl_write.specs.Writing.{length_word, kind_entries};
 
 use crate::values::{put_number, put_unless_zero, put_word};
-use cl_model::{AccessKind, Key, LengthKind, StimulusKind};
+use cl_model::{Key, LengthKind, StimulusKind};
 use cl_time::NoMemory;
 use std::alloc::Global;
 use toml::Table;
-
-/// The word of a kind of access.
-pub(crate) fn access_word(access: AccessKind) -> &'static str
-    ensures { result.now ≡ access_word access }
-{
-    match access {
-        AccessKind::Explicit => "explicit",
-        AccessKind::Implicit => "implicit",
-        AccessKind::Timed => "timed",
-    }
-}
 
 /// The word of a kind of length.
 pub(crate) fn length_word(kind: LengthKind) -> &'static str

@@ -7,10 +7,10 @@ ghost use Rattle.cl_model.specs.Name.{IsName};
 ghost use Rattle.cl_model.specs.Ranges.{IsKindInRange, IsRunnableInRange, IsTaskInRange, IsChainInRange};
 ghost use Rattle.cl_model.specs.declared.limits.TheConstants.{MOST_REQUIRED};
 ghost use Rattle.cl_write.specs.Entries.{members_with, with_entries};
-ghost use Rattle.cl_write.specs.Writing.{core_entries, label_entries, stimulus_entries, runnable_entries, task_entries, chain_entries, requirement_entries};
+ghost use Rattle.cl_write.specs.Writing.{core_table_entries, label_entries, stimulus_entries, runnable_entries, task_entries, chain_entries, requirement_entries};
 
 use crate::arrays::{Written, put_array};
-use crate::kinds::{access_word, length_word, put_kind};
+use crate::kinds::{length_word, put_kind};
 use crate::values::{name_value, put_name, put_number, put_number_if, put_when_true, put_word};
 use cl_model::{
     ChainDef, CoreDef, Key, LabelDef, Name, RequirementDef, RunnableDef, StimulusDef, TaskDef,
@@ -36,7 +36,7 @@ impl Written for CoreDef {
 
     ghost is_named = { λ core. IsName core.name };
 
-    ghost written = { λ core. table (members_with (core_entries core)) };
+    ghost written = { λ core. table (members_with (core_table_entries core)) };
 
     fn write(&self, alloc: Global) -> Result<Value, NoMemory> {
         let mut table = Table::new(alloc);
@@ -130,7 +130,7 @@ impl Written for RequirementDef {
 }
 
 fn put_core(alloc: Global, table: &mut Table, core: &CoreDef) -> Result<(), NoMemory>
-    ensures data { OnOk result (table_view table.new ≡ with_entries (core_entries core.now) (table_view table.old)) }
+    ensures data { OnOk result (table_view table.new ≡ with_entries (core_table_entries core.now) (table_view table.old)) }
     ensures named { OnOk result (IsName core.now.name) }
 {
     put_name(alloc, table, Key::Name, &core.name)?;
@@ -178,7 +178,7 @@ fn put_task(alloc: Global, table: &mut Table, task: &TaskDef) -> Result<(), NoMe
     put_name(alloc, table, Key::Core, &task.core)?;
     put_name(alloc, table, Key::Stimulus, &task.stimulus)?;
     put_number(alloc, table, Key::Priority, task.priority)?;
-    put_word(alloc, table, Key::Access, access_word(task.access))?;
+    put_word(alloc, table, Key::Access, task.access.word())?;
     put_number_if(alloc, table, Key::Deadline, task.deadline)?;
     put_array(alloc, table, Key::Runnable, &task.runnables)?;
     Ok(())

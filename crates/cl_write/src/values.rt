@@ -4,7 +4,7 @@ ghost use Rattle.toml.specs.Data.{string};
 ghost use Rattle.toml.specs.View.{view, table_view};
 ghost use Rattle.cl_model.specs.declared.limits.TheConstants.{MOST_REQUIRED};
 ghost use Rattle.cl_model.specs.Name.{IsName};
-ghost use Rattle.cl_write.specs.Entries.{number, number_if, unless_zero, when_true, with_entry};
+ghost use Rattle.cl_write.specs.Entries.{number, number_data_if, unless_zero, when_true, with_entry};
 
 use cl_model::{Key, Name};
 use cl_time::NoMemory;
@@ -77,7 +77,7 @@ pub(crate) fn put_number_if(
     value: Option<u64>,
 ) -> Result<(), NoMemory>
     requires { IfSome value (λ n. n ≤ MOST_REQUIRED) }
-    ensures { OnOk result (table_view table.new ≡ with_entry key (number_if value) (table_view table.old)) }
+    ensures { OnOk result (table_view table.new ≡ with_entry key (number_data_if value) (table_view table.old)) }
 {
     match value {
         Some(value) => put_number(alloc, table, key, value),

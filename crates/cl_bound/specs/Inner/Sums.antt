@@ -1,13 +1,13 @@
 -- The sums of hops that the code keeps, one group after the other.
-use Rattle.std.specs.Prelude.{ℕ, ◌^◌, ℤ, pos, ◌+ℤ◌, ◌-ℤ◌, ◌≤ℤ◌, ◌<ℤ◌, List}
+use Rattle.std.specs.Prelude.{◌≡◌, ℕ, ◌^◌, ℤ, pos, ◌+ℤ◌, ◌-ℤ◌, ◌≤ℤ◌, ◌<ℤ◌, List}
 use Rattle.cl_bound.specs.declared.group_timing.GroupTiming.{GroupTiming}
 use Rattle.cl_bound.specs.declared.sums.Sums.{Sums}
 use Rattle.cl_bound.specs.Hops.{forward_hop, backward_hop, hops}
-use Rattle.cl_bound.specs.Bounds.{last_of}
+use Rattle.cl_bound.specs.Bounds.{last_of, Lengths}
 
 -- a signed number that is so great or so small at most
-abbrev pub IsWithin : (most : ℕ) → ℤ → Type 0
-IsWithin most z = (pos 0 ≤ℤ (z +ℤ pos most)) × (z ≤ℤ pos most)
+abbrev pub IsIntegerWithin : (most : ℕ) → ℤ → Type 0
+IsIntegerWithin most z = (pos 0 ≤ℤ (z +ℤ pos most)) × (z ≤ℤ pos most)
 
 -- a bound: 1 tick or more, and within 64 bits
 abbrev pub IsBound : ℤ → Type 0
@@ -38,3 +38,15 @@ reduced_in first sums = (pos sums.last.write -ℤ pos first.read) +ℤ sums.back
 
 abbrev pub age_in : GroupTiming → Sums → ℤ
 age_in first sums = pos sums.last.distance +ℤ reduced_in first sums
+
+-- each of the three is a bound
+pub record HaveBounds (first : GroupTiming) (sums : Sums) : Type 0 where
+  pub reaction : IsBound (reaction_in first sums)
+  pub age : IsBound (age_in first sums)
+  pub reduced : IsBound (reduced_in first sums)
+
+-- the bounds are the three
+pub record AreBoundsIn (first : GroupTiming) (sums : Sums) (bounds : Lengths) : Type 0 where
+  pub reaction : pos bounds.reaction ≡ reaction_in first sums
+  pub age : pos bounds.age ≡ age_in first sums
+  pub reduced : pos bounds.reduced ≡ reduced_in first sums

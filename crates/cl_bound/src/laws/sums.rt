@@ -1,10 +1,12 @@
 //! The sums behind the bounds: they are the bounds, positive, no greater than two of the greatest distances for each
-//! group, and the same for the reaction and the age.
-ghost use Rattle.std.specs.Prelude.{◌≡◌, ℕ, ◌*◌, ◌<◌, ◌≤◌, List, length};
+//! group, the same for the reaction and the age, and no greater where responses aren't.
+ghost use Rattle.std.specs.Prelude.{◌≡◌, ℕ, ◌*◌, ◌<◌, ◌≤◌, List, length, map, All};
 ghost use Rattle.cl_model.specs.declared.group.Group.{Group};
 ghost use Rattle.cl_runs.specs.TaskTiming.{System, IsSound};
 ghost use Rattle.cl_bound.specs.declared.group_timing.GroupTiming.{GroupTiming};
 ghost use Rattle.cl_bound.specs.Bounds.{greatest_reaction, greatest_age, Lengths, AreBoundsOf, settled_timings, bounds_of};
+ghost use Rattle.cl_bound.specs.Hops.{group_timing};
+ghost use Rattle.cl_bound.specs.NoGreater.{WritesNoLater, AreNoGreater};
 ghost use Rattle.cl_bound.specs.SettledChains.{IsSettledChain, AreWithin};
 
 /// What `bounds_of` gives for a settled chain are the signed sums themselves, and no other numbers are.
@@ -40,4 +42,15 @@ pub fn bounds_are_limited()
 pub fn reaction_equals_age()
     ensures sums { (groups : List GroupTiming) → greatest_reaction groups ≡ greatest_age groups }
     ensures bounds { (system : System) (groups : List Group) → (bounds_of system groups).reaction ≡ (bounds_of system groups).age }
+{}
+
+/// Bounds don't grow where responses don't: where these are no greater, groups write no later, and where groups are as
+/// others and write no later, no bound is greater.
+pub fn bounds_grow_with_responses()
+    ensures writes { (system : System) (responses others : ℕ → ℕ) (group : Group) → responses group.task ≤ others group.task
+        → WritesNoLater (group_timing system responses group) (group_timing system others group) }
+    ensures bounds { (timing other : Group → GroupTiming) (groups : List Group)
+        → All (λ (group : Group). WritesNoLater (timing group) (other group)) groups
+        → (bounds others : Lengths) → AreBoundsOf (map timing groups) bounds → AreBoundsOf (map other groups) others
+        → AreNoGreater bounds others }
 {}

@@ -8,12 +8,12 @@ use Rattle.cl_sched.specs.declared.core_progress.CoreProgress.{CoreProgress}
 use Rattle.cl_sched.specs.CoreProgress.{IsReached}
 use Rattle.cl_check.specs.declared.run_fault.RunFault.{RunFault}
 use Rattle.cl_check.specs.declared.run_fault.RunFault.TheVariants.{NoMemory}
-use Rattle.cl_check.specs.Legality.{IsKept, BreaksCore, BreaksSchedule, IsFirstBroken}
+use Rattle.cl_check.specs.Legality.{IsScheduleKept, BreaksCore, BreaksSchedule, IsFirstBroken}
 
 -- a core of a run is reached, and did what is scheduled before
 pub record IsFollowed (system : System) (run : Run) (core : ℕ) (reached : CoreProgress) : Type 0 where
   pub reached_is : IsReached system run.table core (take reached.tick (core_entries run core)) reached
-  pub kept : (t : ℕ) → t < reached.tick → IsKept system run core t
+  pub kept : (t : ℕ) → t < reached.tick → IsScheduleKept system run core t
 
 -- the entries of a core from a tick on are those of a stretch, to its end
 pub record Lasts (run : Run) (core tick : ℕ) (stretch : Stretch) : Type 0 where
@@ -28,12 +28,13 @@ Follows system run core end (Err fault) reached = BreaksCore system run core fau
 
 -- a core executes in each tick what is scheduled, or the fault is its first one, or want of memory
 abbrev pub ChecksCore : {X : Type 0} → System → Run → (core : ℕ) → Result X RunFault → Type 0
-ChecksCore system run core (Ok done) = (t : ℕ) → t < run.table.ticks → IsKept system run core t
+ChecksCore system run core (Ok done) = (t : ℕ) → t < run.table.ticks → IsScheduleKept system run core t
 ChecksCore system run core (Err fault) = (fault ≡ NoMemory) ⊎ BreaksCore system run core fault
 
--- each core executes in each tick what is scheduled, or the fault is that of the first one that doesn't, or want of memory
+-- each core executes in each tick what is scheduled, or the fault is that of the first one that doesn't, or want of
+-- memory
 abbrev pub ChecksCores : {X : Type 0} → System → Run → Result X RunFault → Type 0
-ChecksCores system run (Ok done) = (core t : ℕ) → core < system.cores → t < run.table.ticks → IsKept system run core t
+ChecksCores system run (Ok done) = (core t : ℕ) → core < system.cores → t < run.table.ticks → IsScheduleKept system run core t
 ChecksCores system run (Err fault) = (fault ≡ NoMemory) ⊎ BreaksSchedule system run fault
 
 -- a run is legal, or the fault is its first broken rule, or want of memory

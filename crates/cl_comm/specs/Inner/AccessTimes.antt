@@ -1,4 +1,5 @@
--- When the runnables of jobs read and write: never before their windows, and within them where the job finishes in time.
+-- When the runnables of jobs read and write: never before their windows, and within them where the job finishes in
+-- time.
 use Rattle.std.proofs.Common.{ℕ, ◌+◌, ◌-◌, ◌<◌, ◌≤◌, ◌≢◌, length, refl, arith}
 use Rattle.cl_model.specs.declared.task.AccessKind.{AccessKind}
 use Rattle.cl_model.specs.declared.task.AccessKind.TheVariants.{Explicit, Implicit, Timed}

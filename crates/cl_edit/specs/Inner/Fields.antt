@@ -6,8 +6,9 @@ use Rattle.std.specs.Str.{bytes_eq}
 use Rattle.std.specs.Str.Parse.{digits_value}
 use Rattle.cl_model.specs.declared.limits.TheConstants.{MOST_TICKS}
 use Rattle.cl_model.specs.declared.task.AccessKind.{AccessKind}
-use Rattle.cl_model.specs.declared.task.AccessKind.TheVariants.{Explicit, Implicit, Timed}
 use Rattle.cl_model.specs.Name.{is_name}
+use Rattle.cl_model.specs.Reading.Checks.{meaning_of}
+use Rattle.cl_model.specs.Reading.Tables.{access_words}
 use Rattle.cl_edit.specs.Inner.Parts.{parts}
 
 -- a name
@@ -30,8 +31,7 @@ flag_in word = if bytes_eq word (codes "yes") then Some true else if bytes_eq wo
 
 -- a kind of access
 abbrev pub access_in : List ℕ → Option AccessKind
-access_in word = if bytes_eq word (codes "explicit") then Some Explicit else if bytes_eq word (codes "implicit") then Some Implicit
-    else if bytes_eq word (codes "timed") then Some Timed else None
+access_in word = meaning_of access_words word
 
 -- a deadline, or that there is none
 abbrev pub deadline_in : List ℕ → Option (Option ℕ)

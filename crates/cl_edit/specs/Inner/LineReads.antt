@@ -18,29 +18,38 @@ Read X = Option (X × List (List ℕ))
 
 -- ---- lines of fixed length
 
+-- a name
+abbrev pub name_line : (make : List ℕ → Edit) → List (List ℕ) → Read Edit
+name_line make words = then_read (first_read name_in words) (λ name words. Some (make name, words))
+
+-- a name, and a word behind it
+abbrev pub word_line : {X : Type 0} → (read : List ℕ → Option X) → (make : List ℕ → X → Edit) → List (List ℕ) → Read Edit
+word_line read make words = then_read (first_read name_in words) (λ name words. then_read (first_read read words) (λ x words.
+    Some (make name x, words)))
+
+-- a name, and two words behind it
+abbrev pub two_word_line : {X Y : Type 0} → (read : List ℕ → Option X) → (read_next : List ℕ → Option Y) → (make : List ℕ → X → Y → Edit)
+    → List (List ℕ) → Read Edit
+two_word_line read read_next make words = then_read (first_read name_in words) (λ name words. then_read (first_read read words) (λ x words.
+    then_read (first_read read_next words) (λ y words. Some (make name x y, words))))
+
 abbrev pub range_in : List (List ℕ) → Read Edit
-range_in words = then_read (first_read name_in words) (λ runnable words. then_read (first_read time_in words) (λ least words.
-    then_read (first_read time_in words) (λ greatest words. Some (Range runnable least greatest, words))))
+range_in words = two_word_line time_in time_in Range words
 
 abbrev pub whole_in : List (List ℕ) → Read Edit
-whole_in words = then_read (first_read name_in words) (λ runnable words. then_read (first_read flag_in words) (λ whole words.
-    Some (Whole runnable whole, words)))
+whole_in words = word_line flag_in Whole words
 
 abbrev pub period_in : List (List ℕ) → Read Edit
-period_in words = then_read (first_read name_in words) (λ stimulus words. then_read (first_read time_in words) (λ period words.
-    Some (Period stimulus period, words)))
+period_in words = word_line time_in Period words
 
 abbrev pub offset_in : List (List ℕ) → Read Edit
-offset_in words = then_read (first_read name_in words) (λ stimulus words. then_read (first_read (number_in 0 MOST_TICKS) words) (λ offset words.
-    Some (Offset stimulus offset, words)))
+offset_in words = word_line (number_in 0 MOST_TICKS) Offset words
 
 abbrev pub jitter_in : List (List ℕ) → Read Edit
-jitter_in words = then_read (first_read name_in words) (λ stimulus words. then_read (first_read (number_in 0 MOST_TICKS) words) (λ jitter words.
-    Some (Jitter stimulus jitter, words)))
+jitter_in words = word_line (number_in 0 MOST_TICKS) Jitter words
 
 abbrev pub distances_in : List (List ℕ) → Read Edit
-distances_in words = then_read (first_read name_in words) (λ stimulus words. then_read (first_read time_in words) (λ least words.
-    then_read (first_read time_in words) (λ greatest words. Some (Distances stimulus least greatest, words))))
+distances_in words = two_word_line time_in time_in Distances words
 
 abbrev pub burst_in : List (List ℕ) → Read Edit
 burst_in words = then_read (first_read name_in words) (λ stimulus words. then_read (first_read time_in words) (λ period words.
@@ -48,31 +57,26 @@ burst_in words = then_read (first_read name_in words) (λ stimulus words. then_r
     then_read (first_read time_in words) (λ distance words. Some (Burst stimulus period count distance, words)))))
 
 abbrev pub deadline_line_in : List (List ℕ) → Read Edit
-deadline_line_in words = then_read (first_read name_in words) (λ task words. then_read (first_read deadline_in words) (λ deadline words.
-    Some (Deadline task deadline, words)))
+deadline_line_in words = word_line deadline_in Deadline words
 
 abbrev pub swap_in : List (List ℕ) → Read Edit
-swap_in words = then_read (first_read name_in words) (λ one words. then_read (first_read name_in words) (λ other words.
-    Some (Swap one other, words)))
+swap_in words = word_line name_in Swap words
 
 abbrev pub move_in : List (List ℕ) → Read Edit
-move_in words = then_read (first_read name_in words) (λ task words. then_read (first_read name_in words) (λ core words.
-    then_read (first_read (number_in 0 MOST_PRIORITY) words) (λ priority words. Some (Move task core priority, words))))
+move_in words = two_word_line name_in (number_in 0 MOST_PRIORITY) Move words
 
 abbrev pub access_line_in : List (List ℕ) → Read Edit
-access_line_in words = then_read (first_read name_in words) (λ task words. then_read (first_read access_in words) (λ access words.
-    Some (Kind task access, words)))
+access_line_in words = word_line access_in Kind words
 
 abbrev pub drop_task_in : List (List ℕ) → Read Edit
-drop_task_in words = then_read (first_read name_in words) (λ task words. Some (DropTask task, words))
+drop_task_in words = name_line DropTask words
 
 abbrev pub drop_chain_in : List (List ℕ) → Read Edit
-drop_chain_in words = then_read (first_read name_in words) (λ chain words. Some (DropChain chain, words))
+drop_chain_in words = name_line DropChain words
 
 abbrev pub chain_in : List (List ℕ) → Read Edit
-chain_in words = then_read (first_read name_in words) (λ name words. then_read (first_read (names_in MOST_STEPS) words) (λ runnables words.
-    then_read (first_read (names_in MOST_HOPS) words) (λ labels words.
-    Some (AddChain (record { name = name; runnables = runnables; labels = labels }), words))))
+chain_in words = two_word_line (names_in MOST_STEPS) (names_in MOST_HOPS)
+    (λ name runnables labels. AddChain (record { name = name; runnables = runnables; labels = labels })) words
 
 -- ---- the line of a new task
 

@@ -35,10 +35,10 @@ if_done x [] = Some x
 if_done x (word ∷ words) = None
 
 -- the answer to a word: what is read, or that it can't be read; or want of memory
-abbrev pub Reads : {X : Type 0} → Result X Unread → Option X → Type 0
-Reads (Ok x) meaning = meaning ≡ Some x
-Reads (Err Bad) meaning = meaning ≡ None
-Reads (Err NoMemory) meaning = Unit {0}
+abbrev pub ReadsPart : {X : Type 0} → Result X Unread → Option X → Type 0
+ReadsPart (Ok x) meaning = meaning ≡ Some x
+ReadsPart (Err Bad) meaning = meaning ≡ None
+ReadsPart (Err NoMemory) meaning = Unit {0}
 
 -- the same of words, of which some are left
 abbrev pub ReadsUpTo : {X : Type 0} → Result X Unread → List (List ℕ) → Option (X × List (List ℕ)) → Type 0

@@ -1,4 +1,5 @@
--- What the code keeps of a group: when its jobs read and write, and how a chain goes from group to group. Times are in ticks.
+-- What the code keeps of a group: when its jobs read and write, and how a chain goes from group to group. Times are in
+-- ticks.
 use Rattle.std.specs.Prelude.{◌≡◌, ℕ, zero, suc, ◌+◌, ◌-◌, ◌*◌, ◌/◌, ◌<◌, ◌≤◌, List, length, slice_index_or}
 use Rattle.cl_model.specs.declared.limits.TheConstants.{MOST_TICKS, MOST_STEPS}
 use Rattle.cl_model.specs.declared.group.Group.{Group}

@@ -4,8 +4,8 @@ use Rattle.cl_exact.specs.declared.beat.Beat.{Beat}
 use Rattle.cl_exact.specs.declared.scan.Greatest.{Greatest}
 use Rattle.cl_exact.specs.Inner.Beats.{reaction_of}
 
--- no reaction of `count` first jobs from `first` on is greater, none before the job is as great, and the job has it where
--- there are any
+-- no reaction of `count` first jobs from `first` on is greater, none before the job is as great, and the job has it
+-- where there are any
 pub record IsGreatestOf (beats : List Beat) (first count : ℕ) (greatest : Greatest) : Type 0 where
   pub not_before : first ≤ greatest.job
   pub above_all : (job : ℕ) → first ≤ job → job < first + count → reaction_of beats job ≤ greatest.reaction

@@ -4,20 +4,20 @@ use Rattle.cl_exact.specs.declared.beat.Beat.{Beat}
 use Rattle.cl_exact.specs.Inner.Beats.{beat_in, read_at, write_at, forward_job}
 
 -- the jobs of the forward chain from a first job
-pub record AreForwardJobs (beats : List Beat) (first : ℕ) (jobs : List ℕ) : Type 0 where
+pub record IsForwardWalk (beats : List Beat) (first : ℕ) (jobs : List ℕ) : Type 0 where
   pub as_many : length jobs ≡ length beats
   pub each : (place : ℕ) → place < length beats → slice_index jobs place ≡ forward_job beats first place
 
 -- a job is the last of its group that writes at or before the read of the next one's
-pub record IsLastWriter (writer reader : Beat) (writing reading : ℕ) : Type 0 where
+pub record IsLastWritingJob (writer reader : Beat) (writing reading : ℕ) : Type 0 where
   pub before : write_at writer writing ≤ read_at reader reading
   pub greatest : (other : ℕ) → write_at writer other ≤ read_at reader reading → other ≤ writing
 
 -- the jobs of the backward chain of a last job
-pub record AreBackwardJobs (beats : List Beat) (last : ℕ) (jobs : List ℕ) : Type 0 where
+pub record IsBackwardWalk (beats : List Beat) (last : ℕ) (jobs : List ℕ) : Type 0 where
   pub as_many : length jobs ≡ length beats
   pub linked : (place : ℕ) → suc place < length beats
-      → IsLastWriter (beat_in beats place) (beat_in beats (suc place)) (slice_index jobs place) (slice_index jobs (suc place))
+      → IsLastWritingJob (beat_in beats place) (beat_in beats (suc place)) (slice_index jobs place) (slice_index jobs (suc place))
   pub last_is : slice_index jobs (length beats - 1) ≡ last
 
 -- what a group adds to the start-up: its offset, its period and its deadline
@@ -28,7 +28,7 @@ abbrev pub start_up_of : List Beat → ℕ
 start_up_of beats = sum_by start_of beats
 
 -- the job is the first that reads at or after a moment
-pub record IsFirstReader (beat : Beat) (moment job : ℕ) : Type 0 where
+pub record IsFirstReadingJob (beat : Beat) (moment job : ℕ) : Type 0 where
   pub after : moment ≤ read_at beat job
   pub least : (other : ℕ) → moment ≤ read_at beat other → job ≤ other
 

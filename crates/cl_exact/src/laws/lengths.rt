@@ -1,5 +1,5 @@
 //! Exact lengths themselves: a chain has one of each, with one witness.
-ghost use Rattle.std.specs.Prelude.{◌≡◌, ◌⊎◌, ℕ, ◌<◌, true, List, length};
+ghost use Rattle.std.specs.Prelude.{◌≡◌, ◌⊎◌, ◌↔◌, ℕ, ◌<◌, ◌≤◌, true, List, length};
 ghost use Rattle.cl_model.specs.declared.model.SystemModel.{SystemModel};
 ghost use Rattle.cl_model.specs.Groups.{groups_at};
 ghost use Rattle.cl_model.specs.Validity.{IsValid};
@@ -8,7 +8,11 @@ ghost use Rattle.cl_exact.specs.TimedPeriodic.{is_timed_periodic_chain};
 ghost use Rattle.cl_exact.specs.Ties.{AreTied, HasExactLengths};
 ghost use Rattle.cl_model.specs.declared.group.Group.{Group};
 ghost use Rattle.cl_runs.specs.TaskTiming.{System};
-ghost use Rattle.cl_exact.specs.ExactLengths.{Witnesses, AreExactLengths};
+ghost use Rattle.cl_runs.specs.Chains.{JobChain, first_job, last_job, IsForwardChain, IsAgeChain, IsReducedChain};
+ghost use Rattle.cl_runs.specs.RunChains.{ideal_moments};
+ghost use Rattle.cl_exact.specs.ExactLengths.{Witnesses, AreExactLengths, IsSteadyForward, IsSteadyAge, IsSteadyReduced};
+ghost use Rattle.cl_exact.specs.SteadyJobs.{first_steady_job, last_steady_job};
+ghost use Rattle.cl_exact.specs.SameArrivals.{HaveSameArrivals};
 ghost use Rattle.cl_exact.specs.Hyperperiod.{IsHyperperiod, IsWithinLimit, IsPastLimit};
 
 /// A chain has one exact length of each kind, and one witness of it.
@@ -23,8 +27,8 @@ pub fn one_hyperperiod()
         → IsHyperperiod system groups one → IsHyperperiod system groups other → one ≡ other }
 {}
 
-/// So its hyperperiod isn't both within the limit and past it; and that of each chain of a valid model whose tasks are all
-/// timed and periodic is one of both.
+/// So its hyperperiod isn't both within the limit and past it; and that of each chain of a valid model whose tasks are
+/// all timed and periodic is one of both.
 pub fn chains_are_within_the_limit_or_past_it()
     ensures not_both { (system : System) (groups : List Group) → IsWithinLimit system groups → IsPastLimit system groups → ⊥ }
     ensures either { (model : SystemModel) → IsValid model → (chain : ℕ) → chain < length model.chains
@@ -38,10 +42,42 @@ pub fn exact_lengths_exist()
         → is_timed_periodic_chain model chain ≡ true → HasExactLengths (system_of model) (groups_at model chain) }
 {}
 
-/// Its exact reaction equals its exact age, and its exact reduced age is that age less the last period, with the same jobs.
+/// Its exact reaction equals its exact age, and its exact reduced age is that age less the last period, with the same
+/// jobs.
 pub fn exact_lengths_are_tied()
     ensures { (model : SystemModel) → IsValid model → (chain : ℕ) → chain < length model.chains
         → is_timed_periodic_chain model chain ≡ true
         → (exact : Witnesses) → AreExactLengths (system_of model) (groups_at model chain) exact
         → AreTied (system_of model) (groups_at model chain) exact }
+{}
+
+/// Exact lengths, and whether the hyperperiod is within the limit, depend on the arrival patterns and the deadlines of
+/// tasks alone.
+pub fn same_arrivals_have_same_lengths()
+    ensures lengths { (one other : System) → HaveSameArrivals one other → (groups : List Group) (exact : Witnesses)
+        → AreExactLengths one groups exact → AreExactLengths other groups exact }
+    ensures within { (one other : System) → HaveSameArrivals one other → (groups : List Group)
+        → IsWithinLimit one groups → IsWithinLimit other groups }
+    ensures past { (one other : System) → HaveSameArrivals one other → (groups : List Group)
+        → IsPastLimit one groups → IsPastLimit other groups }
+{}
+
+/// The forward chains that count are those whose first job is a number or later, and the backward chains that count
+/// those whose last job is.
+pub fn steady_chains_have_late_jobs()
+    ensures forward { (model : SystemModel) → IsValid model → (chain : ℕ) → chain < length model.chains
+        → is_timed_periodic_chain model chain ≡ true
+        → (jobs : JobChain) → IsForwardChain (ideal_moments (system_of model)) (groups_at model chain) jobs
+        → (IsSteadyForward (system_of model) (groups_at model chain) jobs)
+        ↔ (first_steady_job (system_of model) (groups_at model chain) ≤ first_job jobs) }
+    ensures age { (model : SystemModel) → IsValid model → (chain : ℕ) → chain < length model.chains
+        → is_timed_periodic_chain model chain ≡ true
+        → (jobs : JobChain) → IsAgeChain (ideal_moments (system_of model)) (groups_at model chain) jobs
+        → (IsSteadyAge (system_of model) (groups_at model chain) jobs)
+        ↔ (last_steady_job (system_of model) (groups_at model chain) ≤ last_job jobs) }
+    ensures reduced { (model : SystemModel) → IsValid model → (chain : ℕ) → chain < length model.chains
+        → is_timed_periodic_chain model chain ≡ true
+        → (jobs : JobChain) → IsReducedChain (ideal_moments (system_of model)) (groups_at model chain) jobs
+        → (IsSteadyReduced (system_of model) (groups_at model chain) jobs)
+        ↔ (last_steady_job (system_of model) (groups_at model chain) ≤ last_job jobs) }
 {}

@@ -10,8 +10,8 @@ ghost use Rattle.cl_exact.specs.Hyperperiod.{IsMultipleOfPeriods};
 ghost use Rattle.cl_exact.specs.ExactLengths.{IsSteadyForward};
 ghost use Rattle.cl_exact.specs.Turns.{HasEarlyTwin};
 
-/// Each forward chain that counts has the length of one that begins less than a hyperperiod, or any other common multiple
-/// of the periods, after the first of them. So the greatest over one hyperperiod is the greatest over all.
+/// Each forward chain that counts has the length of one that begins less than a hyperperiod, or any other common
+/// multiple of the periods, after the first of them. So the greatest over one hyperperiod is the greatest over all.
 pub fn one_hyperperiod_shows_all()
     ensures { (model : SystemModel) → IsValid model → (chain : ℕ) → chain < length model.chains
         → is_timed_periodic_chain model chain ≡ true

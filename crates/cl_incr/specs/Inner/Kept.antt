@@ -27,8 +27,8 @@ pub record AreFoundOf (model : SystemModel) (chain : ℕ) (found : ChainFindings
   pub bounds : found.bounds ≡ chain_answer_of model (chain_at model chain)
   pub exact : IsExactAnswer model chain (chain_answer_of model (chain_at model chain)) found.exact
 
--- what is kept of a chain is found of the chain of the new model; nothing is where its question is changed, or where one of
--- its tasks is late
+-- what is kept of a chain is found of the chain of the new model; nothing is where its question is changed, or where
+-- one of its tasks is late
 abbrev pub IsKeptChain : (old new : SystemModel) → (chain : ℕ) → Option ChainFindings → Type 0
 IsKeptChain old new chain (Some found) = AreFoundOf new chain found
 IsKeptChain old new chain None = chain_question new chain ≢ None → IsChangedChain old new chain

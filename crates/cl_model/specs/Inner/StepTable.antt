@@ -1,4 +1,5 @@
--- The steps of all runnables of a model, in order, and the look-up of a step by its name in the table that is built of them.
+-- The steps of all runnables of a model, in order, and the look-up of a step by its name in the table that is built of
+-- them.
 use Rattle.std.specs.Prelude.{◌≡◌, ℕ, ◌+◌, List, [], ◌∷◌, ◌++◌, length, map, slice_index_or, unwrap_or}
 use Rattle.std.specs.List.{range_with_len}
 use Rattle.cl_model.specs.declared.group.Step.{Step}

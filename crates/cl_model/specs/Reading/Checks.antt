@@ -1,5 +1,5 @@
 -- Checks of the values of a model file.
--- Source: this project's profile, over the values of a TOML 1.1 document.
+-- Over the values of a TOML 1.1 document.
 use Rattle.std.specs.Prelude.{ℕ, ℤ, pos, negsuc, Bool, true, false, ◌&&◌, not, if◌then◌else◌, nat_le, List, [], ◌∷◌, length, map, Option, Some, None, is_some}
 use Rattle.std.specs.List.{list_any}
 use Rattle.std.specs.Str.{bytes_eq}

@@ -5,14 +5,14 @@ use Rattle.cl_model.specs.declared.place.Key.{Key}
 use Rattle.cl_model.specs.Reading.Checks.{meaning_of, members_of, value_at, found_or}
 
 -- the bytes of a string
-abbrev pub text_of : Data → List ℕ
-text_of (string word) = word
-text_of _ = []
+abbrev pub text_in : Data → List ℕ
+text_in (string word) = word
+text_in _ = []
 
 -- a whole number that isn't negative
-abbrev pub number_of : Data → ℕ
-number_of (integer (pos n)) = n
-number_of _ = 0
+abbrev pub number_in : Data → ℕ
+number_in (integer (pos n)) = n
+number_in _ = 0
 
 -- true or false
 abbrev pub boolean_of : Data → Bool
@@ -31,11 +31,11 @@ table_of _ = no_members
 
 -- the string at a key
 abbrev pub text_at : Key → Members → List ℕ
-text_at key ms = found_or [] text_of (value_at key ms)
+text_at key ms = found_or [] text_in (value_at key ms)
 
 -- the number at a key, or this where the key is absent
 abbrev pub number_or : ℕ → Key → Members → ℕ
-number_or absent key ms = found_or absent number_of (value_at key ms)
+number_or absent key ms = found_or absent number_in (value_at key ms)
 
 -- the number at a key that is there
 abbrev pub number_at : Key → Members → ℕ
@@ -43,7 +43,7 @@ number_at = number_or 0
 
 -- the number at a key that may be absent
 abbrev pub number_if : Key → Members → Option ℕ
-number_if key ms = found_or None (λ d. Some (number_of d)) (value_at key ms)
+number_if key ms = found_or None (λ d. Some (number_in d)) (value_at key ms)
 
 -- whether true stands at a key
 abbrev pub is_set : Key → Members → Bool
@@ -51,7 +51,7 @@ is_set key ms = found_or false boolean_of (value_at key ms)
 
 -- what the word at a key stands for, by a list of words
 abbrev pub word_if : {X : Type 0} → List (List ℕ × X) → Key → Members → Option X
-word_if words key ms = found_or None (λ d. meaning_of words (text_of d)) (value_at key ms)
+word_if words key ms = found_or None (λ d. meaning_of words (text_in d)) (value_at key ms)
 
 -- the same, where this stands for no word
 abbrev pub word_at : {X : Type 0} → List (List ℕ × X) → X → Key → Members → X
@@ -59,7 +59,7 @@ word_at words other key ms = unwrap_or (word_if words key ms) other
 
 -- the names in the array at a key, none where it is absent
 abbrev pub names_at : Key → Members → List (List ℕ)
-names_at key ms = found_or [] (λ d. map text_of (list_of d)) (value_at key ms)
+names_at key ms = found_or [] (λ d. map text_in (list_of d)) (value_at key ms)
 
 -- what the tables in the array at a key mean, none where it is absent
 abbrev pub tables_at : {X : Type 0} → (Members → X) → Key → Members → List X

@@ -1,5 +1,5 @@
--- The tables of a model file, versions 1 and 2: the keys of each in reading order, and what it means. Times are in ticks.
--- Source: this project's profile.
+-- The tables of a model file, versions 1 and 2: the keys of each in reading order, and what it means. Times are in
+-- ticks.
 use Rattle.std.specs.Prelude.{ℕ, ◌==◌, if◌then◌else◌, List, [], ◌∷◌, ◌++◌, map, Option, Some, None, codes}
 use Rattle.toml.specs.Data.{Members}
 use Rattle.cl_model.specs.declared.limits.TheConstants.{MOST_TICKS, MOST_REQUIRED, MOST_PRIORITY, MOST_RUNNABLES, MOST_ACCESSES, MOST_STEPS, MOST_HOPS, LEAST_JOBS_OF_BURST, MOST_JOBS_OF_BURST}
@@ -93,7 +93,8 @@ stimulus_forms version = (codes "periodic", periodic_form) ∷ (codes "sporadic"
 abbrev pub stimulus_fields : (version : ℕ) → List Field
 stimulus_fields version = required key.Name a_name ∷ required key.Kind (a_word (stimulus_forms version)) ∷ []
 
--- M4 where the table has a key that no stimulus of its kind has, and then the keys of that kind; nothing where the kind isn't known
+-- M4 where the table has a key that no stimulus of its kind has, and then the keys of that kind; nothing where the kind
+-- isn't known
 abbrev pub form_checks : Place → Members → Option StimulusForm → List Refusal
 form_checks place ms None = []
 form_checks place ms (Some form) =

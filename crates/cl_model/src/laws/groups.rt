@@ -1,9 +1,10 @@
 //! The groups of chains: what they are of any steps, and of those of the chains of a valid model.
-ghost use Rattle.std.specs.Prelude.{◌≡◌, ℕ, ◌<◌, List, length, All};
+ghost use Rattle.std.specs.Prelude.{◌≡◌, ℕ, ◌<◌, ◌≤◌, List, length, All};
 ghost use Rattle.cl_model.specs.declared.group.Group.{Group};
 ghost use Rattle.cl_model.specs.declared.group.Step.{Step};
 ghost use Rattle.cl_model.specs.declared.model.SystemModel.{SystemModel};
 ghost use Rattle.cl_model.specs.ByNumber.{chain_at};
+ghost use Rattle.cl_model.specs.GroupCuts.{IsCutAfter};
 ghost use Rattle.cl_model.specs.Groups.{groups, steps_of, groups_at, IsGroupOf};
 ghost use Rattle.cl_model.specs.MaximalRuns.{AreMaximalRuns};
 ghost use Rattle.cl_model.specs.Validity.{IsValid};
@@ -20,4 +21,10 @@ pub fn groups_are_maximal_runs()
     ensures runs { (steps : List Step) → AreMaximalRuns steps (groups steps) }
     ensures only { (steps : List Step) (made : List Group) → AreMaximalRuns steps made → made ≡ groups steps }
     ensures of_chain { (model : SystemModel) (chain : ℕ) → AreMaximalRuns (steps_of model (chain_at model chain)) (groups_at model chain) }
+{}
+
+/// Steps can be cut behind each of their groups, and both parts then have their share of the groups. So a piece of a
+/// cut chain is a chain of its own.
+pub fn cut_steps_have_parts_of_groups()
+    ensures { (steps : List Step) (count : ℕ) → count ≤ length (groups steps) → IsCutAfter steps count }
 {}

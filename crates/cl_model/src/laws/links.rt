@@ -23,7 +23,8 @@ pub fn labels_are_known()
         → (label : List ℕ) → Contains (runnable_at model step).writes label → Contains (runnable_at model other).writes label → step ≡ other }
 {}
 
-/// A chain has one label fewer than steps, which are known runnables, and each step writes the label that the next one reads.
+/// A chain has one label fewer than steps, which are known runnables, and each step writes the label that the next one
+/// reads.
 pub fn chains_are_linked()
     ensures { (model : SystemModel) → IsValid model → All (IsLinked model) model.chains }
 {}

@@ -8,29 +8,29 @@ ghost use Rattle.cl_model.specs.ByNumber.{task_at, chain_at, runnable_at, core_o
 ghost use Rattle.cl_model.specs.Groups.{step_named, IsStepOf};
 ghost use Rattle.cl_model.specs.KnownNames.{AreFound};
 ghost use Rattle.cl_model.specs.Named.{core_names, stimulus_names, label_names, task_names, chain_names, requirement_names, runnable_names, all_runnables, kind_named};
-ghost use Rattle.cl_model.specs.NameSets.{AreApart};
+ghost use Rattle.cl_model.specs.NameSets.{AreDistinctNames};
 ghost use Rattle.cl_model.specs.Validity.{IsValid};
 
 /// The names of a section are apart, and so are those of all runnables.
 pub fn names_are_apart()
-    ensures cores { (model : SystemModel) → IsValid model → AreApart (core_names model) }
-    ensures stimuli { (model : SystemModel) → IsValid model → AreApart (stimulus_names model) }
-    ensures labels { (model : SystemModel) → IsValid model → AreApart (label_names model) }
-    ensures tasks { (model : SystemModel) → IsValid model → AreApart (task_names model) }
-    ensures runnables { (model : SystemModel) → IsValid model → AreApart (runnable_names (all_runnables model.tasks)) }
-    ensures chains { (model : SystemModel) → IsValid model → AreApart (chain_names model) }
-    ensures requirements { (model : SystemModel) → IsValid model → AreApart (requirement_names model) }
+    ensures cores { (model : SystemModel) → IsValid model → AreDistinctNames (core_names model) }
+    ensures stimuli { (model : SystemModel) → IsValid model → AreDistinctNames (stimulus_names model) }
+    ensures labels { (model : SystemModel) → IsValid model → AreDistinctNames (label_names model) }
+    ensures tasks { (model : SystemModel) → IsValid model → AreDistinctNames (task_names model) }
+    ensures runnables { (model : SystemModel) → IsValid model → AreDistinctNames (runnable_names (all_runnables model.tasks)) }
+    ensures chains { (model : SystemModel) → IsValid model → AreDistinctNames (chain_names model) }
+    ensures requirements { (model : SystemModel) → IsValid model → AreDistinctNames (requirement_names model) }
 {}
 
 /// Of names that are apart, two places with one name are one, and a look-up finds each name at its own place.
 pub fn apart_names_are_found()
-    ensures one_place { (names : List (List ℕ)) → AreApart names → (k j : ℕ) → k < length names → j < length names
+    ensures one_place { (names : List (List ℕ)) → AreDistinctNames names → (k j : ℕ) → k < length names → j < length names
         → slice_index_or names k [] ≡ slice_index_or names j [] → k ≡ j }
-    ensures found { (names : List (List ℕ)) → AreApart names → AreFound names }
+    ensures found { (names : List (List ℕ)) → AreDistinctNames names → AreFound names }
 {}
 
-/// What a name finds has the name, each entry of a valid model is found by its name, and a task has the core and the kind
-/// of stimulus that it names.
+/// What a name finds has the name, each entry of a valid model is found by its name, and a task has the core and the
+/// kind of stimulus that it names.
 pub fn entries_are_found()
     ensures task { (model : SystemModel) → IsValid model → (i : ℕ) → i < length model.tasks → task_named model (task_at model i).name ≡ Some i }
     ensures task_named { (model : SystemModel) → (name : List ℕ) (i : ℕ) → task_named model name ≡ Some i → (task_at model i).name ≡ name }
@@ -54,7 +54,8 @@ pub fn sections_are_found()
     ensures labels { (model : SystemModel) → IsValid model → AreFound (label_names model) }
 {}
 
-/// The name of a runnable of a valid model stands for its step, and what a known name stands for is a step with that name.
+/// The name of a runnable of a valid model stands for its step, and what a known name stands for is a step with that
+/// name.
 pub fn runnables_are_found()
     ensures own { (model : SystemModel) → IsValid model → (step : Step) → IsStepOf model step → step_named model (runnable_at model step).name ≡ step }
     ensures known { (model : SystemModel) → (name : List ℕ) → Contains (runnable_names (all_runnables model.tasks)) name

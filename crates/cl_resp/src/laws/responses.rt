@@ -1,10 +1,12 @@
-//! The jobs of a settled task finish within its response, which lies between its greatest execution time and its deadline.
-ghost use Rattle.std.specs.Prelude.{ℕ, ◌+◌, ◌≤◌};
+//! The jobs of a settled task finish within its response, which lies between its greatest execution time and its
+//! deadline, and is no later where less is asked.
+ghost use Rattle.std.specs.Prelude.{◌≡◌, ℕ, ◌+◌, ◌≤◌, Some};
 ghost use Rattle.cl_model.specs.Timing.{greatest_jitter};
 ghost use Rattle.cl_runs.specs.TaskTiming.{System, timing_at, IsSound};
+ghost use Rattle.cl_resp.specs.declared.question.Question.{Question};
 ghost use Rattle.cl_resp.specs.Question.{greatest_execution};
 ghost use Rattle.cl_resp.specs.Promises.{AlwaysFinishesWithin};
-ghost use Rattle.cl_resp.specs.Response.{IsSettled};
+ghost use Rattle.cl_resp.specs.Response.{Response, response_to, IsSettled, AsksNoMore, IsAnsweredBy};
 
 /// Each job of a settled task finishes within the response of its arrival, in every legal run that lasts so long,
 /// whether or not tasks of higher priority are late.
@@ -20,4 +22,10 @@ pub fn responses_lie_between()
         → greatest_jitter (timing_at system task).pattern + greatest_execution (timing_at system task) ≤ response }
     ensures deadline { (system : System) → IsSound system → (task response : ℕ) → IsSettled system task response
         → response ≤ (timing_at system task).deadline }
+{}
+
+/// A question that asks no more than one which has a response has one too, and no later.
+pub fn less_asked_is_answered_no_later()
+    ensures { (question other : Question) → AsksNoMore question other
+        → (latest : Response) → response_to other ≡ Some latest → IsAnsweredBy question latest }
 {}

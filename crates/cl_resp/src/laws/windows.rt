@@ -16,8 +16,8 @@ pub fn windows_are_least()
 {}
 
 /// The window of a task that takes 1 tick or more, as each task of a sound system does, is the least fixpoint of its
-/// demand, and there is none exactly where there is no fixpoint within the deadline: where there is no fixpoint there, no
-/// width there holds its own demand.
+/// demand, and there is none exactly where there is no fixpoint within the deadline: where there is no fixpoint there,
+/// no width there holds its own demand.
 pub fn windows_are_fixpoints()
     ensures found { (question : Question) → 1 ≤ question.time → (width : ℕ)
         → busy_window question ≡ Some width → IsLeastFixpoint question width }

@@ -6,8 +6,8 @@ ghost use Rattle.cl_runs.specs.Pattern.{IsPattern};
 ghost use Rattle.cl_runs.specs.Arrivals.{FollowPattern};
 ghost use Rattle.cl_runs.specs.ArrivalsByKind.{FollowsPeriod, FollowsGaps, FollowsBursts};
 
-/// Jobs follow a periodic pattern exactly where job `k` arrives at `offset + k * period`, and the next arrival isn't due
-/// in the run.
+/// Jobs follow a periodic pattern exactly where job `k` arrives at `offset + k * period`, and the next arrival isn't
+/// due in the run.
 pub fn periodic_arrivals()
     ensures follow { (ticks period offset jitter : ℕ) (jobs : List Job)
         → FollowPattern (Periodic period offset jitter) ticks jobs → FollowsPeriod ticks period offset jitter jobs }

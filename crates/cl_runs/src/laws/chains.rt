@@ -1,5 +1,5 @@
 //! Complete chains: each is determined by its first or last job, and ends after it begins.
-ghost use Rattle.std.specs.Prelude.{◌≡◌, ◌<◌, List};
+ghost use Rattle.std.specs.Prelude.{◌≡◌, ◌<◌, List, Option};
 ghost use Rattle.cl_runs.specs.TaskTiming.{System, IsSound};
 ghost use Rattle.cl_runs.specs.Run.{Run};
 ghost use Rattle.cl_runs.specs.Legal.{IsLegal};
@@ -9,9 +9,10 @@ ghost use Rattle.cl_model.specs.Groups.{groups};
 ghost use Rattle.cl_runs.specs.Chains.{JobChain, first_job, last_job, IsForwardChain, IsAgeChain, IsReducedChain};
 ghost use Rattle.cl_runs.specs.RunChains.{run_moments, ideal_moments};
 ghost use Rattle.cl_runs.specs.MomentOrder.{AreGroupsOf};
-ghost use Rattle.cl_runs.specs.Measured.{Measured, IsMeasured};
+ghost use Rattle.cl_runs.specs.Measured.{Measured, IsMeasured, IsMeasuredBy};
 
-/// A run has at most one complete forward chain for a first job, and at most one complete backward chain for a last job.
+/// A run has at most one complete forward chain for a first job, and at most one complete backward chain for a last
+/// job.
 pub fn complete_chains_are_unique()
     ensures forward { (system : System) (run : Run) (groups : List Group) (one other : JobChain)
         → IsForwardChain (run_moments system run) groups one → IsForwardChain (run_moments system run) groups other
@@ -57,10 +58,21 @@ pub fn ideal_chains_end_later()
         → IsReducedChain (ideal_moments system) groups chain → chain.from < chain.to }
 {}
 
-/// What is measured in a run, or over ideal moments, is unique.
+/// What is measured in a run is unique.
 pub fn what_is_measured_is_unique()
-    ensures run { (system : System) (run : Run) (groups : List Group) (one other : Measured)
+    ensures { (system : System) (run : Run) (groups : List Group) (one other : Measured)
         → IsMeasured (run_moments system run) groups one → IsMeasured (run_moments system run) groups other → one ≡ other }
-    ensures ideal { (system : System) (groups : List Group) (one other : Measured)
-        → IsMeasured (ideal_moments system) groups one → IsMeasured (ideal_moments system) groups other → one ≡ other }
+{}
+
+/// Over the ideal moments, which no run ends, the longest chain of each kind is unique. How many there are isn't asked.
+pub fn longest_ideal_chains_are_unique()
+    ensures forward { (system : System) (groups : List Group) (one other : Option JobChain)
+        → IsMeasuredBy (IsForwardChain (ideal_moments system) groups) first_job one
+        → IsMeasuredBy (IsForwardChain (ideal_moments system) groups) first_job other → one ≡ other }
+    ensures age { (system : System) (groups : List Group) (one other : Option JobChain)
+        → IsMeasuredBy (IsAgeChain (ideal_moments system) groups) last_job one
+        → IsMeasuredBy (IsAgeChain (ideal_moments system) groups) last_job other → one ≡ other }
+    ensures reduced { (system : System) (groups : List Group) (one other : Option JobChain)
+        → IsMeasuredBy (IsReducedChain (ideal_moments system) groups) last_job one
+        → IsMeasuredBy (IsReducedChain (ideal_moments system) groups) last_job other → one ≡ other }
 {}

@@ -38,8 +38,8 @@ pub fn moments_stay()
         → Writes system shorter i k p t → Writes system longer i k p t }
 {}
 
-/// In a legal run that goes on from a legal run, each further start or read lies at or after the end of the shorter run,
-/// and each further finish or write after it.
+/// In a legal run that goes on from a legal run, each further start or read lies at or after the end of the shorter
+/// run, and each further finish or write after it.
 pub fn further_moments_come_later()
     ensures starts { (system : System) → IsSound system → (shorter longer : Run) → IsLegal system shorter → IsLegal system longer
         → GoesOn shorter longer → (i k p t : ℕ) → Starts system longer i k p t → t < shorter.table.ticks

@@ -1,4 +1,5 @@
-//! Whole runnables in a legal run of a sound system: they aren't interrupted, and none begins where a higher task waits.
+//! Whole runnables in a legal run of a sound system: they aren't interrupted, and none begins where a higher task
+//! waits.
 ghost use Rattle.std.specs.Prelude.{◌≡◌, ℕ, suc, ◌+◌, ◌<◌, ◌≤◌, true, length, slice_index};
 ghost use Rattle.cl_runs.specs.TaskTiming.{System, timing_at, range_at, IsSound};
 ghost use Rattle.cl_runs.specs.Table.{job_at};

@@ -16,7 +16,8 @@ pub fn jobs_arrive_apart()
         → (job_at (jobs_of run i) k).arrival + (timing_at system i).deadline ≤ (job_at (jobs_of run i) l).arrival }
 {}
 
-/// The next job of a task arrives within the greatest distance, and is in the table where that distance ends in the run.
+/// The next job of a task arrives within the greatest distance, and is in the table where that distance ends in the
+/// run.
 pub fn next_jobs_arrive()
     ensures within { (system : System) → IsSound system → (run : Run) → IsLegal system run → (i : ℕ) → i < length system.tasks
         → (k : ℕ) → suc k < length (jobs_of run i)

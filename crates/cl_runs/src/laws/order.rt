@@ -1,4 +1,5 @@
-//! Moments in order: those of legal runs and the ideal ones are, and over them earliest readers and latest writers rise.
+//! Moments in order: those of legal runs and the ideal ones are, and over them earliest readers and latest writers
+//! rise.
 ghost use Rattle.std.specs.Prelude.{ℕ, ◌<◌, ◌≤◌, List, length};
 ghost use Rattle.cl_model.specs.declared.group.Group.{Group};
 ghost use Rattle.cl_model.specs.declared.group.Step.{Step};

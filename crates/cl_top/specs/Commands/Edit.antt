@@ -1,5 +1,6 @@
--- `edit MODEL EDITS`: the reports of a model as it is edited (this project's profile).
-use Rattle.std.specs.Prelude.{◌≡◌, ◌⊎◌, ℕ, suc, List, [], ◌∷◌, ◌++◌, codes, decimal, Result, Ok, Err}
+-- `edit MODEL EDITS`: the reports of a model as it is edited.
+use Rattle.std.specs.Prelude.{◌≡◌, ◌⊎◌, ℕ, ◌+◌, ◌<◌, ◌≤◌, List, [], ◌++◌, length, take, slice_index_or, codes, decimal, Ok, Err}
+use Rattle.std.specs.List.{concat}
 use Rattle.cl_text.specs.Line.{line}
 use Rattle.cl_model.specs.declared.model.SystemModel.{SystemModel}
 use Rattle.cl_model.specs.declared.refusal.Code.TheVariants.{E1}
@@ -8,8 +9,8 @@ use Rattle.cl_model.specs.Place.{top}
 use Rattle.cl_model.specs.Refusal.{refusal_text}
 use Rattle.cl_edit.specs.declared.edit.Edit.{Edit}
 use Rattle.cl_edit.specs.declared.edit.Edit.TheVariants.{Report}
-use Rattle.cl_edit.specs.Edited.{edited}
-use Rattle.cl_edit.specs.Reading.{AreEditsOf, IsBadLine}
+use Rattle.cl_edit.specs.Edited.{edited, after}
+use Rattle.cl_edit.specs.Reading.{AreEditsOf, IsBadEditLine}
 use Rattle.cl_report.specs.Report.{IsReportOf}
 use Rattle.cl_top.specs.declared.outcome.Outcome.{Outcome}
 use Rattle.cl_top.specs.declared.status.TheConstants.{DONE, EDITS_REFUSED}
@@ -30,30 +31,52 @@ abbrev pub IsWrittenBy : SystemModel → Edit → (text : List ℕ) → Type 0
 IsWrittenBy model Report text = IsReportOf model text
 IsWrittenBy model edit text = text ≡ []
 
--- what an edit in the line of this number comes to: its refusal, or what it has written and then what comes next of the
--- edited model
-abbrev pub EditsTo : Result SystemModel Refusal → (number : ℕ) → (writes : List ℕ → Type 0) → (next : SystemModel → Outcome → Type 0) → Outcome → Type 0
-EditsTo (Err refusal) number writes next found = found ≡ edits_refused number refusal
-EditsTo (Ok model) number writes next found = (text : List ℕ) × writes text × ((rest : Outcome) × next model rest × (found ≡ behind text rest))
+-- the edit at this place has written this piece, of the model after the edits above it
+pub record HasWrittenPiece (model : SystemModel) (edits : List Edit) (place : ℕ) (piece : List ℕ) : Type 0 where
+  pub found : SystemModel
+  pub so_far : after model (take place edits) ≡ Ok found
+  pub writes : IsWrittenBy found (slice_index_or edits place Report) piece
 
--- what edits in the lines from this number on come to
-abbrev pub AreEditedTo : (edits : List Edit) → (number : ℕ) → SystemModel → Outcome → Type 0
-AreEditedTo [] number model found = found ≡ record { status = DONE; text = [] }
-AreEditedTo (edit ∷ edits) number model found =
-    EditsTo (edited model edit) number (IsWrittenBy model edit) (AreEditedTo edits (suc number)) found
+-- So many edits from the first are accepted, one after the other, which makes this of the model; each has written its piece.
+pub record AreAccepted (model : SystemModel) (edits : List Edit) (count : ℕ) (pieces : List (List ℕ)) (made : SystemModel) : Type 0 where
+  pub within : count ≤ length edits
+  pub accepted : after model (take count edits) ≡ Ok made
+  pub one_each : length pieces ≡ count
+  pub written : (place : ℕ) → place < count → HasWrittenPiece model edits place (slice_index_or pieces place [])
 
--- the text is a list of edits, of which the outcome is: the first of them stands in line 2
+-- the next edit is refused of this model: its refusal stands behind the text. The first edit stands in line 2
+pub record EndsRefused (made : SystemModel) (edits : List Edit) (count : ℕ) (text : List ℕ) (found : Outcome) : Type 0 where
+  pub one_more : count < length edits
+  pub refusal : Refusal
+  pub refused : edited made (slice_index_or edits count Report) ≡ Err refusal
+  pub printed : found ≡ behind text (edits_refused (count + 2) refusal)
+
+-- no edit is left, and there is nothing but the text
+pub record EndsDone (edits : List Edit) (count : ℕ) (text : List ℕ) (found : Outcome) : Type 0 where
+  pub all : count ≡ length edits
+  pub printed : found ≡ record { status = DONE; text = text }
+
+-- What edits of a model come to: so many are accepted, the text is the reports among them, joined, and then comes nothing
+-- or one refusal.
+pub record AreEditedTo (model : SystemModel) (edits : List Edit) (found : Outcome) : Type 0 where
+  pub count : ℕ
+  pub pieces : List (List ℕ)
+  pub made : SystemModel
+  pub are : AreAccepted model edits count pieces made
+  pub ends : EndsDone edits count (concat pieces) found ⊎ EndsRefused made edits count (concat pieces) found
+
+-- the text is a list of edits, of which the outcome is
 pub record HasEdits (model : SystemModel) (text : List ℕ) (found : Outcome) : Type 0 where
   pub edits : List Edit
   pub are : AreEditsOf text edits
-  pub edited_to : AreEditedTo edits 2 model found
+  pub edited_to : AreEditedTo model edits found
 
 -- the text is none
-pub record HasBadLine (text : List ℕ) (found : Outcome) : Type 0 where
+pub record HasBadEditLine (text : List ℕ) (found : Outcome) : Type 0 where
   pub number : ℕ
-  pub bad : IsBadLine text number
+  pub bad : IsBadEditLine text number
   pub printed : found ≡ edits_refused number (record { code = E1; place = top })
 
 -- the outcome of a text, for a valid model
 abbrev pub IsOfEdits : SystemModel → (text : List ℕ) → Outcome → Type 0
-IsOfEdits model text found = HasEdits model text found ⊎ HasBadLine text found
+IsOfEdits model text found = HasEdits model text found ⊎ HasBadEditLine text found

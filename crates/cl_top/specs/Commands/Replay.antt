@@ -1,4 +1,4 @@
--- `replay MODEL TRACE`: the replay of the run of a trace (this project's profile).
+-- `replay MODEL TRACE`: the replay of the run of a trace.
 use Rattle.std.specs.Prelude.{◌≡◌, ◌⊎◌, ℕ, List, [], ◌++◌, slice_index_or, codes, decimal}
 use Rattle.cl_text.specs.Line.{line}
 use Rattle.cl_model.specs.declared.model.SystemModel.{SystemModel}
@@ -12,9 +12,10 @@ use Rattle.cl_check.specs.declared.run_fault.Rule.TheVariants.{Arrival, Release,
 use Rattle.cl_check.specs.declared.run_fault.RunFault.TheVariants.{Illegal}
 use Rattle.cl_check.specs.Legality.{IsFirstBroken}
 use Rattle.cl_replay.specs.Replay.{IsReplayOf}
-use Rattle.cl_trace.specs.Rules.{IsTraceOf, IsBadLine}
+use Rattle.cl_trace.specs.Rules.{IsTraceOf, IsBadTraceLine}
 use Rattle.cl_top.specs.declared.outcome.Outcome.{Outcome}
-use Rattle.cl_top.specs.declared.status.TheConstants.{DONE, TRACE_REFUSED}
+use Rattle.cl_top.specs.declared.status.TheConstants.{TRACE_REFUSED}
+use Rattle.cl_top.specs.Done.{IsDone}
 
 -- ---- a trace without a run
 
@@ -56,8 +57,7 @@ pub record IsIllegal (model : SystemModel) (run : Run) (found : Outcome) : Type 
 -- its replay
 pub record IsReplayed (model : SystemModel) (run : Run) (found : Outcome) : Type 0 where
   pub legal : IsLegal (system_of model) run
-  pub done : found.status ≡ DONE
-  pub replay : IsReplayOf model run found.text
+  pub outcome : IsDone (IsReplayOf model run) found
 
 -- ---- the outcome
 
@@ -72,11 +72,11 @@ pub record HasRun (model : SystemModel) (text : List ℕ) (found : Outcome) : Ty
   pub of_run : IsOfRun model run found
 
 -- the text is no trace
-pub record HasBadLine (model : SystemModel) (text : List ℕ) (found : Outcome) : Type 0 where
+pub record HasBadTraceLine (model : SystemModel) (text : List ℕ) (found : Outcome) : Type 0 where
   pub number : ℕ
-  pub bad : IsBadLine model text number
+  pub bad : IsBadTraceLine model text number
   pub printed : found ≡ trace_refused number
 
 -- the outcome of a text, for a valid model
 abbrev pub IsOfTrace : SystemModel → (text : List ℕ) → Outcome → Type 0
-IsOfTrace model text found = HasRun model text found ⊎ HasBadLine model text found
+IsOfTrace model text found = HasRun model text found ⊎ HasBadTraceLine model text found

@@ -1,4 +1,4 @@
--- `simulate MODEL TICKS SEED`: the trace of a drawn run (this project's profile).
+-- `simulate MODEL TICKS SEED`: the trace of a drawn run.
 use Rattle.std.specs.Prelude.{◌≡◌, ℕ, ◌<◌, ◌≤◌, ◌++◌, codes, decimal}
 use Rattle.cl_text.specs.Line.{line}
 use Rattle.cl_model.specs.declared.model.SystemModel.{SystemModel}

@@ -6,7 +6,8 @@ use Rattle.cl_edit.specs.declared.edit.Edit.{Edit}
 use Rattle.cl_edit.specs.Edited.{edited}
 use Rattle.cl_incr.specs.Changed.{AsksForChanges}
 use Rattle.cl_top.specs.Commands.Edit.{IsWrittenBy}
-use Rattle.cl_top.specs.Steps.{model_steps, AskForChanges}
+use Rattle.cl_top.specs.OfModel.{model_steps}
+use Rattle.cl_top.specs.Steps.{AskForChanges}
 
 -- an edit was made: the model is the edited one, and what the edit has written stands behind the text
 pub record IsMade (old : SystemModel) (edit : Edit) (new : SystemModel) (before after : List ℕ) : Type 0 where

@@ -1,7 +1,8 @@
 ghost use Rattle.std.specs.Prelude.{◌+◌, ◌*◌, ◌≤◌, length, IfOk};
-ghost use Rattle.cl_top.specs.Commands.Analyse.{IsAnalysed};
+ghost use Rattle.cl_report.specs.Report.{IsReportOf};
+ghost use Rattle.cl_top.specs.Done.{IsDone};
 
-use crate::{Outcome, status};
+use crate::Outcome;
 use cl_analyse::analyse;
 use cl_model::ValidModel;
 use cl_report::report;
@@ -16,13 +17,10 @@ pub(crate) fn analysed<L: Ledger>(
     model: &ValidModel,
     steps: &mut Steps<L>,
 ) -> Result<Outcome, NoMemory>
-    ensures outcome { IfOk result (IsAnalysed model.now) }
+    ensures outcome { IfOk result (IsDone (IsReportOf model.now)) }
     ensures steps { steps.new ≤ steps.old + (length model.now.tasks + 2 * length model.now.chains) }
 {
     let findings = analyse(alloc, model, steps)?;
     let text = report(alloc, model, &findings)?;
-    Ok(Outcome {
-        status: status::DONE,
-        text,
-    })
+    Ok(Outcome::done(text))
 }

@@ -45,7 +45,7 @@ fn report_edited<L: Ledger>(
     steps: &mut Steps<L>,
 ) -> Result<Outcome, NoMemory>
     requires { All IsEditInRange edits.now }
-    ensures outcome { IfOk result (AreEditedTo edits.now 2 model) }
+    ensures outcome { IfOk result (AreEditedTo model edits.now) }
     ensures steps { HaveAsked edits.now model steps.old steps.new }
 {
     let session = Session::start(alloc, model, steps)?;
@@ -60,7 +60,7 @@ fn report_on<L: Ledger>(
     steps: &mut Steps<L>,
 ) -> Result<Outcome, NoMemory>
     requires { All IsEditInRange edits.now }
-    ensures outcome { IfOk result (AreEditedTo edits.now 2 session.model) }
+    ensures outcome { IfOk result (AreEditedTo session.model edits.now) }
     ensures steps { AskForChanges edits.now session.model steps.old steps.new }
 {
     let mut session = session;
@@ -70,10 +70,7 @@ fn report_on<L: Ledger>(
             return stopped(alloc, text, place as u64 + 2, fault);
         }
     }
-    Ok(Outcome {
-        status: status::DONE,
-        text,
-    })
+    Ok(Outcome::done(text))
 }
 
 /// Makes an edit of the session's model, and puts its report for a report line.
@@ -113,8 +110,8 @@ fn put_reported(
     }
 }
 
-/// What comes of edits where one of them, in the line of a number, can't be made: the text so far, and behind it the
-/// refusal of that line.
+/// The outcome of edits of which the one in the line of a number isn't made: where it is refused, the text so far, and
+/// behind it the refusal of that line.
 fn stopped(alloc: Global, text: Text, number: u64, fault: ModelFault) -> Result<Outcome, NoMemory>
     ensures { IfOk result (λ outcome. (refusal : Refusal) × (fault ≡ ModelFault.Refused refusal) × (outcome ≡ behind text (edits_refused number refusal))) }
 {

@@ -67,10 +67,7 @@ fn replay_legal<L: Ledger>(
 {
     let findings = analyse(alloc, model, steps)?;
     let text = replay(alloc, model, &findings, run)?;
-    Ok(Outcome {
-        status: status::DONE,
-        text,
-    })
+    Ok(Outcome::done(text))
 }
 
 /// The first bad line of a text.

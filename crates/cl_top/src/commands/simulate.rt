@@ -5,7 +5,7 @@ ghost use Rattle.cl_runs.specs.Table.{IsLawful};
 ghost use Rattle.cl_top.specs.Commands.Simulate.{IsSimulated};
 ghost use Rattle.cl_top.specs.Inner.Traced.{IsTraceOfTable};
 
-use crate::{Outcome, status};
+use crate::Outcome;
 use cl_gen::{DrawFault, draw_table};
 use cl_model::ValidModel;
 use cl_runs::JobTable;
@@ -37,8 +37,5 @@ fn traced(alloc: Global, model: &ValidModel, table: JobTable) -> Result<Outcome,
 {
     let run = cl_sched::simulate(alloc, model, table)?;
     let text = cl_trace::write_trace(alloc, model, &run)?;
-    Ok(Outcome {
-        status: status::DONE,
-        text,
-    })
+    Ok(Outcome::done(text))
 }

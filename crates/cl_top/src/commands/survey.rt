@@ -1,9 +1,10 @@
 ghost use Rattle.std.specs.Prelude.{◌+◌, ◌*◌, ◌≤◌, length, Ok, IfOk};
 ghost use Rattle.cl_gen.specs.Generated.{generated};
-ghost use Rattle.cl_top.specs.Commands.Survey.{IsSurveyed};
-ghost use Rattle.cl_top.specs.Steps.{model_steps};
+ghost use Rattle.cl_report.specs.Survey.{IsSurveyOf};
+ghost use Rattle.cl_top.specs.Done.{IsDone};
+ghost use Rattle.cl_top.specs.OfModel.{model_steps};
 
-use crate::{Outcome, status};
+use crate::Outcome;
 use cl_analyse::analyse;
 use cl_gen::generate;
 use cl_model::{MOST_TASKS, ValidModel};
@@ -22,7 +23,7 @@ pub(crate) fn surveyed<L: Ledger>(
 ) -> Result<Outcome, NoMemory>
     requires some { 1 ≤ tasks }
     requires few { tasks ≤ MOST_TASKS }
-    ensures outcome { IfOk result (IsSurveyed (generated seed tasks)) }
+    ensures outcome { IfOk result (IsDone (IsSurveyOf (generated seed tasks))) }
     ensures steps { steps.new ≤ steps.old + model_steps (Ok (generated seed tasks)) }
 {
     let model = generate(alloc, seed, tasks)?;
@@ -38,13 +39,10 @@ fn survey_of<L: Ledger>(
     model: &ValidModel,
     steps: &mut Steps<L>,
 ) -> Result<Outcome, NoMemory>
-    ensures outcome { IfOk result (IsSurveyed model.now) }
+    ensures outcome { IfOk result (IsDone (IsSurveyOf model.now)) }
     ensures steps { steps.new ≤ steps.old + (length model.now.tasks + 2 * length model.now.chains) }
 {
     let findings = analyse(alloc, model, steps)?;
     let text = survey_text(alloc, model, &findings)?;
-    Ok(Outcome {
-        status: status::DONE,
-        text,
-    })
+    Ok(Outcome::done(text))
 }

@@ -1,13 +1,20 @@
 //! The numbers that the documents name: statuses and limits.
 ghost use Rattle.std.specs.Prelude.{◌≡◌};
+ghost use Rattle.cl_edit.specs.declared.limits.TheConstants.{MOST_EDITS, MOST_REPORTS};
+ghost use Rattle.cl_exact.specs.declared.limit.TheConstants.{MOST_FIRST_JOBS};
+ghost use Rattle.cl_gen.specs.declared.limits.TheConstants.{MOST_RUN_TICKS, MOST_EXECUTIONS};
 ghost use Rattle.cl_model.specs.declared.limits.TheConstants.{MOST_TICKS, MOST_REQUIRED, MOST_PRIORITY, MOST_DISTANCES};
+ghost use Rattle.cl_model.specs.declared.limits.TheConstants.{LEAST_JOBS_OF_BURST, MOST_JOBS_OF_BURST};
 ghost use Rattle.cl_model.specs.declared.limits.TheConstants.{MOST_CORES, MOST_STIMULI, MOST_LABELS, MOST_TASKS, MOST_TASKS_OF_CORE};
 ghost use Rattle.cl_model.specs.declared.limits.TheConstants.{MOST_RUNNABLES, MOST_RUNNABLES_OF_MODEL, MOST_ACCESSES};
 ghost use Rattle.cl_model.specs.declared.limits.TheConstants.{MOST_CHAINS, MOST_STEPS, MOST_HOPS, MOST_REQUIREMENTS};
+ghost use Rattle.cl_model.specs.declared.name.TheConstants.{LONGEST_NAME};
+ghost use Rattle.cl_trace.specs.declared.limits.TheConstants.{MOST_TRACE_TICKS, MOST_TRACE_NUMBER};
+ghost use Rattle.cl_tune.specs.declared.percent.TheConstants.{MOST_PERCENT};
 
 use crate::status::{
-    ARGUMENT_NOT_TEXT, DONE, LONG_FILE, MODEL_REFUSED, NO_MEMORY, READ_FAULT, TRACE_REFUSED,
-    WORDS_REFUSED, WRITE_FAULT,
+    ARGUMENT_NOT_TEXT, DONE, EDITS_REFUSED, LONG_FILE, MODEL_REFUSED, NO_MEMORY, READ_FAULT,
+    SIMULATION_REFUSED, TRACE_REFUSED, WORDS_REFUSED, WRITE_FAULT,
 };
 use crate::{FILE_LIMIT, TRACE_LIMIT};
 
@@ -19,12 +26,14 @@ pub fn statuses()
     ensures long_file { LONG_FILE ≡ 4 }
     ensures model_refused { MODEL_REFUSED ≡ 5 }
     ensures trace_refused { TRACE_REFUSED ≡ 6 }
+    ensures edits_refused { EDITS_REFUSED ≡ 7 }
+    ensures simulation_refused { SIMULATION_REFUSED ≡ 8 }
     ensures write_fault { WRITE_FAULT ≡ 9 }
     ensures no_memory { NO_MEMORY ≡ 10 }
     ensures argument_not_text { ARGUMENT_NOT_TEXT ≡ 12 }
 {}
 
-/// The most bytes of a model file and of a trace file.
+/// The most bytes of a model file or a list of edits, and of a trace file.
 pub fn limits_of_files()
     ensures model { FILE_LIMIT ≡ 16777216 }
     ensures trace { TRACE_LIMIT ≡ 268435456 }
@@ -36,6 +45,9 @@ pub fn limits_of_numbers()
     ensures required { MOST_REQUIRED ≡ 1000000000000000 }
     ensures priority { MOST_PRIORITY ≡ 1000000 }
     ensures distances { MOST_DISTANCES ≡ 1000000 }
+    ensures least_jobs_of_burst { LEAST_JOBS_OF_BURST ≡ 2 }
+    ensures jobs_of_burst { MOST_JOBS_OF_BURST ≡ 1000000 }
+    ensures name { LONGEST_NAME ≡ 64 }
 {}
 
 /// The greatest counts of the format.
@@ -52,4 +64,16 @@ pub fn limits_of_counts()
     ensures steps { MOST_STEPS ≡ 64 }
     ensures hops { MOST_HOPS ≡ 63 }
     ensures requirements { MOST_REQUIREMENTS ≡ 1024 }
+{}
+
+/// The limits of lists of edits, of simulations and traces, of exact lengths and of headroom.
+pub fn limits_of_commands()
+    ensures edits { MOST_EDITS ≡ 4096 }
+    ensures reports { MOST_REPORTS ≡ 64 }
+    ensures run_ticks { MOST_RUN_TICKS ≡ 1000000000 }
+    ensures executions { MOST_EXECUTIONS ≡ 800000 }
+    ensures trace_ticks { MOST_TRACE_TICKS ≡ 1000000000 }
+    ensures trace_number { MOST_TRACE_NUMBER ≡ 2000000000000 }
+    ensures first_jobs { MOST_FIRST_JOBS ≡ 1000000 }
+    ensures percent { MOST_PERCENT ≡ 1000 }
 {}

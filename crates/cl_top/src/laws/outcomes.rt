@@ -1,20 +1,23 @@
 //! Outcomes: there is one, and but one.
-ghost use Rattle.std.specs.Prelude.{◌≡◌, ◌↔◌, ℕ, List, Some, All};
+ghost use Rattle.std.specs.Prelude.{◌≡◌, ◌↔◌, ◌<◌, ℕ, List, [], Some, All, slice_index_or};
 ghost use Rattle.cl_model.specs.declared.model.SystemModel.{SystemModel};
 ghost use Rattle.cl_model.specs.Validity.{IsValid};
 ghost use Rattle.cl_edit.specs.declared.edit.Edit.{Edit};
+ghost use Rattle.cl_edit.specs.declared.edit.Edit.TheVariants.{Report};
 ghost use Rattle.cl_edit.specs.Ranges.{IsEditInRange};
 ghost use Rattle.cl_runs.specs.Run.{Run};
-ghost use Rattle.cl_top.specs.declared.command.Command.TheVariants.{Analyse, Replay};
+ghost use Rattle.cl_top.specs.declared.command.Command.TheVariants.{OfModel, Replay};
+ghost use Rattle.cl_top.specs.declared.command.OfModel.TheVariants.{Analyse};
 ghost use Rattle.cl_top.specs.declared.outcome.Outcome.{Outcome};
 ghost use Rattle.cl_top.specs.Command.{File, command_of};
-ghost use Rattle.cl_top.specs.Commands.Edit.{AreEditedTo};
+ghost use Rattle.cl_top.specs.Commands.Edit.{AreAccepted};
 ghost use Rattle.cl_top.specs.Commands.Replay.{IsOfRun};
 ghost use Rattle.cl_top.specs.Files.{Fetched, EachFile, WasFetched, told_fetch};
+ghost use Rattle.cl_top.specs.Headline.{IsSafePiece};
 ghost use Rattle.cl_top.specs.Migrated.{IsMigratedFile};
 ghost use Rattle.cl_top.specs.declared.status.TheConstants.{DONE};
 ghost use Rattle.cl_top.specs.Outcome.{HasOutcome, SaysTheSame};
-ghost use Rattle.cl_top.specs.Reported.{IsReportLine, IsAnalysisOf, HasPart};
+ghost use Rattle.cl_top.specs.Reported.{IsAnalysisAfter};
 ghost use Rattle.cl_top.specs.Simulated.{IsSimulatedFile};
 
 /// Words whose files were all fetched have an outcome.
@@ -40,15 +43,23 @@ pub fn runs_are_answered_in_one_way()
 #[tactic(auto, using(crate::proofs::AnalysedAlike::analysed_alike))]
 pub fn migrated_files_are_analysed_alike()
     ensures { (contents migrated : ℕ → List ℕ) (found : Outcome) → IsMigratedFile contents migrated
-        → HasOutcome (Some Analyse) (told_fetch contents) found ↔ HasOutcome (Some Analyse) (told_fetch migrated) found }
+        → HasOutcome (Some (OfModel Analyse)) (told_fetch contents) found ↔ HasOutcome (Some (OfModel Analyse)) (told_fetch migrated) found }
 {}
 
-/// Each report line of a list of edits in range, before the first edit that is refused, has written what `analyse` writes for
-/// a file of the model as it is edited so far.
+/// Of a list of edits in range, so many are accepted, and the text is the pieces that they have written, joined, with
+/// nothing or one refusal behind them (`AreEditedTo`). The piece of each report line is what `analyse` writes for a file
+/// of the model after the edits above it.
 pub fn reports_of_edits_are_analyses()
-    ensures { (model changed : SystemModel) (edits : List Edit) (place number : ℕ) (found : Outcome) → IsValid model
-        → All IsEditInRange edits → AreEditedTo edits number model found → IsReportLine model edits place changed
-        → HasPart found.text (IsAnalysisOf changed) }
+    ensures { (model made : SystemModel) (edits : List Edit) (count : ℕ) (pieces : List (List ℕ)) → IsValid model
+        → All IsEditInRange edits → AreAccepted model edits count pieces made → (place : ℕ) → place < count
+        → slice_index_or edits place Report ≡ Report → IsAnalysisAfter model edits place (slice_index_or pieces place []) }
+{}
+
+/// And it is a safe report of that model, whether or not an edit is refused behind it.
+pub fn reports_of_edits_are_safe()
+    ensures { (model made : SystemModel) (edits : List Edit) (count : ℕ) (pieces : List (List ℕ)) → IsValid model
+        → All IsEditInRange edits → AreAccepted model edits count pieces made → (place : ℕ) → place < count
+        → slice_index_or edits place Report ≡ Report → IsSafePiece model edits place (slice_index_or pieces place []) }
 {}
 
 /// A file that holds what `simulate` made of the model file can be replayed with it: it is within the limit of a trace

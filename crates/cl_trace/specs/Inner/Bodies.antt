@@ -1,6 +1,7 @@
 -- What the reading of the parts of a trace answers.
 use Rattle.std.specs.Prelude.{◌≡◌, ◌≢◌, ℕ, ◌<◌, ◌≤◌, List, [], ◌∷◌, ◌++◌, ◌+◌, ◌-◌, replicate, Option, Some, None, length, map, slice_index_or, slice_set, All}
 use Rattle.std.specs.List.{flat_map, range_with_len}
+use Rattle.cl_text.specs.Standing.{NoneStands}
 use Rattle.cl_model.specs.declared.model.SystemModel.{SystemModel}
 use Rattle.cl_model.specs.ByNumber.{core_of}
 use Rattle.cl_runs.specs.declared.job.Job.{Job}
@@ -15,7 +16,7 @@ use Rattle.cl_trace.specs.Rules.{IsJobOf, IsAboveRun}
 pub record AreJobsOf (model : SystemModel) (task : ℕ) (text : List ℕ) (jobs : List Job) (rest : List ℕ) : Type 0 where
   pub of_task : All (IsJobOf model task) jobs
   pub parts : text ≡ text_of model (map (JobOf task) jobs) ++ rest
-  pub none_left : (job : Job) (after : List ℕ) → IsJobOf model task job → rest ≢ item_text model (JobOf task job) ++ after
+  pub none_left : NoneStands (λ job. item_text model (JobOf task job)) (IsJobOf model task) rest
 
 -- the jobs of the first tasks
 abbrev pub jobs_in : List (List Job) → (task : ℕ) → List Job
@@ -47,16 +48,16 @@ pub record FitsEntries (model : SystemModel) (core : ℕ) (entries : List (Optio
 abbrev pub idle_up_to : List (Option ℕ) → (from : ℕ) → List (Option ℕ)
 idle_up_to entries from = entries ++ replicate (from - length entries) None
 
-abbrev pub appended : List (Option ℕ) → (task from to : ℕ) → List (Option ℕ)
-appended entries task from to = idle_up_to entries from ++ replicate (to - from) (Some task)
+abbrev pub entries_appended : List (Option ℕ) → (task from to : ℕ) → List (Option ℕ)
+entries_appended entries task from to = idle_up_to entries from ++ replicate (to - from) (Some task)
 
 -- no run line stands next, of a core below one, that may stand below these
 abbrev pub NoRunLeft : SystemModel → (ticks cores : ℕ) → List Item → (rest : List ℕ) → Type 0
 NoRunLeft model ticks cores items rest = (task from to : ℕ) (after : List ℕ) → IsStretchWithin model ticks task from to → core_of model task < cores
     → All (IsAboveRun model task from) items → rest ≢ item_text model (Runs task from to) ++ after
 
--- entries of a core that the lines which a text begins with have given so far, and what follows them; the last of them is
--- of a task
+-- entries of a core that the lines which a text begins with have given so far, and what follows them; the last of them
+-- is of a task
 pub record AreEntriesOf (model : SystemModel) (ticks core : ℕ) (text : List ℕ) (entries : List (Option ℕ)) (rest : List ℕ) : Type 0 where
   pub in_time : length entries ≤ ticks
   pub of_core : All (IsEntryOf (system_of model) core) entries
@@ -91,7 +92,7 @@ pub record IsBody (model : SystemModel) (ticks : ℕ) (text : List ℕ) (run : R
   pub runs : AreCores model ticks (length model.cores) between run rest
 
 -- the two first lines, the job lines and the run lines of a run, as many as a text begins with, and what follows them
-pub record IsReadUpTo (model : SystemModel) (text : List ℕ) (run : Run) (rest : List ℕ) : Type 0 where
+pub record IsReadSoFar (model : SystemModel) (text : List ℕ) (run : Run) (rest : List ℕ) : Type 0 where
   pub within : run.table.ticks ≤ MOST_TRACE_TICKS
   pub behind : List ℕ
   pub head : text ≡ text_of model (Title ∷ Ticks run.table.ticks ∷ []) ++ behind

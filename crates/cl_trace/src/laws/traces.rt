@@ -3,35 +3,39 @@ ghost use Rattle.std.specs.Prelude.{◌≡◌, ◌≤◌, ◌⊎◌, ℕ, List};
 ghost use Rattle.cl_model.specs.declared.model.SystemModel.{SystemModel};
 ghost use Rattle.cl_model.specs.AreNamed.{AreNamed};
 ghost use Rattle.cl_model.specs.Validity.{IsValid};
-ghost use Rattle.cl_runs.specs.Run.{Run};
+ghost use Rattle.cl_runs.specs.Run.{Run, IsInForm};
 ghost use Rattle.cl_runs.specs.SystemOf.{system_of};
 ghost use Rattle.cl_runs.specs.Legal.{IsLegal};
 ghost use Rattle.cl_trace.specs.declared.limits.TheConstants.{MOST_TRACE_TICKS};
 ghost use Rattle.cl_trace.specs.Trace.{spelled};
-ghost use Rattle.cl_trace.specs.Rules.{IsTraceOf, IsBadLine};
+ghost use Rattle.cl_trace.specs.Rules.{IsWithinLimits, IsTraceOf, IsBadTraceLine};
 
 /// What a legal run of a valid model spells is a trace of that run, where its ticks are few enough.
 pub fn legal_runs_have_traces()
-    ensures { (model : SystemModel) → IsValid model → (run : Run) → IsLegal (system_of model) run → run.table.ticks ≤ MOST_TRACE_TICKS
-        → IsTraceOf model (spelled model run) run }
+    ensures { (model : SystemModel) → IsValid model → (run : Run) → IsLegal (system_of model) run
+        → run.table.ticks ≤ MOST_TRACE_TICKS → IsTraceOf model (spelled model run) run }
 {}
 
 /// A text has one first bad line at most.
 pub fn bad_lines_are_unique()
-    ensures { (model : SystemModel) → IsValid model → AreNamed model → (text : List ℕ) (one other : ℕ) → IsBadLine model text one
-        → IsBadLine model text other → one ≡ other }
+    ensures { (model : SystemModel) → IsValid model → AreNamed model → (text : List ℕ) (one other : ℕ)
+        → IsBadTraceLine model text one → IsBadTraceLine model text other → one ≡ other }
 {}
 
-/// A text is the trace of one run at most, and then it has no bad line.
+/// A text is the trace of one run at most, and then it has no bad line. So two runs in form that are spelled alike, in
+/// a text that is read, are one run.
 pub fn texts_have_one_answer()
     ensures run { (model : SystemModel) → IsValid model → AreNamed model → (text : List ℕ) (one other : Run)
         → IsTraceOf model text one → IsTraceOf model text other → one ≡ other }
+    ensures spelled { (model : SystemModel) → IsValid model → AreNamed model → (one other : Run)
+        → IsInForm (system_of model) one → IsWithinLimits one → IsInForm (system_of model) other → IsWithinLimits other
+        → spelled model one ≡ spelled model other → one ≡ other }
     ensures no_bad_line { (model : SystemModel) → IsValid model → AreNamed model → (text : List ℕ) (run : Run) (line : ℕ)
-        → IsTraceOf model text run → IsBadLine model text line → ⊥ }
+        → IsTraceOf model text run → IsBadTraceLine model text line → ⊥ }
 {}
 
 /// And each text has an answer: it is the trace of a run, or it has a first bad line.
 pub fn texts_have_an_answer()
     ensures { (model : SystemModel) → IsValid model → AreNamed model → (text : List ℕ)
-        → ((run : Run) × IsTraceOf model text run) ⊎ ((line : ℕ) × IsBadLine model text line) }
+        → ((run : Run) × IsTraceOf model text run) ⊎ ((line : ℕ) × IsBadTraceLine model text line) }
 {}

@@ -1,4 +1,5 @@
--- How an order is filled from the lowest priority upward: by the first task that fits below all others that wait.
+-- How an order is filled from the lowest priority upward: by the first task that fits below all others without a place
+-- yet.
 use Rattle.std.specs.Prelude.{ℕ, zero, suc, Bool, not, ◌&&◌, ◌==◌, max, List, [], ◌∷◌, map, filter, find, is_some, Option, Some}
 use Rattle.std.specs.List.{list_all}
 use Rattle.std.specs.Option.{option_map, option_and_then}
@@ -27,18 +28,18 @@ question_below system block others task = record {
 abbrev pub spans_few : System → (others : List ℕ) → (task : ℕ) → Bool
 spans_few system others task = list_all (λ other. not (spans_too_many (timing_at system task).deadline (timing_at system other).pattern)) others
 
--- whether a task passes below the others that wait
+-- whether a task passes below the others
 abbrev pub fits_below : System → (block : ℕ) (others : List ℕ) → (task : ℕ) → Bool
 fits_below system block others task = spans_few system others task && is_some (response_to (question_below system block others task))
 
--- whether it does, where it waits itself
-abbrev pub fits : System → (block : ℕ) (waiting : List ℕ) → (task : ℕ) → Bool
-fits system block waiting task = fits_below system block (without task waiting) task
+-- whether an unplaced task passes below all other unplaced ones
+abbrev pub fits : System → (block : ℕ) (unplaced : List ℕ) → (task : ℕ) → Bool
+fits system block unplaced task = fits_below system block (without task unplaced) task
 
--- the best order of so many tasks that wait: the first that fits comes first, and then those of the others
-abbrev pub best_order : System → (count : ℕ) → (block : ℕ) (waiting : List ℕ) → Option (List ℕ)
-best_order system zero block waiting = Some []
-best_order system (suc count) block waiting =
+-- the best order of so many unplaced tasks: the first that fits comes first, and then those of the others
+abbrev pub best_order : System → (count : ℕ) → (block : ℕ) (unplaced : List ℕ) → Option (List ℕ)
+best_order system zero block unplaced = Some []
+best_order system (suc count) block unplaced =
     option_and_then (λ task. option_map (λ order. task ∷ order)
-    (best_order system count (max block (longest_hold (timing_at system task))) (without task waiting)))
-    (find (fits system block waiting) waiting)
+    (best_order system count (max block (longest_hold (timing_at system task))) (without task unplaced)))
+    (find (fits system block unplaced) unplaced)

@@ -1,4 +1,5 @@
--- The checks of chains and requirements over tables: the names of the runnables and of the chains, and what each runnable reads and writes.
+-- The checks of chains and requirements over tables: the names of the runnables and of the chains, and what each
+-- runnable reads and writes.
 use Rattle.std.specs.Prelude.{ℕ, List, [], Bool, ◌||◌, not, ◌∷◌, ◌+◌, slice_get, Option}
 use Rattle.std.specs.Option.{option_and_then}
 use Rattle.cl_model.specs.declared.chain.ChainDef.{ChainDef}

@@ -1,4 +1,5 @@
--- What checks keep for later ones: the names of a model, what its tasks take of their cores, and what its runnables read and write.
+-- What checks keep for later ones: the names of a model, what its tasks take of their cores, and what its runnables
+-- read and write.
 use Rattle.std.specs.Prelude.{ℕ, List, [], map}
 use Rattle.cl_model.specs.declared.model.SystemModel.{SystemModel}
 use Rattle.cl_model.specs.declared.task.RunnableDef.{RunnableDef}

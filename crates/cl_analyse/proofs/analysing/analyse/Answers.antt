@@ -10,4 +10,4 @@ returns-clause-findings g c = record {
 }
 
 pub returns-clause-safe : goal.returns-clause-safe
-returns-clause-safe g c = findings_safe c.args.model.now c.plain-plain.ensures.valid _ (returns-clause-findings g c)
+returns-clause-safe g c = findings_safe c.args.model.now c.in_ok-tasks.ensures.valid _ (returns-clause-findings g c)

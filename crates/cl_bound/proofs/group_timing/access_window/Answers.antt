@@ -1,29 +1,26 @@
 use Rattle.std.proofs.Common.{arith, ap, sym, ◌∙◌}
-use Rattle.std.proofs.lemmas.List.{get_or_default}
 use Rattle.cl_model.specs.declared.task.TaskDef.{TaskDef}
-use Rattle.cl_model.specs.ByNumber.{no_task}
 use Rattle.cl_runs.specs.TaskTiming.{Timing, timing_at}
 use Rattle.cl_runs.specs.SystemOf.{system_of}
 use Rattle.cl_comm.specs.Windows.{window_of}
-use Rattle.cl_runs.proofs.ModelSystem.{timing_is, system_sound}
-use Rattle.cl_bound.proofs.ModelGroups.{ranges_of_task}
+use Rattle.cl_runs.proofs.ModelSystem.{timing_is, range_count_is, system_sound}
 use Rattle.cl_bound.proofs.GroupWindows.{spot_fits, spot_in_time}
 use Rattle.cl_bound.proofs.group_timing.access_window.Goals as goal
 
 pub window-requires-clause-least_times : goal.window-requires-clause-least_times
 window-requires-clause-least_times c =
     let model = c.args.model.now in
-    rw c.spot_of.ensures (spot_fits (system_of model) (system_sound model c.plain.ensures.valid) c.args.task c.args.place c.args.response
-    c.requires.settled (omega (arith, c.requires.is_runnable, ranges_of_task model c.args.task c.requires.is_task)))
+    rw c.spot_of.ensures (spot_fits (system_of model) (system_sound model c.task.ensures.valid) c.args.task c.args.place c.args.response
+    c.requires.settled (omega (arith, c.requires.is_runnable, range_count_is model c.args.task c.requires.is_task)))
 
 pub window-requires-clause-in_time : goal.window-requires-clause-in_time
 window-requires-clause-in_time c =
     let model = c.args.model.now in
-    rw c.spot_of.ensures (spot_in_time (system_of model) (system_sound model c.plain.ensures.valid) c.args.task c.args.place c.args.response c.requires.settled)
+    rw c.spot_of.ensures (spot_in_time (system_of model) (system_sound model c.task.ensures.valid) c.args.task c.args.place c.args.response c.requires.settled)
 
 pub returns : goal.returns
 returns c =
-    let task = (rw (c.as_slice.ensures, c.plain.ensures.plain) at c.index-as_slice-task.is) ∙ get_or_default c.args.model.now.tasks c.args.task c.index-as_slice-task.result no_task c.requires.is_task in
-    let access = c.of.ensures ∙ ap (λ (t : TaskDef). t.access) (sym c.index-as_slice-task.is) ∙ ap (λ (t : TaskDef). t.access) task ∙ ap (λ (t : Timing). t.access) (sym (timing_is c.args.model.now c.args.task c.requires.is_task)) in
+    let access = c.of.ensures ∙ ap (λ (t : TaskDef). t.access) c.task.ensures.task
+    ∙ ap (λ (t : Timing). t.access) (sym (timing_is c.args.model.now c.args.task c.requires.is_task)) in
     c.window.ensures.window ∙ ap (λ kind. window_of kind c.spot_of.result c.args.response) access
     ∙ ap (λ spot. window_of (timing_at (system_of c.args.model.now) c.args.task).access spot c.args.response) c.spot_of.ensures

@@ -1,4 +1,4 @@
-use Rattle.std.proofs.Common.{◌<◌, length, arith}
+use Rattle.std.proofs.Common.{◌<◌, length}
 use Rattle.std.proofs.lemmas.Result.{IfOk-weaker}
 use Rattle.cl_model.specs.Groups.{groups_at}
 use Rattle.cl_runs.specs.SystemOf.{system_of}
@@ -9,14 +9,14 @@ use Rattle.cl_chain.proofs.measuring.measure.Goals as goal
 
 pub measured_over-requires : goal.measured_over-requires
 measured_over-requires c =
-    let some : 0 < length (groups_at c.args.model.now c.args.chain) = omega arith in
+    let some : 0 < length (groups_at c.args.model.now c.args.chain) = c.in_ok-groups.ensures.some in
     let tables : AreTables (system_of c.args.model.now) c.args.run.now (groups_at c.args.model.now c.args.chain) c.as_slice.result.now
-    = rw c.as_slice.ensures c.in_ok-groups.ensures in
-    tables_ordered c.args.model.now c.plain-valid.ensures.valid c.args.run.now c.requires.legal c.args.chain some c.as_slice.result.now tables
+    = rw c.as_slice.ensures c.in_ok-groups.ensures.tables in
+    tables_ordered c.args.model.now c.in_ok-groups.ensures.valid c.args.run.now c.requires.legal c.args.chain some c.as_slice.result.now tables
 
 pub returns : goal.returns
 returns c =
-    let some : 0 < length (groups_at c.args.model.now c.args.chain) = omega arith in
+    let some : 0 < length (groups_at c.args.model.now c.args.chain) = c.in_ok-groups.ensures.some in
     let tables : AreTables (system_of c.args.model.now) c.args.run.now (groups_at c.args.model.now c.args.chain) c.as_slice.result.now
-    = rw c.as_slice.ensures c.in_ok-groups.ensures in
-    IfOk-weaker c.measured_over.result _ _ (λ measured. measured_answer c.args.model.now c.plain-valid.ensures.valid c.args.run.now c.requires.legal c.args.chain some c.as_slice.result.now tables (measured_of measured)) c.measured_over.ensures
+    = rw c.as_slice.ensures c.in_ok-groups.ensures.tables in
+    IfOk-weaker c.measured_over.result _ _ (λ measured. measured_answer c.args.model.now c.in_ok-groups.ensures.valid c.args.run.now c.requires.legal c.args.chain some c.as_slice.result.now tables (measured_of measured)) c.measured_over.ensures

@@ -2,7 +2,7 @@ use Rattle.std.proofs.Common.{◌<◌, ◌-◌, ◌++◌, replicate, take, sym, 
 use Rattle.cl_runs.specs.declared.job.JobTable.{JobTable}
 use Rattle.cl_runs.specs.Run.{core_entries}
 use Rattle.cl_runs.specs.SystemOf.{system_of}
-use Rattle.cl_runs.proofs.ModelSystem.{system_sound, cores_are}
+use Rattle.cl_runs.proofs.ModelSystem.{cores_are}
 use Rattle.cl_sched.specs.CoreProgress.{IsReached}
 use Rattle.cl_check.proofs.FollowedRuns.{followed_further, lasts_further, breaks_there, entries_same, entries_differ}
 use Rattle.cl_check.proofs.schedule_check.follow.Goals as goal
@@ -11,7 +11,7 @@ pub next-next-requires-clause-underway : goal.next-next-requires-clause-underway
 next-next-requires-clause-underway c = record {
   system = system_of c.args.model.now;
   table = c.args.run.now.table;
-  sound = system_sound c.args.model.now c.plain-plain.ensures.valid;
+  sound = c.requires.sound;
   lawful = c.requires.lawful;
   is = record {
     core = c.args.core;
@@ -27,12 +27,12 @@ returns-then-ne c =
     let core = c.args.core in
     let next = c.next-next.result in
     let invariant = c.events.invariant in
-    let sound = system_sound c.args.model.now c.plain-plain.ensures.valid in
+    let sound = c.requires.sound in
     let on : core < system.cores = omega (arith, c.requires.core, cores_are c.args.model.now) in
     breaks_there system sound run core (c.requires.in_form.ticks core on) c.events.reached invariant.followed c.args.stretch invariant.lasts
     next.who next.until c.next-next.ensures.next.some c.next-next.ensures.within
-    (λ t after before. c.next-next.ensures.scheduled system run.table core (take c.events.reached.tick (core_entries run core)) sound c.requires.lawful
-    invariant.followed.reached_is t after before)
+    (c.next-next.ensures.scheduled system run.table core (take c.events.reached.tick (core_entries run core)) sound c.requires.lawful
+    invariant.followed.reached_is)
     (entries_differ next.who c.args.stretch.who c.ne.result c.ne.ensures c.if-ne.true)
 
 pub events-preserved : goal.events-preserved
@@ -44,8 +44,9 @@ events-preserved c =
     let reached = c.events.reached in
     let invariant = c.events.invariant in
     let entries = take reached.tick (core_entries run core) in
-    let sound = system_sound c.args.model.now c.plain-plain.ensures.valid in
+    let sound = c.requires.sound in
     let on : core < system.cores = omega (arith, c.requires.core, cores_are c.args.model.now) in
+    let scheduled = c.next-next.ensures.scheduled system run.table core entries sound c.requires.lawful invariant.followed.reached_is in
     let same = entries_same next.who c.args.stretch.who c.ne.result c.ne.ensures c.if-ne.false in
     let moved : IsReached system run.table core (entries ++ replicate (next.until - reached.tick) next.who) c.advance.new.self
     = subst (λ (t : JobTable). IsReached system t core (entries ++ replicate (next.until - reached.tick) next.who) c.advance.new.self) c.table.ensures
@@ -53,10 +54,10 @@ events-preserved c =
     record {
       followed = followed_further system sound run core (c.requires.in_form.ticks core on) reached invariant.followed c.args.stretch invariant.lasts
           next.who next.until c.next-next.ensures.next.some c.next-next.ensures.within
-          (λ t after before. c.next-next.ensures.scheduled system run.table core entries sound c.requires.lawful invariant.followed.reached_is t after before)
+          scheduled
           same c.advance.new.self c.advance.ensures.tick moved;
       lasts = lasts_further system sound run core (c.requires.in_form.ticks core on) reached invariant.followed c.args.stretch invariant.lasts
           next.who next.until c.next-next.ensures.next.some c.next-next.ensures.within
-          (λ t after before. c.next-next.ensures.scheduled system run.table core entries sound c.requires.lawful invariant.followed.reached_is t after before)
+          scheduled
           same c.advance.new.self c.advance.ensures.tick;
     }

@@ -14,4 +14,4 @@ loop-task-init c =
 pub loop-task-preserved : goal.loop-task-preserved
 loop-task-preserved c = c.loop-task.invariant
     ∙ fine_task (faults_of_task (system_of c.args.model.now) c.args.table.now) c.loop-task.task (length c.args.model.now.tasks)
-    (omega (arith, c.loop-task-test.true, c.tasks-task-end.ensures)) c.in_ok-check_task.ensures
+    (omega (arith, c.loop-task-test.true, c.tasks-task-end.ensures.count)) c.in_ok-check_task.ensures

@@ -1,15 +1,12 @@
-use Rattle.std.proofs.Common.{◌≡◌, List, get_or, map, sym, ap, ◌∙◌, subst, arith}
-use Rattle.std.proofs.lemmas.List.{get_or_default}
-use Rattle.cl_model.specs.declared.model.SystemModel.{SystemModel}
+use Rattle.std.proofs.Common.{◌≡◌, List, map, sym, ap, ◌∙◌, subst, arith}
 use Rattle.cl_model.specs.declared.stimulus.StimulusKind.{StimulusKind}
 use Rattle.cl_model.specs.declared.task.TaskDef.{TaskDef}
-use Rattle.cl_model.specs.ByNumber.{no_task, task_at}
 use Rattle.cl_runs.specs.declared.job.Job.{Job}
 use Rattle.cl_runs.specs.Pattern.{IsPattern}
 use Rattle.cl_runs.specs.Table.{table_jobs}
 use Rattle.cl_runs.specs.SystemOf.{range_of, system_of}
 use Rattle.cl_runs.specs.TaskTiming.{TimeRange, Timing, timing_at}
-use Rattle.cl_runs.proofs.ModelSystem.{timing_is, count_is, system_sound}
+use Rattle.cl_runs.proofs.ModelSystem.{timing_is, count_is, ranges_are, system_sound}
 use Rattle.cl_check.specs.Legality.{task_faults}
 use Rattle.cl_check.specs.Inner.Finding.{Finds}
 use Rattle.cl_check.proofs.table_check.check_task.Goals as goal
@@ -17,7 +14,7 @@ use Rattle.cl_check.proofs.table_check.check_task.Goals as goal
 pub check_jobs-requires : goal.check_jobs-requires
 check_jobs-requires c =
     let model = c.args.model.now in
-    let sound = system_sound model c.plain.ensures.valid in
+    let sound = system_sound model c.task.ensures.valid in
     let task = sound.tasks c.args.task (omega (arith, c.requires.task, count_is model)) in
     subst IsPattern (ap (λ (t : Timing). t.pattern) (timing_is model c.args.task c.requires.task) ∙ sym c.stimulus_of.ensures) task.pattern
 
@@ -26,20 +23,12 @@ returns c =
     let model = c.args.model.now in
     let i = c.args.task in
     let ticks = c.args.table.now.ticks in
-    let timing = timing_is model i c.requires.task in
     let pattern : c.stimulus_of.result ≡ (timing_at (system_of model) i).pattern
-    = c.stimulus_of.ensures ∙ sym (ap (λ (t : Timing). t.pattern) timing) in
-    let runnables : c.as_slice-runnables.result.now ≡ (task_at model i).runnables
-    = c.as_slice-runnables.ensures
-    ∙ ap (λ (tasks : List TaskDef). (get_or tasks i c.index-as_slice-task.result).runnables) (c.as_slice.ensures ∙ ap (λ (m : SystemModel). m.tasks) c.plain.ensures.plain)
-    ∙ ap (λ (t : TaskDef). t.runnables) (get_or_default model.tasks i c.index-as_slice-task.result no_task c.requires.task) in
+    = c.stimulus_of.ensures ∙ sym (ap (λ (t : Timing). t.pattern) (timing_is model i c.requires.task)) in
     let ranges : map range_of c.as_slice-runnables.result.now ≡ (timing_at (system_of model) i).ranges
-    = ap (map range_of) runnables ∙ sym (ap (λ (t : Timing). t.ranges) timing) in
-    let jobs : c.as_slice-jobs.result.now ≡ table_jobs c.args.table.now i
-    = c.as_slice-jobs.ensures ∙ c.index-as_slice-task-2.is
-    ∙ ap (λ (lists : List (List Job)). get_or lists i c.index-as_slice-task-2.result) c.as_slice-2.ensures
-    ∙ get_or_default c.args.table.now.jobs i c.index-as_slice-task-2.result _ c.requires.jobs in
+    = ap (map range_of) (c.as_slice-runnables.ensures ∙ ap (λ (t : TaskDef). t.runnables) c.task.ensures.task)
+    ∙ sym (ranges_are model i c.requires.task) in
     subst (λ (p : StimulusKind). Finds c.check_jobs.result (task_faults p (timing_at (system_of model) i).ranges ticks i (table_jobs c.args.table.now i))) pattern
     (subst (λ (rs : List TimeRange). Finds c.check_jobs.result (task_faults c.stimulus_of.result rs ticks i (table_jobs c.args.table.now i))) ranges
-    (subst (λ (js : List Job). Finds c.check_jobs.result (task_faults c.stimulus_of.result (map range_of c.as_slice-runnables.result.now) ticks i js)) jobs
-    c.check_jobs.ensures))
+    (subst (λ (js : List Job). Finds c.check_jobs.result (task_faults c.stimulus_of.result (map range_of c.as_slice-runnables.result.now) ticks i js))
+    c.jobs_of-jobs.ensures c.check_jobs.ensures))

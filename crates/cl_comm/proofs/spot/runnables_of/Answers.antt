@@ -5,4 +5,4 @@ use Rattle.cl_comm.proofs.spot.runnables_of.Goals as goal
 
 pub returns-clause-fits : goal.returns-clause-fits
 returns-clause-fits c =
-    least_sum_fits c.args.model.now c.plain.ensures.valid c.args.task c.requires c.as_slice-2.result.now (grind (arith, common_steps))
+    least_sum_fits c.args.model.now c.task.ensures.valid c.args.task c.requires c.as_slice.result.now (grind (arith, common_steps))

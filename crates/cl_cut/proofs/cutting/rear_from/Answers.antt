@@ -10,7 +10,7 @@ best_from-requires-clause-values g c =
     let groups = c.args.groups.now in
     let system = system_of c.args.model.now in
     let first : ℕ = length groups - 1 - length c.args.rears.now in
-    values_some system groups (groups_positive c.args.model.now c.plain-plain.ensures.valid groups c.requires.groups) first c.as_slice.result.now
+    values_some system groups (groups_positive c.args.model.now c.requires.valid groups c.requires.groups) first c.as_slice.result.now
     (subst (λ (list : List ℕ). AreValuesFrom system groups first list) (sym c.as_slice.ensures.value) c.in_ok-values.ensures)
 
 pub returns-clause-best : goal.returns-clause-best
@@ -20,5 +20,5 @@ returns-clause-best g c =
     let first : ℕ = length groups - 1 - length c.args.rears.now in
     let known = subst (λ (list : List ℕ). AreValuesFrom system groups first list) (sym c.as_slice.ensures.value) c.in_ok-values.ensures in
     IfOk-weaker c.best_from.result _ _
-    (λ rear best. best system groups (groups_positive c.args.model.now c.plain-plain.ensures.valid groups c.requires.groups) known c.requires.rears)
+    (λ rear best. best system groups (groups_positive c.args.model.now c.requires.valid groups c.requires.groups) known c.requires.rears)
     c.best_from.ensures.best

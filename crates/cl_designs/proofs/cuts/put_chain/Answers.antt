@@ -13,7 +13,7 @@ put_cut-requires c =
     let model = c.args.model.now in
     let answers = c.args.answers.now in
     let found = answer_found model answers c.requires.answers c.args.chain c.requires.within c.index-answers-chain.result c.index-answers-chain.is in
-    λ late named. late_within model answers c.requires.answers c.args.chain c.requires.within c.plain-plain.ensures.valid late (sym found ∙ named)
+    λ late named. late_within model answers c.requires.answers c.args.chain c.requires.within c.chain.ensures.valid late (sym found ∙ named)
 
 pub returns : goal.returns
 unfolding cut_line

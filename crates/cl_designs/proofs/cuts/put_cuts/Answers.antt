@@ -1,5 +1,5 @@
 use Rattle.cl_designs.specs.Cuts.{cut_line}
-use Rattle.cl_designs.proofs.DesignLines.{line_more}
+use Rattle.cl_text.proofs.MoreLines.{line_more}
 use Rattle.cl_designs.proofs.cuts.put_cuts.Goals as goal
 
 pub loop-chain-preserved : goal.loop-chain-preserved

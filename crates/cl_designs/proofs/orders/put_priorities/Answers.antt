@@ -1,5 +1,5 @@
 use Rattle.cl_designs.specs.Orders.{priority_line}
-use Rattle.cl_designs.proofs.DesignLines.{line_more}
+use Rattle.cl_text.proofs.MoreLines.{line_more}
 use Rattle.cl_designs.proofs.orders.put_priorities.Goals as goal
 
 pub loop-task-preserved : goal.loop-task-preserved

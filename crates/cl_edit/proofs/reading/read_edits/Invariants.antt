@@ -1,5 +1,5 @@
 use Rattle.std.proofs.Common.{◌≡◌, ◌++◌, length}
-use Rattle.cl_edit.specs.Lines.{title_line, lines_of}
+use Rattle.cl_edit.specs.Lines.{title_line, edit_lines}
 use Rattle.cl_edit.specs.Reading.{MayBeListed}
 use Rattle.cl_edit.proofs.Listings.{reports_in}
 use Rattle.cl_edit.proofs.reading.read_edits.Given as goal
@@ -8,7 +8,7 @@ use Rattle.cl_edit.proofs.reading.read_edits.Given as goal
 abbrev pub invariant-loop-left : goal.invariant-loop-left
 invariant-loop-left l = record {
   listed : MayBeListed l.edits;
-  parts : l.text ≡ title_line ++ lines_of l.edits ++ l.left;
+  parts : l.text ≡ title_line ++ edit_lines l.edits ++ l.left;
   reports_are : l.reports ≡ reports_in l.edits;
 }
 

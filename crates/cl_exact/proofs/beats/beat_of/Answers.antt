@@ -1,8 +1,7 @@
 use Rattle.std.proofs.Common.{ap, sym, ◌∙◌}
-use Rattle.std.proofs.lemmas.List.{get_or_default}
-use Rattle.cl_model.specs.ByNumber.{no_task, stimulus_of}
+use Rattle.cl_model.specs.ByNumber.{stimulus_of}
 use Rattle.cl_model.specs.Timing.{deadline_under}
-use Rattle.cl_exact.specs.TimedPeriodic.{is_periodic}
+use Rattle.cl_model.specs.Kinds.{is_periodic}
 use Rattle.cl_exact.proofs.ModelBeats.{is_of_period, periodic_kind, beat_is_of, beat_in_range}
 use Rattle.cl_exact.proofs.beats.beat_of.Goals as goal
 
@@ -13,19 +12,15 @@ unreachable-requires c = periodic_kind c.stimulus_of-kind.result
 
 pub returns-clause-of : goal.returns-clause-of
 returns-clause-of c =
-    let task = (rw (c.as_slice.ensures, c.plain.ensures.plain) at c.index-as_slice-task.is)
-    ∙ get_or_default c.args.model.now.tasks c.args.task c.index-as_slice-task.result no_task c.requires.is_task in
     beat_is_of c.args.model.now c.args.task c.in-Periodic.period c.in-Periodic.offset c.in-Periodic.jitter c.deadline_under-deadline.result c.requires.is_task
     (sym c.stimulus_of-kind.ensures ∙ c.in-Periodic.is)
-    (c.deadline_under-deadline.ensures ∙ ap (λ kind. deadline_under kind c.index-as_slice-task.result) c.stimulus_of-kind.ensures
-    ∙ ap (deadline_under (stimulus_of c.args.model.now c.args.task)) task)
+    (c.deadline_under-deadline.ensures ∙ ap (λ kind. deadline_under kind c.task.result.now) c.stimulus_of-kind.ensures
+    ∙ ap (deadline_under (stimulus_of c.args.model.now c.args.task)) c.task.ensures.task)
 
 pub returns-clause-beat : goal.returns-clause-beat
 returns-clause-beat c =
-    let task = (rw (c.as_slice.ensures, c.plain.ensures.plain) at c.index-as_slice-task.is)
-    ∙ get_or_default c.args.model.now.tasks c.args.task c.index-as_slice-task.result no_task c.requires.is_task in
-    beat_in_range c.args.model.now c.plain.ensures.valid c.args.task c.in-Periodic.period c.in-Periodic.offset c.in-Periodic.jitter
+    beat_in_range c.args.model.now c.task.ensures.valid c.args.task c.in-Periodic.period c.in-Periodic.offset c.in-Periodic.jitter
     c.deadline_under-deadline.result c.requires.is_task
     (sym c.stimulus_of-kind.ensures ∙ c.in-Periodic.is)
-    (c.deadline_under-deadline.ensures ∙ ap (λ kind. deadline_under kind c.index-as_slice-task.result) c.stimulus_of-kind.ensures
-    ∙ ap (deadline_under (stimulus_of c.args.model.now c.args.task)) task)
+    (c.deadline_under-deadline.ensures ∙ ap (λ kind. deadline_under kind c.task.result.now) c.stimulus_of-kind.ensures
+    ∙ ap (deadline_under (stimulus_of c.args.model.now c.args.task)) c.task.ensures.task)

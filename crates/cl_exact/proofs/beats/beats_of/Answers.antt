@@ -14,16 +14,19 @@ beat_of-requires-clause-periodic c =
 
 pub push-requires : goal.push-requires
 push-requires c =
-    let few : length c.loop-group.beats.items < 64 = omega (arith, c.loop-group.invariant.as_many, c.loop-group-test.true, c.requires.few) in
+    let few : length c.loop-group.beats.items < 64 = omega (arith, c.loop-group.invariant.beats.as_many, c.loop-group-test.true, c.requires.few) in
     (omega arith, few)
 
 pub loop-group-preserved : goal.loop-group-preserved
 unfolding no_group
 loop-group-preserved c =
     let system = system_of c.args.model.now in
-    subst (AreFirstBeats system c.args.groups.now (c.loop-group.group-index + 1)) (sym c.push.ensures.items)
-    (beats_more system c.args.groups.now c.loop-group.group-index c.loop-group.beats.items c.beat_of.result c.loop-group.invariant
-    c.beat_of.ensures.of c.beat_of.ensures.beat)
+    record {
+      beats = subst (AreFirstBeats system c.args.groups.now (c.loop-group.group-index + 1)) (sym c.push.ensures.items)
+          (beats_more system c.args.groups.now c.loop-group.group-index c.loop-group.beats.items c.beat_of.result c.loop-group.invariant.beats
+          c.beat_of.ensures.of c.beat_of.ensures.beat);
+      valid = λ _. c.beat_of.ensures.valid;
+    }
 
 pub returns-clause-of : goal.returns-clause-of
 returns-clause-of c =
@@ -31,4 +34,7 @@ returns-clause-of c =
     let groups = c.args.groups.now in
     let all : c.loop-group.group-index ≡ length groups = omega (arith, c.loop-group-test.false, c.loop-group.auto.group-index-end) in
     all_beats system groups c.requires.some c.requires.few c.loop-group.beats.items
-    (subst (λ count. AreFirstBeats system groups count c.loop-group.beats.items) all c.loop-group.invariant)
+    (subst (λ count. AreFirstBeats system groups count c.loop-group.beats.items) all c.loop-group.invariant.beats)
+
+pub returns-clause-valid : goal.returns-clause-valid
+returns-clause-valid c = c.loop-group.invariant.valid (omega (arith, c.requires.some, c.loop-group-test.false))

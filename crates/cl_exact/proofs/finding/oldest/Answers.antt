@@ -4,7 +4,7 @@ use Rattle.cl_exact.specs.declared.beat.Beat.{Beat}
 use Rattle.cl_exact.specs.Inner.Beats.{AreBeats, beat_in, read_at, forward_job}
 use Rattle.cl_exact.specs.Inner.Blocks.{EARLY}
 use Rattle.cl_exact.specs.Inner.Scans.{IsFirstWith}
-use Rattle.cl_exact.specs.Inner.Walks.{AreForwardJobs, AreBackwardJobs}
+use Rattle.cl_exact.specs.Inner.Walks.{IsForwardWalk, IsBackwardWalk}
 use Rattle.cl_exact.specs.Inner.Found.{IsOldest, last_beat}
 use Rattle.cl_exact.proofs.BeatFacts.{reads_rise, job_small}
 use Rattle.cl_exact.proofs.ForwardJobs.{HOP}
@@ -14,11 +14,11 @@ use Rattle.cl_exact.proofs.Oldest.{early_block, ends_late, oldest_is, oldest_ear
 use Rattle.cl_exact.proofs.finding.oldest.Goals as goal
 
 -- the jobs of the walk, as a slice
-seen : (beats : List Beat) (start : ℕ) (walk numbers : List ℕ) → numbers ≡ walk → AreBackwardJobs beats start walk → AreBackwardJobs beats start numbers
-seen beats start walk numbers are back = subst (AreBackwardJobs beats start) (sym are) back
+seen : (beats : List Beat) (start : ℕ) (walk numbers : List ℕ) → numbers ≡ walk → IsBackwardWalk beats start walk → IsBackwardWalk beats start numbers
+seen beats start walk numbers are back = subst (IsBackwardWalk beats start) (sym are) back
 
 -- the last job of a forward chain, from the slice
-last_seen : (beats : List Beat) → AreBeats beats → (first : ℕ) (jobs numbers : List ℕ) → numbers ≡ jobs → AreForwardJobs beats first jobs
+last_seen : (beats : List Beat) → AreBeats beats → (first : ℕ) (jobs numbers : List ℕ) → numbers ≡ jobs → IsForwardWalk beats first jobs
     → slice_index numbers (length beats - 1) ≡ forward_job beats first (length beats - 1)
 last_seen beats are first jobs numbers same forward =
     ap (λ (xs : List ℕ). slice_index xs (length beats - 1)) same ∙ forward.each (length beats - 1) (omega (arith, are.some))

@@ -10,7 +10,7 @@ use Rattle.cl_gen.proofs.counting.execution_count.Goals as goal
 pub loop-task-preserved : goal.loop-task-preserved
 loop-task-preserved c =
     let tasks = (system_of c.args.model.now).tasks in
-    let within : c.loop-task.task < length tasks = omega (arith, c.loop-task-test.true, c.tasks-task-end.ensures, count_is c.args.model.now) in
+    let within : c.loop-task.task < length tasks = omega (arith, c.loop-task-test.true, c.tasks-task-end.ensures.count, count_is c.args.model.now) in
     record {
       sum = omega (
         arith,
@@ -21,9 +21,9 @@ loop-task-preserved c =
       few = omega (arith, c.loop-task.invariant.few, c.task_executions-count.ensures.few);
     }
 
-pub returns : goal.returns
-returns c =
+pub returns-clause-count : goal.returns-clause-count
+returns-clause-count c =
     let tasks = (system_of c.args.model.now).tasks in
     c.loop-task.invariant.sum
     ∙ ap (sum_by (task_executions c.args.ticks))
-    (take_all c.loop-task.task tasks (omega (arith, c.loop-task-test.false, c.tasks-task-end.ensures, count_is c.args.model.now)))
+    (take_all c.loop-task.task tasks (omega (arith, c.loop-task-test.false, c.tasks-task-end.ensures.count, count_is c.args.model.now)))

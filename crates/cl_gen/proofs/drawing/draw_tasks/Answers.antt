@@ -12,7 +12,7 @@ loop-task-preserved c =
     let model = c.args.model.now in
     let from = c.loop-task.draws.words in
     let timing : Timing = timing_at (system_of model) c.loop-task.task in
-    let within : c.loop-task.task < length (system_of model).tasks = omega (arith, c.loop-task-test.true, c.tasks-task-end.ensures, count_is model) in
+    let within : c.loop-task.task < length (system_of model).tasks = omega (arith, c.loop-task-test.true, c.tasks-task-end.ensures.count, count_is model) in
     record {
       rest = tasks_more (word_of c.args.draws.now.seed) c.args.ticks (system_of model).tasks from c.draw_task.new.draws.words c.loop-task.task
           c.loop-task.jobs c.push.new.self c.in_ok-draw_task.field-0 within
@@ -30,4 +30,4 @@ pub returns : goal.returns
 returns c =
     let model = c.args.model.now in
     tasks_all (word_of c.args.draws.now.seed) c.args.ticks (system_of model).tasks c.loop-task.draws.words c.loop-task.task c.loop-task.jobs _
-    (omega (arith, c.loop-task-test.false, c.tasks-task-end.ensures, count_is model)) c.loop-task.invariant.rest
+    (omega (arith, c.loop-task-test.false, c.tasks-task-end.ensures.count, count_is model)) c.loop-task.invariant.rest

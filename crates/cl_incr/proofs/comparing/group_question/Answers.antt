@@ -5,7 +5,7 @@ use Rattle.cl_incr.proofs.comparing.group_question.Goals as goal
 
 pub returns : goal.returns
 returns c =
-    let access = ap (λ (t : TaskDef). t.access) c.task_of.ensures in
+    let access = ap (λ (t : TaskDef). t.access) c.task.ensures.task in
     (λ i. record {
       pattern = c.stimulus_of.ensures i;
       deadline = c.deadline_of.ensures i;

@@ -10,23 +10,23 @@ loop-task-init g c = (c.new-new_answers.ensures, asks_none (IsChangedTask c.args
 pub returns-in_err-answer_task-clause-steps : goal.returns-in_err-answer_task-clause-steps
 returns-in_err-answer_task-clause-steps g c =
     asks_last (IsChangedTask c.args.old.now c.args.new.now) 1 c.loop-task.task _ c.args.steps.now c.loop-task.steps c.answer_task.new.steps
-    c.loop-task.invariant.1 c.answer_task.ensures.steps (omega (arith, c.tasks-task-end.ensures))
+    c.loop-task.invariant.1 c.answer_task.ensures.steps (omega (arith, c.tasks-task-end.ensures.count))
 
 pub returns-in_err-push-clause-steps : goal.returns-in_err-push-clause-steps
 returns-in_err-push-clause-steps g c =
     asks_last (IsChangedTask c.args.old.now c.args.new.now) 1 c.loop-task.task _ c.args.steps.now c.loop-task.steps c.answer_task.new.steps
-    c.loop-task.invariant.1 c.answer_task.ensures.steps (omega (arith, c.tasks-task-end.ensures))
+    c.loop-task.invariant.1 c.answer_task.ensures.steps (omega (arith, c.tasks-task-end.ensures.count))
 
 pub loop-task-preserved : goal.loop-task-preserved
 loop-task-preserved g c = (
-  more_tasks c.args.new.now c.loop-task.task c.loop-task.new_answers c.push.new.self _ (omega (arith, c.tasks-task-end.ensures)) c.loop-task.invariant.0 c.in_ok-answer_task.ensures.answer c.in_ok-push.ensures.ok,
+  more_tasks c.args.new.now c.loop-task.task c.loop-task.new_answers c.push.new.self _ (omega (arith, c.tasks-task-end.ensures.count)) c.loop-task.invariant.0 c.in_ok-answer_task.ensures.answer c.in_ok-push.ensures.ok,
   asks_next (IsChangedTask c.args.old.now c.args.new.now) 1 c.loop-task.task c.args.steps.now c.loop-task.steps c.answer_task.new.steps c.loop-task.invariant.1 c.answer_task.ensures.steps,
 )
 
 pub returns-clause-answers : goal.returns-clause-answers
-returns-clause-answers g c = c.loop-task.invariant.0 ∙ all_tasks c.args.new.now c.loop-task.task (omega (arith, c.tasks-task-end.ensures))
+returns-clause-answers g c = c.loop-task.invariant.0 ∙ all_tasks c.args.new.now c.loop-task.task (omega (arith, c.tasks-task-end.ensures.count))
 
 pub returns-clause-steps : goal.returns-clause-steps
 returns-clause-steps g c =
     asks_within (IsChangedTask c.args.old.now c.args.new.now) 1 c.loop-task.task _ c.args.steps.now c.loop-task.steps c.loop-task.invariant.1
-    (omega (arith, c.tasks-task-end.ensures))
+    (omega (arith, c.tasks-task-end.ensures.count))

@@ -20,12 +20,12 @@ returns-then-is_same_question c =
 pub returns-in_default : goal.returns-in_default
 returns-in_default c =
     new_task c.args.old.now c.args.new.now c.args.task c.requires.task
-    (ap (λ (t : TaskDef). task_named c.args.old.now t.name) (sym c.task_of.ensures) ∙ sym c.task_named.ensures.number ∙ c.in_default.is)
+    (ap (λ (t : TaskDef). task_named c.args.old.now t.name) (sym c.task.ensures.task) ∙ sym c.task_named.ensures.number ∙ c.in_default.is)
 
 pub returns : goal.returns
 returns c =
     other_question c.args.old.now c.args.new.now c.args.task c.in-Some.before c.requires.task
-    (ap (λ (t : TaskDef). task_named c.args.old.now t.name) (sym c.task_of.ensures) ∙ sym c.task_named.ensures.number ∙ c.in-Some.is)
+    (ap (λ (t : TaskDef). task_named c.args.old.now t.name) (sym c.task.ensures.task) ∙ sym c.task_named.ensures.number ∙ c.in-Some.is)
     (λ same.
     let is = (c.is_same_question.ensures c.args.old.now c.args.new.now c.in-Some.before c.args.task c.in_ok-question_before.ensures.question c.requires.question).1
     (c.in_ok-question_before.ensures.question ∙ same ∙ sym c.requires.question) in

@@ -1,5 +1,6 @@
 use Rattle.std.proofs.Common.{refl, sym}
-use Rattle.cl_read.proofs.Texts.{document_of-text, document_of-other}
+use Rattle.cl_model.proofs.DocumentTexts.{document_of-text}
+use Rattle.cl_read.proofs.Texts.{document_of-other}
 use Rattle.cl_read.proofs.document.document.Goals as goal
 
 pub returns-in-Ok : goal.returns-in-Ok

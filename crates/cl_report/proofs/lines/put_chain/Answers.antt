@@ -12,7 +12,7 @@ pub put_chain_answer-requires : goal.put_chain_answer-requires
 put_chain_answer-requires c =
     let within = chain_within c.args.model.now c.args.findings.now c.args.chain c.requires.found c.requires.within in
     let found = chain_answer_found c.args.findings.now c.args.chain c.index-as_slice-chain.result within (rw c.as_slice.ensures at c.index-as_slice-chain.is) in
-    λ late named. late_within c.args.model.now c.args.findings.now c.args.chain c.plain-plain.ensures.valid c.requires.found c.requires.within late (sym found ∙ named)
+    λ late named. late_within c.args.model.now c.args.findings.now c.args.chain c.chain.ensures.valid c.requires.found c.requires.within late (sym found ∙ named)
 
 pub returns : goal.returns
 unfolding chain_line

@@ -2,7 +2,7 @@ use Rattle.std.proofs.Common.{ℕ, List, ◌++◌, ap, ◌∙◌}
 use Rattle.std.proofs.lemmas.List.{append_assoc}
 use Rattle.cl_analyse.specs.ChainAnswers.{exact_answer_at}
 use Rattle.cl_report.specs.Report.{chain_line, exact_lines, chain_lines}
-use Rattle.cl_report.proofs.ReportLines.{line_more}
+use Rattle.cl_text.proofs.MoreLines.{line_more}
 use Rattle.cl_report.proofs.lines.put_chains.Goals as goal
 
 pub loop-chain-preserved : goal.loop-chain-preserved

@@ -1,5 +1,5 @@
 use Rattle.cl_report.specs.Report.{task_line}
-use Rattle.cl_report.proofs.ReportLines.{line_more}
+use Rattle.cl_text.proofs.MoreLines.{line_more}
 use Rattle.cl_report.proofs.lines.put_tasks.Goals as goal
 
 pub loop-task-preserved : goal.loop-task-preserved

@@ -1,5 +1,5 @@
 use Rattle.cl_report.specs.Report.{requirement_line}
-use Rattle.cl_report.proofs.ReportLines.{line_more}
+use Rattle.cl_text.proofs.MoreLines.{line_more}
 use Rattle.cl_report.proofs.requirement_lines.put_requirements.Goals as goal
 
 pub loop-place-preserved : goal.loop-place-preserved

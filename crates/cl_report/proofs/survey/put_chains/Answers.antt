@@ -1,6 +1,6 @@
-use Rattle.std.proofs.Common.{ℕ, List, [], ◌∷◌, ◌++◌, length, ap, ◌∙◌, codes}
+use Rattle.std.proofs.Common.{[], ◌∷◌, ◌++◌, length, ap, ◌∙◌, codes}
 use Rattle.std.specs.Prelude.{count_by}
-use Rattle.cl_report.specs.Survey.{is_bounded, is_unbounded, counted, chains_line}
+use Rattle.cl_report.specs.Survey.{is_bounded, is_unbounded, counted_line, chains_line}
 use Rattle.cl_report.proofs.SurveyPieces.{four_pieces, still_ok}
 use Rattle.cl_report.proofs.survey.put_chains.Goals as goal
 
@@ -10,11 +10,11 @@ returns c =
     let answers = c.args.answers.now in
     still_ok c.put.result _ _
     (four_pieces
-    (counted (codes "chains ") (length answers))
-    (counted (codes " bounded ") (count_by is_bounded answers))
-    (counted (codes " late ") (count_by is_unbounded answers))
+    (counted_line (codes "chains ") (length answers))
+    (counted_line (codes " bounded ") (count_by is_bounded answers))
+    (counted_line (codes " late ") (count_by is_unbounded answers))
     (0x0A ∷ []) c.args.text.now c.put_count.new.text c.put_count-2.new.text c.put_count-3.new.text c.put.new.self
     c.in_ok-put_count.ensures
-    (c.in_ok-put_count-2.ensures ∙ ap (λ n. c.put_count.new.text ++ counted (codes " bounded ") n) c.count_bounded.ensures)
-    (c.in_ok-put_count-3.ensures ∙ ap (λ n. c.put_count-2.new.text ++ counted (codes " late ") n) c.count_unbounded.ensures))
+    (c.in_ok-put_count-2.ensures ∙ ap (λ n. c.put_count.new.text ++ counted_line (codes " bounded ") n) c.count_bounded.ensures)
+    (c.in_ok-put_count-3.ensures ∙ ap (λ n. c.put_count-2.new.text ++ counted_line (codes " late ") n) c.count_unbounded.ensures))
     c.put.ensures.ok

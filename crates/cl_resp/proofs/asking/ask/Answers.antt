@@ -8,4 +8,4 @@ returns-clause-question c =
 pub returns-clause-in_range : goal.returns-clause-in_range
 returns-clause-in_range c =
     is_in_range c.args.model.now c.args.task c.requires _ _ _ _ _ c.time_of.ensures c.block_of.ensures c.jitter_of.ensures c.deadline_of.ensures c.in_ok-all_above.ensures
-    c.plain-plain.ensures.valid
+    c.task.ensures.valid

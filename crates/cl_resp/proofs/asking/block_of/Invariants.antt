@@ -1,6 +1,6 @@
 use Rattle.std.proofs.Common.{◌≡◌, take}
 use Rattle.std.specs.Prelude.{filter}
-use Rattle.cl_resp.specs.Question.{greatest_by}
+use Rattle.cl_model.specs.Holds.{greatest_by}
 use Rattle.cl_resp.proofs.Questions.{hold_at, is_no_higher}
 use Rattle.cl_resp.proofs.asking.block_of.Given as goal
 

@@ -1,9 +1,7 @@
-use Rattle.std.proofs.Common.{get_or, ap, sym, ◌∙◌, subst}
-use Rattle.std.proofs.lemmas.List.{get_or_default}
-use Rattle.cl_model.specs.declared.model.SystemModel.{SystemModel}
+use Rattle.std.proofs.Common.{ap, sym, ◌∙◌, subst}
 use Rattle.cl_model.specs.declared.task.TaskDef.{TaskDef}
-use Rattle.cl_model.specs.ByNumber.{no_task}
-use Rattle.cl_sched.specs.Progress.{TakeTime, HasComeTo}
+use Rattle.cl_sched.specs.Progress.{HasComeTo}
+use Rattle.cl_sched.specs.Inner.TakingTime.{TakeTime}
 use Rattle.cl_sched.proofs.ModelJobs.{in_table, jobs_take_time}
 use Rattle.cl_sched.proofs.Standing.{none_before}
 use Rattle.cl_sched.proofs.core_progress.unbegun.Goals as goal
@@ -14,14 +12,12 @@ jobs_of-requires c = in_table c.args.model.now c.args.table.now c.requires.lawfu
 pub before-requires-clause-take_time : goal.before-requires-clause-take_time
 before-requires-clause-take_time c =
     subst TakeTime (sym c.jobs_of.ensures)
-    (jobs_take_time c.args.model.now c.args.table.now c.requires.lawful c.args.task c.requires.task c.plain.ensures.valid)
+    (jobs_take_time c.args.model.now c.args.table.now c.requires.lawful c.args.task c.requires.task c.task.ensures.valid)
 
 pub returns : goal.returns
 returns c = record {
   task_is = c.before-2.ensures.task;
-  priority = c.before-2.ensures.priority
-      ∙ ap (λ tasks. (get_or tasks c.args.task c.index-as_slice-task.result).priority) (c.as_slice.ensures ∙ ap (λ (m : SystemModel). m.tasks) c.plain.ensures.plain)
-      ∙ ap (λ (t : TaskDef). t.priority) (get_or_default c.args.model.now.tasks c.args.task c.index-as_slice-task.result no_task c.requires.task);
+  priority = c.before-2.ensures.priority ∙ ap (λ (t : TaskDef). t.priority) c.task.ensures.task;
   has_come = subst (λ jobs. HasComeTo jobs 0 c.before-2.result) c.jobs_of.ensures
       (subst (λ n. HasComeTo c.jobs_of.result.now n c.before-2.result) (none_before c.jobs_of.result.now) c.before-2.ensures.begins);
 }

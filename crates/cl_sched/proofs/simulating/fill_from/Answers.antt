@@ -3,7 +3,6 @@ use Rattle.cl_runs.specs.declared.job.JobTable.{JobTable}
 use Rattle.cl_runs.specs.Run.{Run, core_entries}
 use Rattle.cl_runs.specs.SystemOf.{system_of}
 use Rattle.cl_runs.specs.Table.{IsLawful}
-use Rattle.cl_runs.proofs.ModelSystem.{system_sound}
 use Rattle.cl_sched.specs.CoreProgress.{IsReached}
 use Rattle.cl_sched.proofs.Filled.{filled_further}
 use Rattle.cl_sched.proofs.simulating.fill_from.Goals as goal
@@ -12,7 +11,7 @@ pub next-next-requires-clause-underway : goal.next-next-requires-clause-underway
 next-next-requires-clause-underway c = record {
   system = system_of c.args.model.now;
   table = c.events.run.table;
-  sound = system_sound c.args.model.now c.plain-plain.ensures.valid;
+  sound = c.requires.sound;
   lawful = subst (λ (t : JobTable). IsLawful (system_of c.args.model.now) t) (sym c.events.invariant.filled.table) c.requires.lawful;
   is = record { core = c.args.core; entries = core_entries c.events.run c.args.core; is = c.events.invariant.filled.reached_is };
 }
@@ -34,8 +33,8 @@ events-preserved c =
     record {
       filled = filled_further system c.args.core c.args.run.now run c.events.reached filled n next.until next.who c.push.new.self c.advance.new.self
           c.in_ok-push.ensures.ok (omega (arith, c.next-next.ensures.next.some))
-          (λ t after before. c.next-next.ensures.scheduled system run.table c.args.core entries
-          (system_sound c.args.model.now c.plain-plain.ensures.valid) lawful filled.reached_is t after before)
+          (c.next-next.ensures.scheduled system run.table c.args.core entries
+          c.requires.sound lawful filled.reached_is)
           moved;
       end = c.events.invariant.end;
       within = omega (arith, c.advance.ensures.tick, c.next-next.ensures.within);

@@ -5,4 +5,4 @@ use Rattle.cl_sched.proofs.simulating.simulate.Goals as goal
 
 pub returns-in-Ok-clause-continuation : goal.returns-in-Ok-clause-continuation
 returns-in-Ok-clause-continuation c = λ ticks h.
-    has_continuation (system_of c.args.model.now) (system_sound c.args.model.now c.plain-plain.ensures.valid) c.fill.new.run c.in-Ok.ensures.legal ticks h
+    has_continuation (system_of c.args.model.now) (system_sound c.args.model.now c.cores.ensures.valid) c.fill.new.run c.in-Ok.ensures.legal ticks h

@@ -22,7 +22,7 @@ returns-in_err-task-clause-only c = λ task byte rest within named other fits.
     let name = (task_at c.args.model.now task).name in
     let word : c.in_ok-word.word.now ≡ name = c.in_ok-word.ensures.word ∙ name_word c.args.text.now name rest byte named other fits in
     let read : c.in_ok-name.name ≡ name = c.in_ok-name.ensures.bytes ∙ word in
-    let none : None ≡ Some task = sym c.in_err-task.was ∙ c.task_named.ensures.number ∙ ap (task_named c.args.model.now) read ∙ own_task c.args.model.now c.plain-plain.ensures.valid task within in
+    let none : None ≡ Some task = sym c.in_err-task.was ∙ c.task_named.ensures.number ∙ ap (task_named c.args.model.now) read ∙ own_task c.args.model.now c.requires task within in
     cc none
 
 pub returns-clause-some : goal.returns-clause-some
@@ -36,5 +36,5 @@ returns-clause-only c = λ task byte rest within named other fits.
     let name = (task_at c.args.model.now task).name in
     let word : c.in_ok-word.word.now ≡ name = c.in_ok-word.ensures.word ∙ name_word c.args.text.now name rest byte named other fits in
     let read : c.in_ok-name.name ≡ name = c.in_ok-name.ensures.bytes ∙ word in
-    let some : Some c.in_ok-task.task ≡ Some task = sym c.in_ok-task.was ∙ c.task_named.ensures.number ∙ ap (task_named c.args.model.now) read ∙ own_task c.args.model.now c.plain-plain.ensures.valid task within in
+    let some : Some c.in_ok-task.task ≡ Some task = sym c.in_ok-task.was ∙ c.task_named.ensures.number ∙ ap (task_named c.args.model.now) read ∙ own_task c.args.model.now c.requires task within in
     (cc some, rest_is c.args.text.now c.in_ok-word.word.now name c.in_ok-word.rest.now (byte ∷ rest) c.in_ok-word.ensures.some word fits)

@@ -1,21 +1,36 @@
 use Rattle.std.proofs.Common.{◌≡◌, subst}
-use Rattle.cl_trace.specs.Rules.{IsBadLine}
+use Rattle.cl_trace.specs.Rules.{IsBadTraceLine}
 use Rattle.cl_trace.specs.Trace.{item_text}
+use Rattle.cl_trace.proofs.BadCases.{cases_of}
 use Rattle.cl_trace.proofs.BadLines.{no_title, no_ticks, read_up_to}
+use Rattle.cl_trace.proofs.OneTrace.{behind_title, behind_ticks, title_stands, ticks_stand}
 use Rattle.cl_trace.proofs.reading.read_trace.Goals as goal
 
 pub returns-in_default-clause-bad_line : goal.returns-in_default-clause-bad_line
 unfolding item_text
 returns-in_default-clause-bad_line c = λ line is.
     let same : 1 ≡ line = cc in
-    subst (IsBadLine c.args.model.now c.args.text.now) same (no_title c.args.model.now c.args.text.now c.in_default.ensures.none)
+    subst (IsBadTraceLine c.args.model.now c.args.text.now) same
+    (cases_of c.args.model.now c.args.text.now 1 (no_title c.args.model.now c.args.text.now c.in_default.ensures.none))
+
+pub returns-in_default-clause-only : goal.returns-in_default-clause-only
+unfolding item_text
+returns-in_default-clause-only c = λ run trace.
+    absurd (c.in_default.ensures.none (behind_title c.args.model.now run) (title_stands c.args.model.now c.args.text.now run trace))
 
 pub returns-in_default-ticks_after-clause-bad_line : goal.returns-in_default-ticks_after-clause-bad_line
 unfolding item_text
 returns-in_default-ticks_after-clause-bad_line c = λ line is.
     let same : 2 ≡ line = cc in
-    subst (IsBadLine c.args.model.now c.args.text.now) same
-    (no_ticks c.args.model.now c.args.text.now c.in-Some.behind_title.now c.in-Some.ensures.some c.in_default-ticks_after.ensures.none)
+    subst (IsBadTraceLine c.args.model.now c.args.text.now) same
+    (cases_of c.args.model.now c.args.text.now 2
+    (no_ticks c.args.model.now c.args.text.now c.in-Some.behind_title.now c.in-Some.ensures.some c.in_default-ticks_after.ensures.none))
+
+pub returns-in_default-ticks_after-clause-only : goal.returns-in_default-ticks_after-clause-only
+unfolding item_text
+returns-in_default-ticks_after-clause-only c = λ run trace.
+    absurd (c.in_default-ticks_after.ensures.none run.table.ticks (behind_ticks c.args.model.now run) trace.within.ticks
+    (ticks_stand c.args.model.now c.args.text.now c.in-Some.behind_title.now run trace c.in-Some.ensures.some))
 
 pub ended-requires-clause-body : goal.ended-requires-clause-body
 unfolding item_text

@@ -2,7 +2,7 @@ use Rattle.std.proofs.Common.{◌≡◌, ◌-◌, None, ◌++◌, replicate, len
 use Rattle.cl_runs.specs.declared.job.JobTable.{JobTable}
 use Rattle.cl_runs.specs.Run.{core_entries}
 use Rattle.cl_trace.specs.Trace.{Runs}
-use Rattle.cl_trace.specs.Inner.Bodies.{AreEntriesOf, AreAllEntriesOf, IsRunWith, IsStretchWithin, appended}
+use Rattle.cl_trace.specs.Inner.Bodies.{AreEntriesOf, AreAllEntriesOf, IsRunWith, IsStretchWithin, entries_appended}
 use Rattle.cl_trace.proofs.JobLines.{item_longer}
 use Rattle.cl_trace.proofs.RunWith.{with_same, with_next, with_pushed, entries_of_core, cores_same, ticks_same}
 use Rattle.cl_trace.proofs.StretchItems.{EndsOther, appended_busy}
@@ -26,7 +26,7 @@ loop-line-preserved c =
     let entries = core_entries c.loop-line.run c.args.core in
     let before = c.loop-line.invariant.0 in
     let cores = cores_same c.args.run.now c.loop-line.run c.args.core entries before in
-    let made = appended entries c.in-Some.line.task c.in-Some.line.from c.in-Some.line.to in
+    let made = entries_appended entries c.in-Some.line.task c.in-Some.line.from c.in-Some.line.to in
     let ticks = ticks_same c.args.run.now c.loop-line.run c.args.core entries before in
     let within : IsStretchWithin c.args.model.now c.args.run.now.table.ticks c.in-Some.line.task c.in-Some.line.from c.in-Some.line.to
     = subst (λ n. IsStretchWithin c.args.model.now n c.in-Some.line.task c.in-Some.line.from c.in-Some.line.to) ticks c.in-Some.ensures.within in

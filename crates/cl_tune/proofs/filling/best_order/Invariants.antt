@@ -9,13 +9,13 @@ use Rattle.cl_tune.proofs.FillingSteps.{behind}
 use Rattle.std.proofs.Common.{List}
 use Rattle.cl_tune.proofs.filling.best_order.Given as goal
 
--- the order of the core is what is placed and then the order of those that wait
-pub record IsSoFar (model : SystemModel) (core : ℕ) (placed : List ℕ) (left block : ℕ) (waiting : List ℕ) : Type 0 where
+-- the order of the core is what is placed and then the order of the unplaced
+pub record IsSoFar (model : SystemModel) (core : ℕ) (placed : List ℕ) (left block : ℕ) (unplaced : List ℕ) : Type 0 where
   pub so_far : best_order (system_of model) (length (tasks_of_core model core)) 0 (tasks_of_core model core)
-      ≡ behind placed (best_order (system_of model) left block waiting)
+      ≡ behind placed (best_order (system_of model) left block unplaced)
   pub small : block ≤ MOST_TICKS
-  pub known : All (λ other. other < length model.tasks) waiting
-  pub few : length waiting ≤ MOST_TASKS_OF_CORE
+  pub known : All (λ other. other < length model.tasks) unplaced
+  pub few : length unplaced ≤ MOST_TASKS_OF_CORE
 
 abbrev pub invariant-loop : goal.invariant-loop
-invariant-loop g l = IsSoFar l.model l.core l.order.items (l.end - l.counter) l.block l.waiting.items
+invariant-loop g l = IsSoFar l.model l.core l.order.items (l.end - l.counter) l.block l.unplaced.items

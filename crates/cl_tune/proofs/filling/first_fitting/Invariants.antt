@@ -6,4 +6,4 @@ use Rattle.cl_tune.proofs.filling.first_fitting.Given as goal
 
 -- none so far fits
 abbrev pub invariant-loop-task : goal.invariant-loop-task
-invariant-loop-task g l = All (λ task. fits (system_of l.model) l.block l.waiting task ≡ false) (take l.task-index l.waiting)
+invariant-loop-task g l = All (λ task. fits (system_of l.model) l.block l.unplaced task ≡ false) (take l.task-index l.unplaced)

@@ -22,11 +22,11 @@ all_taken model (x ∷ xs) known =
 pub of-stimulus-requires : goal.of-stimulus-requires
 of-stimulus-requires c =
     subst (λ (k : StimulusKind). IsStimulus k) (sym c.stimulus_of.ensures)
-    (has_stimulus c.args.model.now c.plain-plain.ensures.valid (get_or c.args.others.now c.loop-other.other-index 0)
-    (c.requires c.loop-other.other-index 0 c.loop-other-test.true))
+    (has_stimulus c.args.model.now c.requires.valid (get_or c.args.others.now c.loop-other.other-index 0)
+    (c.requires.others c.loop-other.other-index 0 c.loop-other-test.true))
 
 pub returns : goal.returns
 returns c =
     let others = c.args.others.now in
     let all : take c.loop-other.other-index others ≡ others = take_all c.loop-other.other-index others (omega (arith, c.loop-other-test.false)) in
-    c.loop-other.invariant ∙ ap (map (taken_at c.args.model.now)) all ∙ all_taken c.args.model.now others c.requires
+    c.loop-other.invariant ∙ ap (map (taken_at c.args.model.now)) all ∙ all_taken c.args.model.now others c.requires.others

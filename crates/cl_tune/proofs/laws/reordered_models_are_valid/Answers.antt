@@ -1,4 +1,4 @@
-use Rattle.cl_tune.proofs.ReorderedModels.{system_is}
+use Rattle.cl_tune.proofs.NewPriorities.{has_priorities}
 use Rattle.cl_tune.proofs.ReorderedValid.{reordered_valid}
 use Rattle.cl_tune.proofs.laws.reordered_models_are_valid.Goals as goal
 
@@ -6,4 +6,4 @@ pub returns-clause-valid : goal.returns-clause-valid
 returns-clause-valid c = reordered_valid
 
 pub returns-clause-system : goal.returns-clause-system
-returns-clause-system c = system_is
+returns-clause-system c = has_priorities

@@ -19,12 +19,12 @@ returns-in_default g c =
     let none : best_order (system_of model) (length (tasks_of_core model core)) 0 (tasks_of_core model core) ≡ None =
     sym c.in_ok-order.ensures ∙ ap (λ found. option_map (λ order. order.items) found) c.in_default.is in
     record {
-      is_core = omega (arith, c.loop-core-test.true, c.cores-core-end.ensures);
-      none = none_filled model c.plain-plain.ensures.valid core none;
+      is_core = omega (arith, c.loop-core-test.true, c.cores-core-end.ensures.count);
+      none = none_filled model c.cores-core-end.ensures.valid core none;
       first = λ earlier below.
           let d = some_element c.loop-core.orders.items earlier (omega (arith, below, c.loop-core.invariant.0)) in
           let order = (get_or c.loop-core.orders.items earlier d).items in
-          (order, (filled_is_best model c.plain-plain.ensures.valid earlier order (c.loop-core.invariant.1 earlier below d)).passing);
+          (order, (filled_is_best model c.cores-core-end.ensures.valid earlier order (c.loop-core.invariant.1 earlier below d)).passing);
     }
 
 pub returns : goal.returns
@@ -33,12 +33,12 @@ returns g c =
     record {
       one_a_task = c.in_ok-priorities.ensures.one_a_task;
       cores = λ core h.
-          let below : core < c.loop-core.core = omega (arith, h, c.loop-core-test.false, c.cores-core-end.ensures) in
+          let below : core < c.loop-core.core = omega (arith, h, c.loop-core-test.false, c.cores-core-end.ensures.count) in
           let d = some_element c.loop-core.orders.items core (omega (arith, below, c.loop-core.invariant.0)) in
           let order = (get_or c.loop-core.orders.items core d).items in
           record {
             order = order;
-            best = filled_is_best model c.plain-plain.ensures.valid core order (c.loop-core.invariant.1 core below d);
+            best = filled_is_best model c.cores-core-end.ensures.valid core order (c.loop-core.invariant.1 core below d);
             given = λ task lt on.
                 c.in_ok-priorities.ensures.each task lt d
                 ∙ ap (λ n. priority_in (get_or c.as_slice.result.now n d).items task) on

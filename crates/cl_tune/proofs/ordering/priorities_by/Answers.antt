@@ -29,4 +29,4 @@ loop-task-preserved c =
     )
 
 pub returns-clause-each : goal.returns-clause-each
-returns-clause-each c = λ task lt d. c.loop-task.invariant.1 task (omega (arith, lt, c.loop-task-test.false, c.tasks-task-end.ensures)) d
+returns-clause-each c = λ task lt d. c.loop-task.invariant.1 task (omega (arith, lt, c.loop-task-test.false, c.tasks-task-end.ensures.count)) d

@@ -1,28 +1,19 @@
-use Rattle.std.proofs.Common.{◌+◌, ◌/◌, arith}
-use Rattle.std.proofs.lemmas.Bool.{MatchBool-at_false}
-use Rattle.cl_tune.specs.Headroom.{Keeps}
-use Rattle.cl_tune.proofs.KeptBelow.{kept_below}
+use Rattle.std.proofs.Common.{subst}
+use Rattle.std.specs.Prelude.{IfOk}
+use Rattle.std.proofs.lemmas.Result.{IfOk-weaker}
+use Rattle.cl_model.specs.declared.model.SystemModel.{SystemModel}
+use Rattle.cl_tune.specs.Headroom.{IsHeadroom}
+use Rattle.cl_tune.proofs.OneHeadroom.{smaller_keep, none_exactly}
 use Rattle.cl_tune.proofs.room.headroom.Goals as goal
 
-pub loop-end-preserved : goal.loop-end-preserved
-loop-end-preserved g c =
-    let model = c.args.model.now in
-    let is = c.loop-end.invariant in
-    let middle = (c.loop-end.kept + c.loop-end.end) / 2 in
-    let not_kept = MatchBool-at_false (Keeps model middle) (Keeps model middle → ⊥) c.if-branch.false c.in_ok-keeps.ensures in
-    record {
-      apart = omega (arith, c.loop-end-test.true);
-      within = omega (arith, is.within, is.apart);
-      keeps = is.keeps;
-      fails = λ other from few keeps. not_kept (kept_below model c.plain-plain.ensures.valid middle other from keeps);
-    }
+pub returns-clause-greatest : goal.returns-clause-greatest
+returns-clause-greatest g c =
+    subst (λ (model : SystemModel). IfOk c.greatest_kept.result (IsHeadroom model)) c.plain.ensures.plain c.greatest_kept.ensures
 
-pub returns : goal.returns
-returns g c =
-    let is = c.loop-end.invariant in
-    record {
-      some = omega (arith, c.if-kept-eq0.false);
-      few = omega (arith, is.apart, is.within);
-      kept = is.keeps (omega (arith, c.if-kept-eq0.false));
-      greatest = λ other above few keeps. is.fails other (omega (arith, above, c.loop-end-test.false)) few keeps;
-    }
+pub returns-clause-smaller : goal.returns-clause-smaller
+returns-clause-smaller g c =
+    IfOk-weaker c.greatest_kept.result _ _ (smaller_keep c.args.model.now c.plain.ensures.valid) (returns-clause-greatest g c)
+
+pub returns-clause-none : goal.returns-clause-none
+returns-clause-none g c =
+    IfOk-weaker c.greatest_kept.result _ _ (none_exactly c.args.model.now c.plain.ensures.valid) (returns-clause-greatest g c)

@@ -1,4 +1,4 @@
-use Rattle.std.proofs.Common.{◌≡◌, ℕ, Bool, true, false, sym, ap, ◌∙◌, subst}
+use Rattle.std.proofs.Common.{◌≡◌, ℕ, Bool, true, false, sym, ◌∙◌, subst}
 use Rattle.std.specs.Prelude.{MatchBool}
 use Rattle.std.proofs.lemmas.Bool.{cases_from_iff}
 use Rattle.cl_model.specs.declared.model.SystemModel.{SystemModel}
@@ -18,18 +18,20 @@ module _ (model : SystemModel) (percent : ℕ) (in_range : IsInRange (scaled mod
   either true is = keeping model percent findings found in_range is
   either false is = λ keeps. is (kept_of model percent findings found keeps)
 
+pub scaled-requires-clause-in_range : goal.scaled-requires-clause-in_range
+scaled-requires-clause-in_range g c = c.requires.valid.in_range
+
 pub adopted-requires : goal.adopted-requires
 adopted-requires g c =
-    let model = c.args.model.now in
-    let copy : c.in_ok-scaled.scaled ≡ scaled model c.args.percent = c.in_ok-scaled.ensures ∙ ap (λ (m : SystemModel). scaled m c.args.percent) c.plain.ensures.plain in
+    let copy : c.in_ok-scaled.scaled ≡ scaled c.args.model.now c.args.percent = c.in_ok-scaled.ensures in
     subst (λ (m : SystemModel). IsValid m) (sym copy)
-    (scaled_valid model c.args.percent c.plain.ensures.valid (subst (λ (m : SystemModel). IsInRange m) copy (c.in_range.ensures.0 c.if-not-in_range.false)))
+    (scaled_valid c.args.model.now c.args.percent c.requires.valid
+    (subst (λ (m : SystemModel). IsInRange m) copy (c.in_range.ensures.0 c.if-not-in_range.false)))
 
 pub returns : goal.returns
 returns g c =
-    let model = c.args.model.now in
-    let copy : c.in_ok-scaled.scaled ≡ scaled model c.args.percent = c.in_ok-scaled.ensures ∙ ap (λ (m : SystemModel). scaled m c.args.percent) c.plain.ensures.plain in
-    let adopted = c.in_ok-scaled-2.ensures in
-    either model c.args.percent (subst (λ (m : SystemModel). IsInRange m) copy (c.in_range.ensures.0 c.if-not-in_range.false)) c.in_ok-findings.findings
-    (subst (λ (m : SystemModel). AreFindings m c.in_ok-findings.findings) (adopted ∙ copy) c.in_ok-findings.ensures.findings)
+    let copy : c.in_ok-scaled.scaled ≡ scaled c.args.model.now c.args.percent = c.in_ok-scaled.ensures in
+    let in_range = subst (λ (m : SystemModel). IsInRange m) copy (c.in_range.ensures.0 c.if-not-in_range.false) in
+    either c.args.model.now c.args.percent in_range c.in_ok-findings.findings
+    (subst (λ (m : SystemModel). AreFindings m c.in_ok-findings.findings) (c.in_ok-scaled-2.ensures ∙ copy) c.in_ok-findings.ensures.findings)
     c.is_kept.result (cases_from_iff c.is_kept.ensures)

@@ -33,7 +33,9 @@ unfolding task_check
 returns-in_err-check_body-clause-checked c =
     let p = err_from_is_err_and c.from_residual-in_err-check_body.result c.from_residual-in_err-check_body.ensures.1 in rw (p.1, p.2)
     (fault_of_back _ _ c.in_err-check_body.field-0.0 c.in_ok-core.ensures.checked
-    (fault_of_front (body_checks (label_names c.args.model.now) (labels_written (all_runnables (take c.args.i c.args.model.now.tasks))) (entry_of part.Task c.args.i) c.args.task.now) _ c.in_err-check_body.field-0.0 (rw (ap (λ (n : Names). n.labels) c.requires.names, ap (λ (k : TasksSoFar). k.uses.written) c.requires.kept, c.entry_of-place.ensures) at c.in_err-check_body.ensures.checked)))
+    (fault_of_front (body_checks (label_names c.args.model.now) (labels_written (all_runnables (take c.args.i c.args.model.now.tasks)))
+    (entry_of part.Task c.args.i) c.args.task.now) _ c.in_err-check_body.field-0.0
+    (rw (ap (λ (n : Names). n.labels) c.requires.names, ap (λ (k : TasksSoFar). k.uses.written) c.requires.kept, c.entry_of-place.ensures) at c.in_err-check_body.ensures.checked)))
 
 pub returns-in_err-refuse_when-clause-checked : goal.returns-in_err-refuse_when-clause-checked
 unfolding task_check
@@ -41,13 +43,21 @@ returns-in_err-refuse_when-clause-checked c =
     let p = err_from_is_err_and c.from_residual-in_err-refuse_when.result c.from_residual-in_err-refuse_when.ensures.1 in rw (p.1, p.2)
     (fault_of_back _ _ c.in_err-refuse_when.field-0.0 c.in_ok-core.ensures.checked
     (fault_of_back _ _ c.in_err-refuse_when.field-0.0 (rw (ap (λ (n : Names). n.labels) c.requires.names, ap (λ (k : TasksSoFar). k.uses.written) c.requires.kept, c.entry_of-place.ensures) at c.in_ok-check_body.ensures.checked.0)
-    (fault_of_front (count_check c.args.model.now c.args.i) _ c.in_err-refuse_when.field-0.0 (rw (count_is c.args.model.now c.args.i c.args.task.now c.len-too_many.result c.args.kept.now.uses.each c.check_body.new.uses.each c.entry_of-place.result (slice_get_within c.args.model.now.tasks c.args.i c.args.task.now c.requires.task) (sym (get_or_from_slice_get c.args.model.now.tasks c.args.i c.args.task.now c.args.task.now c.requires.task)) (ap (λ (k : TasksSoFar). k.uses.each) c.requires.kept) c.in_ok-check_body.ensures.each c.len-too_many.ensures c.entry_of-place.ensures) at c.in_err-refuse_when.ensures))))
+    (fault_of_front (count_check c.args.model.now c.args.i) _ c.in_err-refuse_when.field-0.0
+    (rw (count_is c.args.model.now c.args.i c.args.task.now c.len-too_many.result c.args.kept.now.uses.each c.check_body.new.uses.each c.entry_of-place.result
+    (slice_get_within c.args.model.now.tasks c.args.i c.args.task.now c.requires.task)
+    (sym (get_or_from_slice_get c.args.model.now.tasks c.args.i c.args.task.now c.args.task.now c.requires.task))
+    (ap (λ (k : TasksSoFar). k.uses.each) c.requires.kept) c.in_ok-check_body.ensures.each c.len-too_many.ensures c.entry_of-place.ensures) at c.in_err-refuse_when.ensures))))
 
 pub returns-clause-checked : goal.returns-clause-checked
 unfolding task_check
 returns-clause-checked c = (
   none_of_both _ _ c.in_ok-core.ensures.checked
       (none_of_both _ _ (rw (ap (λ (n : Names). n.labels) c.requires.names, ap (λ (k : TasksSoFar). k.uses.written) c.requires.kept, c.entry_of-place.ensures) at c.in_ok-check_body.ensures.checked.0)
-      (none_of_both _ _ (sym (count_is c.args.model.now c.args.i c.args.task.now c.len-too_many.result c.args.kept.now.uses.each c.check_body.new.uses.each c.entry_of-place.result (slice_get_within c.args.model.now.tasks c.args.i c.args.task.now c.requires.task) (sym (get_or_from_slice_get c.args.model.now.tasks c.args.i c.args.task.now c.args.task.now c.requires.task)) (ap (λ (k : TasksSoFar). k.uses.each) c.requires.kept) c.in_ok-check_body.ensures.each c.len-too_many.ensures c.entry_of-place.ensures) ∙ c.in_ok-refuse_when.ensures.0) refl)),
+      (none_of_both _ _ (sym (count_is c.args.model.now c.args.i c.args.task.now c.len-too_many.result c.args.kept.now.uses.each c.check_body.new.uses.each c.entry_of-place.result
+      (slice_get_within c.args.model.now.tasks c.args.i c.args.task.now c.requires.task)
+      (sym (get_or_from_slice_get c.args.model.now.tasks c.args.i c.args.task.now c.args.task.now c.requires.task))
+      (ap (λ (k : TasksSoFar). k.uses.each) c.requires.kept) c.in_ok-check_body.ensures.each c.len-too_many.ensures c.entry_of-place.ensures)
+      ∙ c.in_ok-refuse_when.ensures.0) refl)),
   refl,
 )

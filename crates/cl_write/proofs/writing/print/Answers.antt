@@ -2,7 +2,7 @@ use Rattle.std.proofs.Common.{ap, ◌∙◌}
 use Rattle.std.proofs.lemmas.Result.{IfOk-weaker}
 use Rattle.toml.specs.Parse.{parse_document}
 use Rattle.cl_model.specs.Reading.{document_of}
-use Rattle.cl_write.proofs.Texts.{document_of-text}
+use Rattle.cl_model.proofs.DocumentTexts.{document_of-text}
 use Rattle.cl_write.proofs.writing.print.Goals as goal
 
 pub returns-in-Ok-clause-document : goal.returns-in-Ok-clause-document

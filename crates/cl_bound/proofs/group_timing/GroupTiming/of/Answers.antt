@@ -1,6 +1,4 @@
 use Rattle.std.proofs.Common.{ap, ◌∙◌}
-use Rattle.std.proofs.lemmas.List.{get_or_default}
-use Rattle.cl_model.specs.ByNumber.{no_task}
 use Rattle.cl_stim.proofs.ValidStimuli.{has_stimulus}
 use Rattle.cl_model.specs.Timing.{greatest_distance, greatest_jitter}
 use Rattle.cl_stim.specs.AnyStimulus.{kind_of}
@@ -10,25 +8,24 @@ use Rattle.cl_bound.proofs.ModelGroups.{response_found, settled_response, timing
 use Rattle.cl_bound.proofs.group_timing.GroupTiming.of.Goals as goal
 
 pub of-stimulus-requires : goal.of-stimulus-requires
-of-stimulus-requires c = rw c.stimulus_of.ensures (has_stimulus c.args.model.now c.plain.ensures.valid c.args.group.task c.requires.group.known)
+of-stimulus-requires c = rw c.stimulus_of.ensures (has_stimulus c.args.model.now c.task-task.ensures.valid c.args.group.task c.requires.group.known)
 
 pub access_window-requires-clause-settled : goal.access_window-requires-clause-settled
 access_window-requires-clause-settled c =
-    settled_response c.args.model.now c.args.settled.now c.args.group.task c.index-as_slice-group-2.result c.response-response.result c.requires.group.known
-    c.requires.answers c.requires.not_late (rw c.as_slice-2.ensures at c.index-as_slice-group-2.is) c.response-response.ensures
+    settled_response c.args.model.now c.args.settled.now c.args.group.task c.index-as_slice-group.result c.response-response.result c.requires.group.known
+    c.requires.answers c.requires.not_late (rw c.as_slice.ensures at c.index-as_slice-group.is) c.response-response.ensures
 
 pub access_window-requires-2-clause-settled : goal.access_window-requires-2-clause-settled
 access_window-requires-2-clause-settled c =
-    settled_response c.args.model.now c.args.settled.now c.args.group.task c.index-as_slice-group-2.result c.response-response.result c.requires.group.known
-    c.requires.answers c.requires.not_late (rw c.as_slice-2.ensures at c.index-as_slice-group-2.is) c.response-response.ensures
+    settled_response c.args.model.now c.args.settled.now c.args.group.task c.index-as_slice-group.result c.response-response.result c.requires.group.known
+    c.requires.answers c.requires.not_late (rw c.as_slice.ensures at c.index-as_slice-group.is) c.response-response.ensures
 
 pub returns-clause-timing : goal.returns-clause-timing
 returns-clause-timing c =
-    let task = (rw (c.as_slice.ensures, c.plain.ensures.plain) at c.index-as_slice-group.is) ∙ get_or_default c.args.model.now.tasks c.args.group.task c.index-as_slice-group.result no_task c.requires.group.known in
     let kind = ap kind_of c.of-stimulus.ensures ∙ kind_of-as_stimulus c.stimulus_of.result ∙ c.stimulus_of.ensures in
-    timing_of_group c.args.model.now c.args.group c.response-response.result c.index-as_slice-group.result c.requires.group task
-    (response_found c.args.model.now c.args.settled.now c.args.group.task c.index-as_slice-group-2.result c.response-response.result c.requires.group.known
-    c.requires.answers (rw c.as_slice-2.ensures at c.index-as_slice-group-2.is) c.response-response.ensures)
+    timing_of_group c.args.model.now c.args.group c.response-response.result c.task-task.result.now c.requires.group c.task-task.ensures.task
+    (response_found c.args.model.now c.args.settled.now c.args.group.task c.index-as_slice-group.result c.response-response.result c.requires.group.known
+    c.requires.answers (rw c.as_slice.ensures at c.index-as_slice-group.is) c.response-response.ensures)
     c.core_of.result c.jitter.result c.greatest_gap.result c.access_window.result.rlo c.access_window-2.result.whi c.is_timed.result
     c.core_of.ensures.core
     c.is_timed.ensures

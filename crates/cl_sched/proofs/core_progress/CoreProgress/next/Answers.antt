@@ -2,5 +2,5 @@ use Rattle.cl_sched.proofs.Steady.{goes_on_scheduled}
 use Rattle.cl_sched.proofs.core_progress.CoreProgress.next.Goals as goal
 
 pub returns-clause-scheduled : goal.returns-clause-scheduled
-returns-clause-scheduled c = λ system table core entries sound lawful reached tick first before.
-    goes_on_scheduled system sound table lawful core entries c.args.self.now reached c.following.result c.following.ensures.next tick first before
+returns-clause-scheduled c = λ system table core entries sound lawful reached.
+    goes_on_scheduled system sound table lawful core entries c.args.self.now reached c.following.result c.following.ensures.next

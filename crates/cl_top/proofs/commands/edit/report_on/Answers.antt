@@ -7,9 +7,7 @@ use Rattle.cl_top.proofs.EditSteps.{AreEditedSoFar, none_so_far, one_more, one_r
 use Rattle.cl_top.proofs.commands.edit.report_on.Goals as goal
 
 pub loop-place-init : goal.loop-place-init
-loop-place-init g c =
-    subst (λ (t : List ℕ). AreEditedSoFar c.args.edits.now c.args.session.model c.args.steps.now 0 c.args.session.model t c.args.steps.now) (sym c.new-text.ensures)
-    (none_so_far c.args.edits.now c.args.session.model c.args.steps.now)
+loop-place-init g c = none_so_far c.args.edits.now c.args.session.model _ c.args.steps.now c.new-text.ensures
 
 pub returns-in-Err-clause-outcome : goal.returns-in-Err-clause-outcome
 returns-in-Err-clause-outcome g c = IfOk-weaker c.stopped.result _ _ (λ outcome is.
@@ -17,7 +15,7 @@ returns-in-Err-clause-outcome g c = IfOk-weaker c.stopped.result _ _ (λ outcome
     let number : ℕ = c.loop-place.place + 2 in
     let come = one_refused c.args.edits.now c.args.session.model c.args.steps.now c.loop-place.place c.loop-place.session.model c.loop-place.text c.loop-place.steps
     c.loop-place.invariant c.index-edits-place.result c.index-edits-place.result (omega arith) (sym c.index-edits-place.is) is.0 refused.0 in
-    subst (λ (o : Outcome). AreEditedTo c.args.edits.now 2 c.args.session.model o)
+    subst (λ (o : Outcome). AreEditedTo c.args.session.model c.args.edits.now o)
     (ap (λ (t : List ℕ). behind t (edits_refused number is.0)) (sym refused.1) ∙ sym is.2) come) c.stopped.ensures
 
 pub returns-in-Err-clause-steps : goal.returns-in-Err-clause-steps
@@ -33,8 +31,9 @@ loop-place-preserved g c =
 
 pub returns-clause-outcome : goal.returns-clause-outcome
 returns-clause-outcome g c =
-    all_made c.args.edits.now c.args.session.model c.args.steps.now c.loop-place.place c.loop-place.session.model c.loop-place.text c.loop-place.steps
-    c.loop-place.invariant (omega arith)
+    subst (λ (o : Outcome). AreEditedTo c.args.session.model c.args.edits.now o) (sym c.done.ensures)
+    (all_made c.args.edits.now c.args.session.model c.args.steps.now c.loop-place.place c.loop-place.session.model c.loop-place.text c.loop-place.steps
+    c.loop-place.invariant (omega arith))
 
 pub returns-clause-steps : goal.returns-clause-steps
 returns-clause-steps g c =

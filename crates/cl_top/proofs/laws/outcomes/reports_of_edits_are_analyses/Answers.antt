@@ -1,5 +1,5 @@
-use Rattle.cl_top.proofs.ReportLines.{of_place}
+use Rattle.cl_top.proofs.ReportLines.{reports_are_analyses}
 use Rattle.cl_top.proofs.laws.outcomes.reports_of_edits_are_analyses.Goals as goal
 
 pub returns : goal.returns
-returns c = λ model changed edits place number found valid all comes line. of_place changed edits place number model found valid all comes line
+returns c = reports_are_analyses

@@ -1,0 +1,15 @@
+//! Questions on models, asked by words and answered by lines: what the cases of tests ask of single calls.
+#![tactic(auto)]
+
+mod asking;
+mod designs;
+mod exact_lengths;
+mod job_chains;
+mod plain_models;
+mod runs;
+mod sessions;
+mod tables;
+mod valid_models;
+mod words;
+
+pub use asking::ask;

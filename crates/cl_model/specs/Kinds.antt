@@ -1,0 +1,24 @@
+-- The kinds of access and of stimuli: how a kind of access is spelled, which is timed, and which stimuli are periodic.
+use Rattle.std.specs.Prelude.{ℕ, Bool, true, false, List, codes}
+use Rattle.cl_model.specs.declared.stimulus.StimulusKind.{StimulusKind}
+use Rattle.cl_model.specs.declared.stimulus.StimulusKind.TheVariants.{Periodic, Sporadic, Burst}
+use Rattle.cl_model.specs.declared.task.AccessKind.{AccessKind}
+use Rattle.cl_model.specs.declared.task.AccessKind.TheVariants.{Explicit, Implicit, Timed}
+
+-- the word of a kind of access
+abbrev pub access_word : AccessKind → List ℕ
+access_word Explicit = codes "explicit"
+access_word Implicit = codes "implicit"
+access_word Timed = codes "timed"
+
+-- whether a kind of access is timed: its tasks read and write at the arrival and the deadline of their jobs
+abbrev pub is_timed : AccessKind → Bool
+is_timed Explicit = false
+is_timed Implicit = false
+is_timed Timed = true
+
+-- whether jobs arrive by one period
+abbrev pub is_periodic : StimulusKind → Bool
+is_periodic (Periodic period offset jitter) = true
+is_periodic (Sporadic least greatest) = false
+is_periodic (Burst period offset count distance) = false

@@ -1,0 +1,20 @@
+//! Parts of complete chains.
+ghost use Rattle.std.specs.Prelude.{ℕ, ◌+◌, ◌-◌, ◌<◌, ◌≤◌, List, length, take, drop, slice_index};
+ghost use Rattle.cl_runs.specs.TaskTiming.{System};
+ghost use Rattle.cl_runs.specs.Run.{Run};
+ghost use Rattle.cl_model.specs.declared.group.Group.{Group};
+ghost use Rattle.cl_model.specs.Groups.{group_at};
+ghost use Rattle.cl_runs.specs.Chains.{JobChain, IsForwardChain};
+ghost use Rattle.cl_runs.specs.RunChains.{run_moments};
+
+/// Consecutive groups of a complete forward chain, with the jobs at their places, are one themselves: from a read of the job
+/// before the first of these jobs to a write of the last of them.
+pub fn parts_of_chains_are_complete()
+    ensures { (system : System) (run : Run) (groups : List Group) (chain : JobChain)
+        → IsForwardChain (run_moments system run) groups chain
+        → (first count : ℕ) → 0 < count → first + count ≤ length groups → (from to : ℕ)
+        → (run_moments system run).reads (group_at groups first) (slice_index chain.jobs first - 1) from
+        → (run_moments system run).writes (group_at groups (first + (count - 1))) (slice_index chain.jobs (first + (count - 1))) to
+        → IsForwardChain (run_moments system run) (take count (drop first groups))
+        (record { from = from; to = to; jobs = take count (drop first chain.jobs) }) }
+{}

@@ -1,0 +1,90 @@
+//! The outcome of each command that has files: what is opened, and what it comes to.
+ghost use Rattle.std.specs.Prelude.{◌≡◌, ℕ, Some, IfOk};
+ghost use Rattle.cl_top.specs.Calls.{shelf_call};
+ghost use Rattle.cl_top.specs.Command.{command_of};
+ghost use Rattle.cl_top.specs.Inner.Leaving.{LeavesRest};
+ghost use Rattle.cl_top.specs.Run.{ComesTo};
+
+use crate::Outcome;
+use crate::command::{Command, OfModel};
+use crate::commands::answered;
+use crate::commands::edit::edited;
+use crate::commands::replay::replayed;
+use crate::commands::simulate::simulated;
+use crate::opening::{FILE_LIMIT, Opened, OpenedTwo, TRACE_LIMIT, open_model, open_two};
+use cl_io::{Shelf, Words};
+use cl_time::{NoMemory, Steps};
+use std::alloc::Global;
+use std::sync::ledger::Ledger;
+
+/// The outcome of a command that names a model file and nothing else.
+pub(crate) fn answer_model<S: Shelf, L: Ledger>(
+    alloc: Global,
+    asked: OfModel,
+    words: &Words,
+    shelf: &mut S,
+    steps: &mut Steps<L>,
+) -> Result<Outcome, NoMemory>
+    requires { command_of words.now ≡ Some (Command.OfModel asked) }
+    ensures comes { IfOk result (ComesTo words.now (shelf_call S.held S.faults S.longest shelf.old shelf.new)) }
+    ensures leaves { LeavesRest words.now (shelf_call S.held S.faults S.longest shelf.old shelf.new) steps.old steps.new }
+{
+    match open_model(alloc, words, 1, shelf)? {
+        Opened::Valid(model) => answered(alloc, asked, &model, steps),
+        Opened::Stopped(outcome) => Ok(outcome),
+    }
+}
+
+/// The outcome of `simulate MODEL TICKS SEED`. It counts no step, whatever the counter stands at.
+pub(crate) fn simulate_file<S: Shelf>(
+    alloc: Global,
+    words: &Words,
+    ticks: u64,
+    seed: u64,
+    shelf: &mut S,
+) -> Result<Outcome, NoMemory>
+    requires { command_of words.now ≡ Some (Command.Simulate ticks seed) }
+    ensures comes { IfOk result (ComesTo words.now (shelf_call S.held S.faults S.longest shelf.old shelf.new)) }
+    ensures leaves { (steps : ℕ) → LeavesRest words.now (shelf_call S.held S.faults S.longest shelf.old shelf.new) steps steps }
+{
+    match open_model(alloc, words, 1, shelf)? {
+        Opened::Valid(model) => simulated(alloc, &model, ticks, seed),
+        Opened::Stopped(outcome) => Ok(outcome),
+    }
+}
+
+/// The outcome of `replay MODEL TRACE`.
+pub(crate) fn replay_files<S: Shelf, L: Ledger>(
+    alloc: Global,
+    words: &Words,
+    shelf: &mut S,
+    steps: &mut Steps<L>,
+) -> Result<Outcome, NoMemory>
+    requires { command_of words.now ≡ Some Command.Replay }
+    ensures comes { IfOk result (ComesTo words.now (shelf_call S.held S.faults S.longest shelf.old shelf.new)) }
+    ensures leaves { LeavesRest words.now (shelf_call S.held S.faults S.longest shelf.old shelf.new) steps.old steps.new }
+{
+    let opened = open_two(alloc, words, TRACE_LIMIT, shelf)?;
+    match opened {
+        OpenedTwo::Both(model, text) => replayed(alloc, &model, text.as_slice(), steps),
+        OpenedTwo::Stopped(outcome) => Ok(outcome),
+    }
+}
+
+/// The outcome of `edit MODEL EDITS`.
+pub(crate) fn edit_files<S: Shelf, L: Ledger>(
+    alloc: Global,
+    words: &Words,
+    shelf: &mut S,
+    steps: &mut Steps<L>,
+) -> Result<Outcome, NoMemory>
+    requires { command_of words.now ≡ Some Command.Edit }
+    ensures comes { IfOk result (ComesTo words.now (shelf_call S.held S.faults S.longest shelf.old shelf.new)) }
+    ensures leaves { LeavesRest words.now (shelf_call S.held S.faults S.longest shelf.old shelf.new) steps.old steps.new }
+{
+    let opened = open_two(alloc, words, FILE_LIMIT, shelf)?;
+    match opened {
+        OpenedTwo::Both(model, text) => edited(alloc, model, text.as_slice(), steps),
+        OpenedTwo::Stopped(outcome) => Ok(outcome),
+    }
+}

@@ -1,0 +1,140 @@
+//! What the command of a case answers.
+ghost use Rattle.std.specs.Prelude.{◌≡◌, ◌<◌};
+
+use crate::asked::{asked, is_question};
+use crate::case::Case;
+use crate::case_file::{CaseFile, remove_file};
+use crate::fault::Fault;
+use crate::limits::Limits;
+use cl_io::{MemShelf, MemSink, Shelf, Sink, Words};
+use cl_time::Steps;
+use cl_top::run;
+use std::alloc::Global;
+use std::marker::Brand;
+use std::sync::ledger::{Blank, Ledger};
+
+/// A status, and all that was written.
+#[derive(Drop)]
+pub(crate) struct Found {
+    pub(crate) status: u8,
+    pub(crate) text: Vec<u8>,
+}
+
+/// What the words of a case answer.
+pub(crate) fn answered(case: &Case) -> Result<Found, Fault> {
+    let words = words_of(case.alloc, case.words.as_str())?;
+    answered_words(case.alloc, &words, case.files.as_slice(), case.limits)
+}
+
+/// The same, once the model, whose name stands behind the verb, is what `migrate` makes of it. Where it makes nothing
+/// of it, that is the answer.
+pub(crate) fn answered_migrated(mut case: Case) -> Result<Found, Fault> {
+    let name = model_name(case.alloc, case.words.as_str())?;
+    let migration = format!(in case.alloc; "migrate {name}")?;
+    let words = words_of(case.alloc, migration.as_str())?;
+    let migrated = answered_words(case.alloc, &words, case.files.as_slice(), Limits::none())?;
+    if migrated.status != 0 {
+        return Ok(migrated);
+    }
+    remove_file(&mut case.files, name.as_str());
+    let file = CaseFile::new(case.alloc, name.as_str(), migrated.text)?;
+    case.files.push(file)?;
+    answered(&case)
+}
+
+/// The second word.
+fn model_name(alloc: Global, words: &str) -> Result<String, Fault> {
+    match words.split_whitespace().nth(1) {
+        Some(name) => Ok(String::from_str(alloc, name)?),
+        None => Err(Fault::Refused("no model to migrate")),
+    }
+}
+
+/// The words of a line.
+fn words_of(alloc: Global, line: &str) -> Result<Words, Fault> {
+    let mut words = Words::new(alloc);
+    for word in line.split_whitespace() {
+        words.push(word)?;
+    }
+    Ok(words)
+}
+
+/// What words answer of these files.
+fn answered_words(
+    alloc: Global,
+    words: &Words,
+    files: &[CaseFile],
+    limits: Limits,
+) -> Result<Found, Fault> {
+    let mut shelf = shelf_of(alloc, files)?;
+    if let Some(call) = limits.fetch {
+        shelf.fail_call(call)?;
+    }
+    answered_over(alloc, words, &mut shelf, limits)
+}
+
+/// A shelf that holds these files.
+fn shelf_of(alloc: Global, files: &[CaseFile]) -> Result<MemShelf, Fault> {
+    let mut shelf = MemShelf::new(alloc);
+    for file in files {
+        shelf.put(file.name.as_str(), file.content.as_slice())?;
+    }
+    Ok(shelf)
+}
+
+/// What words answer over a shelf: a command, or a question to the libraries.
+fn answered_over(
+    alloc: Global,
+    words: &Words,
+    shelf: &mut MemShelf,
+    limits: Limits,
+) -> Result<Found, Fault> {
+    if is_question(words) {
+        asked(alloc, words, shelf)
+    } else {
+        commanded(alloc, words, shelf, limits)
+    }
+}
+
+/// What a command answers over a shelf.
+fn commanded(
+    alloc: Global,
+    words: &Words,
+    shelf: &mut MemShelf,
+    limits: Limits,
+) -> Result<Found, Fault> {
+    let mut sink = sink_of(alloc, limits)?;
+    let status = run_here(alloc, words, shelf, &mut sink);
+    let text = Vec::from_slice(alloc, sink.bytes())?;
+    Ok(Found { status, text })
+}
+
+/// A sink with these limits.
+fn sink_of(alloc: Global, limits: Limits) -> Result<MemSink, Fault> {
+    let mut sink = MemSink::new(alloc, limits.room, limits.step.max(1))?;
+    if let Some(call) = limits.write {
+        sink.fail_call(call)?;
+    }
+    Ok(sink)
+}
+
+/// Runs a command with a counter of steps that nothing reads.
+fn run_here<S: Shelf, K: Sink>(alloc: Global, words: &Words, shelf: &mut S, sink: &mut K) -> u8 {
+    run_uncounted::<S, K, Brand>(alloc, words, shelf, sink, Blank::new(1))
+}
+
+/// Runs a command with a counter on this blank; `Invariants.antt` of `run_here` picks the ledger of the blank.
+fn run_uncounted<S: Shelf, K: Sink, L: Ledger>(
+    alloc: Global,
+    words: &Words,
+    shelf: &mut S,
+    sink: &mut K,
+    blank: Blank,
+) -> u8
+    requires name { blank.name ≡ L.name }
+    requires parts { blank.parts ≡ L.parts }
+    requires a_part { 0 < blank.parts }
+{
+    let mut steps = Steps::<L>::open(blank);
+    run(alloc, words, shelf, sink, &mut steps)
+}

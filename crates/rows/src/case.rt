@@ -1,0 +1,228 @@
+//! A case, as far as its lines were read.
+use crate::case_file::{CaseFile, remove_file};
+use crate::fault::Fault;
+use crate::hunk::{Hunk, cut_line_end, push_line};
+use crate::limits::{Limits, number_of};
+use crate::numbered::numbered;
+use std::alloc::Global;
+use std::fs;
+use std::io::ErrorKind;
+use std::rt::Files;
+
+/// What a case is to come to: a status, and the whole text or its first line.
+#[derive(Clone, Drop)]
+pub(crate) struct Wanted {
+    pub(crate) status: u8,
+    pub(crate) text: Vec<u8>,
+    pub(crate) whole: bool,
+}
+
+impl Wanted {
+    /// The text so many times.
+    fn repeat(&mut self, alloc: Global, count: u64) -> Result<(), Fault> {
+        self.text = numbered(alloc, self.text.as_slice(), b'@', count)?;
+        Ok(())
+    }
+}
+
+/// A case: the words of a command, its files, what fails, and what it is to come to.
+#[derive(Clone, Drop)]
+pub(crate) struct Case {
+    pub(crate) alloc: Global,
+    pub(crate) name: String,
+    pub(crate) line: u64,
+    pub(crate) words: String,
+    /// The last file is the one that hunks change.
+    pub(crate) files: Vec<CaseFile>,
+    hunk: Hunk,
+    pub(crate) limits: Limits,
+    wanted: Option<Wanted>,
+    /// Whether a line of this very case says what is wanted.
+    wants: bool,
+}
+
+impl Case {
+    /// A case of no words and no files.
+    pub(crate) fn new(alloc: Global) -> Self {
+        Case {
+            alloc,
+            name: String::new(alloc),
+            line: 0,
+            words: String::new(alloc),
+            files: Vec::new(alloc),
+            hunk: Hunk::new(alloc),
+            limits: Limits::none(),
+            wanted: None,
+            wants: false,
+        }
+    }
+
+    /// A case of this name, which begins with what belongs to every case.
+    pub(crate) fn begun(&self, name: &str, line: u64) -> Result<Case, Fault> {
+        let mut case = self.clone()?;
+        case.name.push_str(name)?;
+        case.line = line;
+        case.wants = false;
+        Ok(case)
+    }
+
+    /// What the case is to come to.
+    pub(crate) fn wanted(&self) -> Result<&Wanted, Fault> {
+        match &self.wanted {
+            Some(wanted) => Ok(wanted),
+            None => Err(Fault::Refused("a case without `wants`")),
+        }
+    }
+
+    /// Reads one line of the case. `last` is what the case before has written.
+    pub(crate) fn read_line<R: Files + AllocGlobal>(
+        &mut self,
+        rt: &R,
+        last: &[u8],
+        line: &str,
+    ) -> Result<(), Fault> {
+        let Some((first, rest)) = line.as_bytes().split_first() else {
+            return self.end_hunk();
+        };
+        match *first {
+            b'#' => Ok(()),
+            b' ' => self.hunk.keep(rest),
+            b'-' => self.hunk.remove(rest),
+            b'+' => self.hunk.add(rest),
+            b'|' => self.want_line(rest),
+            b'\\' => self.cut_line_end(),
+            _ => self.read_words(rt, last, line),
+        }
+    }
+
+    /// Reads a line that begins with a word.
+    fn read_words<R: Files + AllocGlobal>(
+        &mut self,
+        rt: &R,
+        last: &[u8],
+        line: &str,
+    ) -> Result<(), Fault> {
+        let (word, rest) = line.split_once(' ').unwrap_or((line, ""));
+        match word {
+            "times" => self.hunk.begin_times(number_of(rest)?),
+            "once" => self.hunk.end_times(),
+            "again" => self.repeat(number_of(rest)?),
+            "last" => self.hunk.add_text(last),
+            _ => {
+                self.end_hunk()?;
+                self.read_setting(rt, word, rest)
+            }
+        }
+    }
+
+    /// Reads a line that is no part of a hunk.
+    fn read_setting<R: Files + AllocGlobal>(
+        &mut self,
+        rt: &R,
+        word: &str,
+        rest: &str,
+    ) -> Result<(), Fault> {
+        match word {
+            "words" => self.set_words(rest),
+            "file" => self.add_file(rt, rest),
+            "wants" => self.want(rest, true),
+            "begins" => self.want(rest, false),
+            _ => self.limits.set(word, rest),
+        }
+    }
+
+    /// Applies the hunk that ends here to the last file.
+    pub(crate) fn end_hunk(&mut self) -> Result<(), Fault> {
+        if self.hunk.is_empty() {
+            return Ok(());
+        }
+        let Some(mut file) = self.files.pop() else {
+            return Err(Fault::Refused("no file to change"));
+        };
+        file.content = self.hunk.applied(file.content.as_slice())?;
+        self.hunk = Hunk::new(self.alloc);
+        self.files.push(file)?;
+        Ok(())
+    }
+
+    fn set_words(&mut self, words: &str) -> Result<(), Fault> {
+        self.words = String::from_str(self.alloc, words)?;
+        Ok(())
+    }
+
+    /// Adds a file, which is empty or what lies under the second name.
+    fn add_file<R: Files + AllocGlobal>(&mut self, rt: &R, words: &str) -> Result<(), Fault> {
+        let (name, base) = words.split_once(' ').unwrap_or((words, ""));
+        let content = if base.is_empty() {
+            Vec::new(self.alloc)
+        } else {
+            read_base(rt, base)?
+        };
+        remove_file(&mut self.files, name);
+        self.files.push(CaseFile::new(self.alloc, name, content)?)?;
+        Ok(())
+    }
+
+    /// Sets the status, and the text as far as it stands in the same line.
+    fn want(&mut self, words: &str, whole: bool) -> Result<(), Fault> {
+        if self.wants {
+            return Err(Fault::Refused("a second `wants`"));
+        }
+        self.wants = true;
+        let (status, line) = words.split_once(' ').unwrap_or((words, ""));
+        let Ok(status) = status.parse::<u8>() else {
+            return Err(Fault::Refused("no status"));
+        };
+        let mut text = Vec::new(self.alloc);
+        if !line.is_empty() {
+            push_line(&mut text, line.as_bytes())?;
+        }
+        self.wanted = Some(Wanted {
+            status,
+            text,
+            whole,
+        });
+        Ok(())
+    }
+
+    /// Adds a line to the text that is wanted.
+    fn want_line(&mut self, line: &[u8]) -> Result<(), Fault> {
+        match &mut self.wanted {
+            Some(wanted) => push_line(&mut wanted.text, line),
+            None => Err(Fault::Refused("a text before its `wants`")),
+        }
+    }
+
+    /// Takes away the end of the last line of the hunk, or of the text that is wanted.
+    fn cut_line_end(&mut self) -> Result<(), Fault> {
+        if !self.hunk.is_empty() {
+            self.hunk.cut_line_end();
+            return Ok(());
+        }
+        match &mut self.wanted {
+            Some(wanted) => cut_line_end(&mut wanted.text),
+            None => return Err(Fault::Refused("no line whose end to take away")),
+        }
+        Ok(())
+    }
+
+    /// All lines of the hunk that come so far, or all lines that are wanted so far, so many times.
+    fn repeat(&mut self, count: u64) -> Result<(), Fault> {
+        if !self.hunk.is_empty() {
+            return self.hunk.repeat(count);
+        }
+        match &mut self.wanted {
+            Some(wanted) => wanted.repeat(self.alloc, count),
+            None => Err(Fault::Refused("no lines to repeat")),
+        }
+    }
+}
+
+/// The bytes of a base.
+fn read_base<R: Files + AllocGlobal>(rt: &R, name: &str) -> Result<Vec<u8>, Fault> {
+    match fs::read(rt, name) {
+        Ok(content) => Ok(content),
+        Err(error) if error.kind() == ErrorKind::OutOfMemory => Err(Fault::NoMemory),
+        Err(_) => Err(Fault::Refused("no file of that name")),
+    }
+}
