@@ -4,8 +4,9 @@ use Rattle.std.proofs.lemmas.List.{ext_get_or}
 use Rattle.cl_model.specs.declared.model.SystemModel.{SystemModel}
 use Rattle.cl_model.specs.declared.group.Group.{Group}
 use Rattle.cl_model.specs.Groups.{groups_at}
-use Rattle.cl_runs.specs.TaskTiming.{System}
+use Rattle.cl_runs.specs.TaskTiming.{System, IsSound}
 use Rattle.cl_runs.specs.SystemOf.{system_of}
+use Rattle.cl_resp.proofs.BusyWindowTask.{settled_timely}
 use Rattle.cl_bound.specs.Answers.{answers_of, answer_at, response_in}
 use Rattle.cl_bound.specs.SettledChains.{IsSettledChain}
 use Rattle.cl_bound.proofs.SettledTasks.{settled_task}
@@ -84,8 +85,9 @@ module _ (model : SystemModel) (chain : ℕ) (lengths : Witnesses) where
 -- ---- the tasks of a chain
 
 -- the tasks of a settled chain have responses
-pub settled_have_responses : (system : System) (groups : List Group) → IsSettledChain system groups → HaveResponses system groups
-settled_have_responses system groups settled = λ i d within. record {
+pub settled_have_responses : (system : System) → IsSound system → (groups : List Group) → IsSettledChain system groups → HaveResponses system groups
+settled_have_responses system sound groups settled = λ i d within. record {
   response = response_in (answer_at (answers_of system) (get_or groups i d).task);
-  settled = settled_task system (get_or groups i d).task (settled.groups_of i d within).is_task (settled.settled i d within);
+  timely = settled_timely system sound (get_or groups i d).task _
+      (settled_task system (get_or groups i d).task (settled.groups_of i d within).is_task (settled.settled i d within));
 }

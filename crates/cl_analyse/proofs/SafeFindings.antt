@@ -191,7 +191,7 @@ module _ (model : SystemModel) (valid : IsValid model) where
         → IsSettledChain (system_of model) (groups_at model chain) → IsExactBecause model chain answer
     timely_because false is answer not settled = subst (IsExactBecause model chain) (sym not) is
     timely_because true is (Exact lengths) exact settled =
-        model_exact_in_runs model valid chain is (settled_have_responses (system_of model) (groups_at model chain) settled) lengths exact.1
+        model_exact_in_runs model valid chain is (settled_have_responses (system_of model) (system_sound model valid) (groups_at model chain) settled) lengths exact.1
     timely_because true is (Past limit) past settled = past
     timely_because true is NotTimed not settled = absurd not
     timely_because true is ChainLate late settled = absurd late

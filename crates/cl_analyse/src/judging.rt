@@ -54,9 +54,10 @@ fn exact_value(exacts: &List<ExactAnswer>, chain: u32, kind: LengthKind) -> Opti
     }
 }
 
-/// The bound on the lengths of a kind that was found of a chain.
+/// The bound on the lengths of a kind that was found of a chain, in ticks, by the answers for all chains. There is none
+/// where a task of the chain is late, or where there is no chain of that number.
 #[tactic(auto, using(std::proofs::lemmas::Option::gets))]
-fn bound_value(chains: &List<ChainAnswer>, chain: u32, kind: LengthKind) -> Option<u64>
+pub fn bound_value(chains: &List<ChainAnswer>, chain: u32, kind: LengthKind) -> Option<u64>
     ensures { result ≡ bound_value kind (chain_answer_at chains.now chain) }
 {
     match chains.at(chain as usize) {
@@ -65,8 +66,8 @@ fn bound_value(chains: &List<ChainAnswer>, chain: u32, kind: LengthKind) -> Opti
     }
 }
 
-/// The verdict on a requirement of so much at most, by the exact value and by the bound.
-fn verdict_on(most: u64, exact: Option<u64>, bound: Option<u64>) -> Verdict
+/// The verdict on a requirement of so many ticks at most, by the exact value and by the bound, where there are any.
+pub fn verdict_on(most: u64, exact: Option<u64>, bound: Option<u64>) -> Verdict
     ensures { result ≡ verdict_on most exact bound }
 {
     match (exact, bound) {

@@ -11,4 +11,4 @@ pub mod laws;
 pub use analysing::{analyse, answer_chain, answer_question, first_late};
 pub use exact_answers::answer_exact;
 pub use findings::{ChainAnswer, ExactAnswer, Findings, Verdict};
-pub use judging::judge_all;
+pub use judging::{bound_value, judge_all, verdict_on};

@@ -8,21 +8,16 @@ use Rattle.cl_model.specs.declared.limits.TheConstants.{MOST_TICKS, MOST_STEPS}
 use Rattle.cl_model.specs.declared.model.SystemModel.{SystemModel}
 use Rattle.cl_model.specs.declared.group.Group.{Group}
 use Rattle.cl_model.specs.Groups.{IsGroupOf, no_group}
-use Rattle.cl_model.specs.Timing.{greatest_distance}
 use Rattle.cl_model.specs.Validity.{IsValid}
-use Rattle.cl_runs.specs.TaskTiming.{Timing}
 use Rattle.cl_runs.specs.SystemOf.{system_of}
-use Rattle.cl_runs.proofs.ModelSystem.{timing_is, system_sound}
-use Rattle.cl_stim.proofs.ValidStimuli.{has_stimulus}
-use Rattle.cl_resp.proofs.StimulusKinds.{greatest_few}
+use Rattle.cl_runs.proofs.ModelSystem.{system_sound}
 use Rattle.cl_bound.specs.declared.group_timing.GroupTiming.{GroupTiming}
 use Rattle.cl_bound.specs.declared.sums.Sums.{Sums}
 use Rattle.cl_bound.specs.Answers.{answers_of, NoneIsLate}
-use Rattle.cl_bound.specs.Hops.{group_timing}
 use Rattle.cl_bound.specs.Bounds.{Lengths, greatest_reaction, greatest_age, greatest_reduced, AreBoundsOf, settled_timing, settled_timings, bounds_of}
 use Rattle.cl_bound.specs.SettledChains.{IsSettledChain, AreWithin}
 use Rattle.cl_bound.specs.Inner.Sums.{IsBound, sums_of, HaveBounds, AreBoundsIn}
-use Rattle.cl_bound.proofs.ModelGroups.{settled_chain}
+use Rattle.cl_bound.proofs.ModelGroups.{settled_chain, distance_near}
 use Rattle.cl_bound.proofs.SettledChains.{settled_sums, AreLimited, limited, reaction_positive, age_positive, reduced_positive}
 
 -- a list that isn't empty, by its first item and the rest
@@ -53,11 +48,7 @@ module _ (model : SystemModel) (valid : IsValid model) (groups : List Group) (so
   is_settled = settled_chain model groups of_tasks timely
 
   are_near : AreWithin (system_of model) MOST_TICKS groups
-  unfolding group_timing
-  are_near i d h =
-      let known = (of_tasks i d h).known in
-      rw (ap (λ (t : Timing). greatest_distance t.pattern) (timing_is model (get_or groups i d).task known))
-      (greatest_few _ (has_stimulus model valid (get_or groups i d).task known).0)
+  are_near i d h = distance_near model valid _ (get_or groups i d) (of_tasks i d h).known
 
   most : AreLimited (system_of model) groups MOST_TICKS
   most = limited (system_of model) (system_sound model valid) groups is_settled MOST_TICKS are_near

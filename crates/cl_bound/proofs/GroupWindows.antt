@@ -1,9 +1,11 @@
--- The window of a group of a settled task: it reads before its greatest distance is over, and before it writes.
+-- The window of a group whose task has a response that holds its greatest execution time and is within its deadline:
+-- it reads before its greatest distance is over, and before it writes.
 use Rattle.std.proofs.Common.{◌≡◌, ℕ, ◌+◌, ◌<◌, ◌≤◌, List, [], ◌∷◌, length, drop, arith}
 use Rattle.std.specs.Prelude.{sum_by, slice_index_or, All}
 use Rattle.std.proofs.Math.Numerals.{add-one}
 use Rattle.std.proofs.lemmas.List.Elements.{All-head, All-tail}
 use Rattle.std.proofs.lemmas.List.Sums.{sum_by-cons, sum_by-take-drop, sum_by-drop_more}
+use Rattle.cl_model.specs.declared.limits.TheConstants.{MOST_TICKS}
 use Rattle.cl_model.specs.declared.group.Group.{Group}
 use Rattle.cl_model.specs.declared.task.AccessKind.{AccessKind}
 use Rattle.cl_model.specs.declared.task.AccessKind.TheVariants.{Explicit, Implicit, Timed}
@@ -15,9 +17,7 @@ use Rattle.cl_comm.specs.declared.spot.Spot.{Spot}
 use Rattle.cl_comm.specs.Windows.{least_times, spot_at, window_of}
 use Rattle.cl_comm.proofs.AccessTimes.{windows_end_by_the_deadline}
 use Rattle.cl_resp.specs.Question.{greatest_execution}
-use Rattle.cl_resp.specs.Response.{IsSettled}
-use Rattle.cl_resp.proofs.SettledTasks.{execution_in_response, response_in_deadline}
-use Rattle.cl_bound.specs.Hops.{group_timing}
+use Rattle.cl_bound.specs.Hops.{group_timing, IsNear}
 use Rattle.cl_bound.specs.declared.group_timing.GroupTiming.{GroupTiming}
 use Rattle.cl_bound.specs.SettledChains.{IsGroupOfTask}
 
@@ -51,21 +51,22 @@ begins_before_end : (task : Timing) (p q : ℕ) → p ≤ q → 1 ≤ (slice_ind
 unfolding spot_at least_times no_range
 begins_before_end task p q h own = omega (arith, own, sum_take_mono (λ (r : TimeRange). r.least) task.ranges p q h)
 
--- the least times of a settled task fit into its response, which is within the deadline of each of its spots
-module _ (system : System) (sound : IsSound system) (i p response : ℕ) (settled : IsSettled system i response) where
-  pub spot_fits : p < length (timing_at system i).ranges
-      → (spot_at (timing_at system i) p).before + (spot_at (timing_at system i) p).own + (spot_at (timing_at system i) p).after ≤ response
-  unfolding greatest_execution
-  spot_fits is = omega (
-    arith,
-    spot_parts (timing_at system i) p is,
-    least_below_greatest (timing_at system i).ranges (sound.tasks i settled.is_task).times,
-    execution_in_response system i response settled,
-  )
+-- the least times of a task fit into a response that holds the greatest
+pub spot_fits : (system : System) → IsSound system → (i p response : ℕ) → i < length system.tasks → greatest_execution (timing_at system i) ≤ response
+    → p < length (timing_at system i).ranges
+    → (spot_at (timing_at system i) p).before + (spot_at (timing_at system i) p).own + (spot_at (timing_at system i) p).after ≤ response
+unfolding greatest_execution
+spot_fits system sound i p response is_task holds is = omega (
+  arith,
+  holds,
+  spot_parts (timing_at system i) p is,
+  least_below_greatest (timing_at system i).ranges (sound.tasks i is_task).times,
+)
 
-  pub spot_in_time : response ≤ (spot_at (timing_at system i) p).deadline
-  unfolding spot_at
-  spot_in_time = response_in_deadline system i response settled sound
+-- and what is within the task's deadline is within that of each of its spots
+pub spot_in_time : (system : System) (i p response : ℕ) → response ≤ (timing_at system i).deadline → response ≤ (spot_at (timing_at system i) p).deadline
+unfolding spot_at
+spot_in_time system i p response in_time = in_time
 
 -- the spots of a runnable and of one at or after it
 record AreSpots (first last : Spot) (response distance : ℕ) : Type 0 where
@@ -91,19 +92,20 @@ pub record IsProper (group : GroupTiming) : Type 0 where
   pub write_by_next : group.write ≤ group.distance
   pub jitter_before_next : group.jitter < group.distance
 
--- that of a group of a settled task is one
+-- that of a group with such a response is one
 pub group_proper : (system : System) → IsSound system → (responses : ℕ → ℕ) (group : Group) → IsGroupOfTask system group
-    → IsSettled system group.task (responses group.task) → IsProper (group_timing system responses group)
+    → greatest_execution (timing_at system group.task) ≤ responses group.task → responses group.task ≤ (timing_at system group.task).deadline
+    → IsProper (group_timing system responses group)
 unfolding group_timing spot_at no_range
-group_proper system sound responses group is settled =
+group_proper system sound responses group is holds by_deadline =
     let task = timing_at system group.task in
     let task_sound = sound.tasks group.task is.is_task in
     let own = (task_sound.times group.last no_range is.is_runnable).0 in
     let apart : task.deadline ≤ greatest_distance task.pattern = omega (arith, task_sound.within_distance, distances_ordered task.pattern task_sound.pattern) in
     let spots : AreSpots (spot_at task group.first) (spot_at task group.last) (responses group.task) (greatest_distance task.pattern) = record {
       behind = begins_before_end task group.first group.last is.ordered own;
-      fits = spot_fits system sound group.task group.last (responses group.task) settled is.is_runnable;
-      in_time = spot_in_time system sound group.task group.last (responses group.task) settled;
+      fits = spot_fits system sound group.task group.last (responses group.task) is.is_task holds is.is_runnable;
+      in_time = by_deadline;
       apart = apart;
     } in
     let (next, write) = read_first task.access (spot_at task group.first) (spot_at task group.last) (responses group.task) (greatest_distance task.pattern) spots in
@@ -113,3 +115,12 @@ group_proper system sound responses group is settled =
       write_by_next = omega (arith, apart, windows_end_by_the_deadline task.access (spot_at task group.last) (responses group.task) spots.fits spots.in_time);
       jitter_before_next = omega (arith, task_sound.above_jitter, apart);
     }
+
+-- its numbers are at most its greatest distance
+pub proper_near : (group : GroupTiming) → IsProper group → group.distance ≤ MOST_TICKS → IsNear group
+proper_near group proper distance = record {
+  jitter = omega (arith, proper.jitter_before_next, distance);
+  distance = distance;
+  read = omega (arith, proper.read_before_next, distance);
+  write = omega (arith, proper.write_by_next, distance);
+}

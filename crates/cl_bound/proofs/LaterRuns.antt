@@ -1,4 +1,4 @@
--- What a longer run says of a task whose jobs always finish in time: its writes come in time, and its next job writes.
+-- What a longer run says of a timely task: its writes come in time, and its next job writes.
 use Rattle.std.proofs.Common.{ℕ, suc, ◌+◌, ◌<◌, ◌≤◌, length, arith}
 use Rattle.cl_model.specs.Timing.{greatest_distance}
 use Rattle.cl_runs.specs.TaskTiming.{System, timing_at, IsSound}
@@ -12,13 +12,7 @@ use Rattle.cl_runs.proofs.Extension.{extension}
 use Rattle.cl_runs.proofs.Agreement.{job_kept, arrival_kept, writes_kept}
 use Rattle.cl_comm.specs.Windows.{window_at}
 use Rattle.cl_comm.proofs.AccessTimes.{writes_come_in_time, finished_jobs_write}
-use Rattle.cl_resp.specs.Promises.{AlwaysFinishesWithin}
-
--- the jobs of a task always finish within a response that its deadline allows
-pub record IsTimely (system : System) (i response : ℕ) : Type 0 where
-  pub is_task : i < length system.tasks
-  pub by_deadline : response ≤ (timing_at system i).deadline
-  pub always : AlwaysFinishesWithin system i response
+use Rattle.cl_resp.specs.Promises.{IsTimely}
 
 -- a legal run that goes on from a run, in which the job after job k has written
 pub record NextWrite (system : System) (run : Run) (i k p : ℕ) : Type 0 where

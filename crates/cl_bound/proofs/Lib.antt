@@ -3,7 +3,8 @@ pub mod GroupWindows
 pub mod HigherFinished
 pub mod LaterRuns
 pub mod ReadsBeforeWrites
-pub mod HopTable
+pub mod DelayTable
+pub mod DelayBounds
 pub mod HopBounds
 pub mod AlongChains
 pub mod ChainBounds

@@ -1,9 +1,10 @@
 -- The groups of a model's chains in the model's system: they are groups of it, and their timings by field.
-use Rattle.std.proofs.Common.{◌≡◌, ℕ, ◌<◌, Bool, false, List, length, get_or, sym, ap, ◌∙◌, arith}
+use Rattle.std.proofs.Common.{◌≡◌, ℕ, ◌<◌, ◌≤◌, Bool, false, List, length, get_or, sym, ap, ◌∙◌, arith}
 use Rattle.std.specs.Prelude.{All}
 use Rattle.std.proofs.lemmas.List.{get_or_default}
 use Rattle.std.proofs.lemmas.List.Elements.{All-weaker}
 use Rattle.std.proofs.Math.ListN.{length-map}
+use Rattle.cl_model.specs.declared.limits.TheConstants.{MOST_TICKS}
 use Rattle.cl_model.specs.declared.model.SystemModel.{SystemModel}
 use Rattle.cl_model.specs.declared.group.Group.{Group}
 use Rattle.cl_model.specs.declared.task.TaskDef.{TaskDef}
@@ -11,19 +12,23 @@ use Rattle.cl_model.specs.Groups.{IsGroupOf}
 use Rattle.cl_model.specs.ByNumber.{task_at, core_of, jitter_of, stimulus_of}
 use Rattle.cl_model.specs.Timing.{greatest_distance, greatest_jitter}
 use Rattle.cl_model.specs.Kinds.{is_timed}
-use Rattle.cl_runs.specs.TaskTiming.{Timing, timing_at}
+use Rattle.cl_model.specs.Validity.{IsValid}
+use Rattle.cl_runs.specs.TaskTiming.{Timing, System, timing_at}
 use Rattle.cl_runs.specs.SystemOf.{system_of}
-use Rattle.cl_runs.proofs.ModelSystem.{timing_is, count_is, range_count_is}
+use Rattle.cl_runs.proofs.ModelSystem.{timing_is, count_is, range_count_is, system_sound}
+use Rattle.cl_stim.proofs.ValidStimuli.{has_stimulus}
 use Rattle.cl_comm.specs.Windows.{window_at}
+use Rattle.cl_resp.specs.Question.{greatest_execution}
 use Rattle.cl_resp.specs.Response.{IsSettled}
+use Rattle.cl_resp.proofs.StimulusKinds.{greatest_few}
 use Rattle.cl_bound.specs.declared.answer.TaskAnswer.{TaskAnswer}
 use Rattle.cl_bound.specs.declared.answer.TaskAnswer.TheVariants.{Late}
 use Rattle.cl_bound.specs.Answers.{answers_of, answer_to, answer_at, is_late, response_in, NoneIsLate}
 use Rattle.cl_bound.proofs.SettledTasks.{settled_task}
 use Rattle.cl_bound.specs.declared.group_timing.GroupTiming.{GroupTiming}
-use Rattle.cl_bound.specs.Hops.{group_timing}
-use Rattle.cl_bound.specs.Bounds.{settled_timing}
+use Rattle.cl_bound.specs.Hops.{group_timing, IsNear}
 use Rattle.cl_bound.specs.SettledChains.{IsGroupOfTask, IsSettledChain}
+use Rattle.cl_bound.proofs.GroupWindows.{group_proper, proper_near}
 
 -- a group of a model is one of its system
 pub group_of_system : (model : SystemModel) (group : Group) → IsGroupOf model group → IsGroupOfTask (system_of model) group
@@ -50,15 +55,15 @@ same_timing task c p r j d a b core priority timed jitter distance read write e 
 
 -- the timing of a group, by its fields
 pub timing_of_group : (model : SystemModel) (group : Group) (response : ℕ) (task : TaskDef) → IsGroupOf model group → task ≡ task_at model group.task
-    → response ≡ response_in (answer_at (answers_of (system_of model)) group.task) → (core jitter distance read write : ℕ) (timed : Bool)
+    → (core jitter distance read write : ℕ) (timed : Bool)
     → core ≡ core_of model group.task → timed ≡ is_timed task.access → jitter ≡ jitter_of model group.task
     → distance ≡ greatest_distance (stimulus_of model group.task)
     → read ≡ (window_at (timing_at (system_of model) group.task) group.first response).rlo
     → write ≡ (window_at (timing_at (system_of model) group.task) group.last response).whi
     → ◌≡◌ {A = GroupTiming} (record { task = group.task; core = core; priority = task.priority; is_timed = timed; jitter = jitter; distance = distance; read = read; write = write })
-    (settled_timing (system_of model) group)
+    (group_timing (system_of model) (λ (_ : ℕ). response) group)
 unfolding group_timing
-timing_of_group model group response task is task_is responds core jitter distance read write timed core_is timed_is jitter_is distance_is read_is write_is =
+timing_of_group model group response task is task_is core jitter distance read write timed core_is timed_is jitter_is distance_is read_is write_is =
     let timing = sym (timing_is model group.task is.known) in
     same_timing _ _ _ _ _ _ _ _ _ _ _ _ _ _ _
     (core_is ∙ ap (λ (t : Timing). t.core) timing)
@@ -66,8 +71,14 @@ timing_of_group model group response task is task_is responds core jitter distan
     (timed_is ∙ ap (λ (t : TaskDef). is_timed t.access) task_is ∙ ap (λ (t : Timing). is_timed t.access) timing)
     (jitter_is ∙ ap (λ (t : Timing). greatest_jitter t.pattern) timing)
     (distance_is ∙ ap (λ (t : Timing). greatest_distance t.pattern) timing)
-    (read_is ∙ ap (λ (r : ℕ). (window_at (timing_at (system_of model) group.task) group.first r).rlo) responds)
-    (write_is ∙ ap (λ (r : ℕ). (window_at (timing_at (system_of model) group.task) group.last r).whi) responds)
+    read_is
+    write_is
+
+-- a group is as its own response makes it
+pub timing_with_response : (system : System) (responses : ℕ → ℕ) (group : Group) (response : ℕ) → response ≡ responses group.task
+    → group_timing system (λ (_ : ℕ). response) group ≡ group_timing system responses group
+unfolding group_timing
+timing_with_response system responses group response is = ap (λ (r : ℕ). group_timing system (λ (_ : ℕ). r) group) is
 
 -- the response of a task, from its answer in the list of all answers
 pub response_found : (model : SystemModel) (answers : List TaskAnswer) (i : ℕ) (answer : TaskAnswer) (response : ℕ) → i < length model.tasks
@@ -84,3 +95,18 @@ pub settled_response : (model : SystemModel) (answers : List TaskAnswer) (i : �
 settled_response model answers i answer response lt are timely at is =
     rw (response_found model answers i answer response lt are at is)
     (settled_task (system_of model) i (omega (arith, lt, count_is model)) (rw are at timely))
+
+-- its numbers are those of a valid model
+pub distance_near : (model : SystemModel) → IsValid model → (responses : ℕ → ℕ) (group : Group) → group.task < length model.tasks
+    → (group_timing (system_of model) responses group).distance ≤ MOST_TICKS
+unfolding group_timing
+distance_near model valid responses group known =
+    rw (ap (λ (t : Timing). greatest_distance t.pattern) (timing_is model group.task known)) (greatest_few _ (has_stimulus model valid group.task known).0)
+
+pub timing_near : (model : SystemModel) → IsValid model → (group : Group) (response : ℕ) → IsGroupOf model group
+    → greatest_execution (timing_at (system_of model) group.task) ≤ response → response ≤ (timing_at (system_of model) group.task).deadline
+    → IsNear (group_timing (system_of model) (λ (_ : ℕ). response) group)
+timing_near model valid group response is holds by_deadline =
+    proper_near (group_timing (system_of model) (λ (_ : ℕ). response) group)
+    (group_proper (system_of model) (system_sound model valid) (λ (_ : ℕ). response) group (group_of_system model group is) holds by_deadline)
+    (distance_near model valid (λ (_ : ℕ). response) group is.known)

@@ -17,7 +17,8 @@ use Rattle.cl_runs.proofs.RunArrivals.{released_within}
 use Rattle.cl_comm.proofs.AccessTimes.{reads_come_late, readers_run, readers_write_by_their_finish, writes_come_before_the_next_read}
 use Rattle.cl_bound.specs.Hops.{group_timing, saves}
 use Rattle.cl_bound.proofs.HigherFinished.{finished_before}
-use Rattle.cl_bound.proofs.LaterRuns.{IsTimely, writes_in_time}
+use Rattle.cl_resp.specs.Promises.{IsTimely}
+use Rattle.cl_bound.proofs.LaterRuns.{writes_in_time}
 
 not_timed : (access : AccessKind) → not (is_timed access) ≡ true → access ≢ Timed
 not_timed access other timed = true≢false (sym other ∙ ap (λ a. not (is_timed a)) timed)

@@ -12,17 +12,16 @@ use Rattle.cl_runs.specs.Legal.{IsLegal}
 use Rattle.cl_runs.specs.Chains.{HasWritten, IsEarliestReader, IsLatestWriter}
 use Rattle.cl_runs.specs.RunChains.{run_moments}
 use Rattle.cl_resp.specs.Response.{IsSettled}
-use Rattle.cl_resp.proofs.BusyWindowTask.{settled_finish}
-use Rattle.cl_resp.proofs.SettledTasks.{response_in_deadline}
+use Rattle.cl_resp.proofs.BusyWindowTask.{settled_timely}
+use Rattle.cl_resp.proofs.SettledTasks.{execution_in_response}
 use Rattle.cl_bound.specs.Answers.{answers_of, answer_at, response_in}
 use Rattle.cl_bound.specs.Hops.{forward_hop, backward_hop}
 use Rattle.cl_bound.specs.declared.group_timing.GroupTiming.{GroupTiming}
 use Rattle.cl_bound.specs.Bounds.{Lengths, AreBoundsOf, settled_timing, settled_timings, bounds_of}
 use Rattle.cl_bound.specs.Promises.{AreSafe}
 use Rattle.cl_bound.specs.SettledChains.{IsSettledChain, AreWithin}
-use Rattle.cl_bound.proofs.SettledTasks.{settled_task}
+use Rattle.cl_bound.proofs.SettledTasks.{settled_task, in_deadline}
 use Rattle.cl_bound.proofs.GroupWindows.{IsProper, group_proper}
-use Rattle.cl_bound.proofs.LaterRuns.{IsTimely}
 use Rattle.cl_bound.proofs.HopBounds.{forward_arrival, backward_arrival}
 use Rattle.cl_bound.proofs.ChainBounds.{AreTimely, at_least}
 use Rattle.cl_bound.proofs.SumsOfHops.{IsAtMost, reaction_absolute, age_absolute, reduced_absolute, reaction_some, age_some, reduced_some, reaction_at_most, age_at_most, reduced_at_most}
@@ -41,26 +40,20 @@ unfolding bounds_of
 only_bounds system groups bounds are =
     same_lengths bounds.reaction bounds.age bounds.reduced _ _ _ (ap nat_abs are.reaction) (ap nat_abs are.age) (ap nat_abs are.reduced)
 
--- a settled task is timely
-timely_task : (system : System) → IsSound system → (i response : ℕ) → IsSettled system i response → IsTimely system i response
-timely_task system sound i response settled = record {
-  is_task = settled.is_task;
-  by_deadline = response_in_deadline system i response settled sound;
-  always = settled_finish system sound i response settled;
-}
-
 module _ (system : System) (sound : IsSound system) (groups : List Group) (chain : IsSettledChain system groups) where
   settled_at : (i : ℕ) → i < length groups → IsSettled system (group_at groups i).task (response_at system (group_at groups i).task)
   settled_at i h = settled_task system (group_at groups i).task (chain.groups_of i no_group h).is_task (chain.settled i no_group h)
 
   pub chain_timely : AreTimely system (response_at system) groups
-  chain_timely i h = timely_task system sound (group_at groups i).task (response_at system (group_at groups i).task) (settled_at i h)
+  chain_timely i h = settled_timely system sound (group_at groups i).task (response_at system (group_at groups i).task) (settled_at i h)
 
   -- the timings of its groups are proper
   pub chain_proper : All IsProper (settled_timings system groups)
   chain_proper = All-map IsProper (settled_timing system) groups (λ i d h.
       let is = chain.groups_of i d h in
-      group_proper system sound (response_at system) _ is (settled_task system _ is.is_task (chain.settled i d h)))
+      let settled = settled_task system _ is.is_task (chain.settled i d h) in
+      group_proper system sound (response_at system) _ is (omega (arith, execution_in_response system _ _ settled))
+      (in_deadline system _ _ settled))
 
   -- the bounds of a settled chain are its sums
   pub settled_sums : AreBoundsOf (settled_timings system groups) (bounds_of system groups)

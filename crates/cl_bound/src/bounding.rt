@@ -1,12 +1,14 @@
 //! The bounds of a chain, and of a part of one. Times are in ticks.
-ghost use Rattle.std.specs.Prelude.{◌≡◌, ◌+◌, ◌^◌, ◌<◌, ◌≤◌, length, All};
+ghost use Rattle.std.specs.Prelude.{◌≡◌, ◌+◌, ◌^◌, ◌<◌, ◌≤◌, false, length, All};
 ghost use Rattle.cl_model.specs.declared.limits.TheConstants.{MOST_STEPS};
 ghost use Rattle.cl_model.specs.Groups.{groups_at, IsGroupOf};
+ghost use Rattle.cl_model.specs.Validity.{IsValid};
 ghost use Rattle.cl_runs.specs.SystemOf.{system_of};
-ghost use Rattle.cl_bound.specs.Answers.{answers_of, NoneIsLate};
-ghost use Rattle.cl_bound.specs.Bounds.{AreBoundsOf, settled_timings, bounds_of};
+ghost use Rattle.cl_bound.specs.Answers.{answers_of, answer_at, is_late, NoneIsLate};
+ghost use Rattle.cl_bound.specs.Bounds.{AreBoundsOf, settled_timing, settled_timings, bounds_of};
 ghost use Rattle.cl_bound.specs.Promises.{AreSafe};
-ghost use Rattle.cl_bound.specs.Inner.Sums.{IsIntegerWithin, sums_of};
+ghost use Rattle.cl_bound.specs.Hops.{IsIntegerWithin};
+ghost use Rattle.cl_bound.specs.Inner.Sums.{sums_of};
 
 use crate::answer::TaskAnswer;
 use crate::bounds::Bounds;
@@ -15,6 +17,18 @@ use crate::sums::Sums;
 use cl_model::{Group, List, ValidModel};
 use cl_time::Steps;
 use std::sync::ledger::Ledger;
+
+/// What the bounds know of a group of a valid model whose tasks have these answers, where the group's task isn't late.
+pub fn timing_of(model: &ValidModel, group: Group, settled: &List<TaskAnswer>) -> GroupTiming
+    requires group { IsGroupOf model.now group }
+    requires answers { settled.now ≡ answers_of (system_of model.now) }
+    requires not_late { is_late (answer_at settled.now group.task) ≡ false }
+    ensures timing { result ≡ settled_timing (system_of model.now) group }
+    ensures valid { IsValid model.now }
+{
+    let response = settled.as_slice()[group.task as usize].response();
+    GroupTiming::of(model, group, response)
+}
 
 /// The sums of the hops from a first group along the groups after it.
 fn sums_along(
@@ -33,7 +47,7 @@ fn sums_along(
 {
     let mut sums = Sums::new(first);
     for group in groups {
-        let next = GroupTiming::of(model, settled, *group);
+        let next = timing_of(model, *group, settled);
         sums = sums.with(next);
     }
     sums
@@ -62,7 +76,7 @@ pub fn bound_of_groups<L: Ledger>(
     ensures steps { steps.new ≡ steps.old + 1 }
 {
     steps.tick();
-    let first = GroupTiming::of(model, settled, groups[0]);
+    let first = timing_of(model, groups[0], settled);
     sums_along(model, first, &groups[1..], settled).bounds(&first)
 }
 

@@ -4,8 +4,7 @@ ghost use Rattle.cl_bound.specs.Inner.Sums.{IsBound};
 
 use std::marker::Model;
 
-/// The greatest lengths that complete job chains of a chain, or of a part of one, can have. Only `bound` and
-/// `bound_of_groups` make one.
+/// The greatest lengths that complete job chains of a chain, or of a part of one, can have.
 #[derive(Clone, Copy, Debug, PartialEq, Eq)]
 pub struct Bounds {
     reaction: u64,
@@ -32,6 +31,17 @@ fn ticks(sum: i128) -> u64
 }
 
 impl Bounds {
+    /// The bounds of these numbers. That no length exceeds them is for the caller to prove.
+    pub fn new(reaction: u64, age: u64, reduced: u64) -> Bounds
+        ensures { result ≡ record { reaction = reaction; age = age; reduced = reduced } }
+    {
+        Bounds {
+            reaction,
+            age,
+            reduced,
+        }
+    }
+
     /// The bounds that are these sums.
     pub(crate) fn of_sums(reaction: i128, age: i128, reduced: i128) -> Bounds
         requires reaction { IsBound reaction }
@@ -41,11 +51,7 @@ impl Bounds {
         ensures age { pos result.age ≡ age }
         ensures reduced { pos result.reduced ≡ reduced }
     {
-        Bounds {
-            reaction: ticks(reaction),
-            age: ticks(age),
-            reduced: ticks(reduced),
-        }
+        Bounds::new(ticks(reaction), ticks(age), ticks(reduced))
     }
 
     /// At least the reaction of each complete forward chain.

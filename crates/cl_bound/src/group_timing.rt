@@ -1,5 +1,6 @@
-//! What the bounds know of a group, and hops between groups. Times are in ticks.
-ghost use Rattle.std.specs.Prelude.{◌≡◌, ◌^◌, ◌<◌, false, length, pos};
+//! What the bounds know of a group, and delays and hops between groups. Times are in ticks.
+ghost use Rattle.std.specs.Prelude.{◌≡◌, ℕ, ◌^◌, ◌<◌, ◌≤◌, length};
+ghost use Rattle.cl_model.specs.declared.limits.TheConstants.{MOST_TICKS};
 ghost use Rattle.cl_model.specs.Groups.{IsGroupOf};
 ghost use Rattle.cl_model.specs.ByNumber.{task_at};
 ghost use Rattle.cl_model.specs.Validity.{IsValid};
@@ -7,20 +8,16 @@ ghost use Rattle.cl_model.specs.Kinds.{is_timed};
 ghost use Rattle.cl_runs.specs.SystemOf.{system_of};
 ghost use Rattle.cl_runs.specs.TaskTiming.{timing_at};
 ghost use Rattle.cl_comm.specs.Windows.{window_at};
-ghost use Rattle.cl_resp.specs.Response.{IsSettled};
-ghost use Rattle.cl_bound.specs.Answers.{answers_of, answer_at, is_late};
-ghost use Rattle.cl_bound.specs.Bounds.{settled_timing};
-ghost use Rattle.cl_bound.specs.Hops.{saves, hop, forward_hop, backward_hop};
-ghost use Rattle.cl_bound.specs.Inner.Sums.{IsIntegerWithin};
+ghost use Rattle.cl_resp.specs.Question.{greatest_execution};
+ghost use Rattle.cl_bound.specs.Hops.{group_timing, IsNear, saves, delay, hop, forward_hop, backward_hop, IsIntegerWithin};
 
-use crate::answer::TaskAnswer;
 use cl_comm::{Access, AnyAccess, Window, spot_of};
-use cl_model::{Group, List, ValidModel};
+use cl_model::{Group, ValidModel};
 use cl_stim::{AnyStimulus, Arrivals};
 
 /// What the bounds know of a group.
 #[derive(Clone, Copy)]
-pub(crate) struct GroupTiming {
+pub struct GroupTiming {
     pub(crate) task: u32,
     pub(crate) core: u32,
     pub(crate) priority: u64,
@@ -36,11 +33,12 @@ pub(crate) struct GroupTiming {
     pub(crate) write: u64,
 }
 
-/// The window of a runnable of a settled task with this response.
+/// The window of a runnable of a task with this response.
 fn access_window(model: &ValidModel, task: u32, place: u32, response: u64) -> Window
     requires is_task { task < length model.now.tasks }
     requires is_runnable { place < length (task_at model.now task).runnables }
-    requires settled { IsSettled (system_of model.now) task response }
+    requires holds_execution { greatest_execution (timing_at (system_of model.now) task) ≤ response }
+    requires by_deadline { response ≤ (timing_at (system_of model.now) task).deadline }
     ensures { result ≡ window_at (timing_at (system_of model.now) task) place response }
 {
     let access = model.task(task).access;
@@ -48,18 +46,17 @@ fn access_window(model: &ValidModel, task: u32, place: u32, response: u64) -> Wi
 }
 
 impl GroupTiming {
-    /// What the bounds know of a group of a valid model whose tasks have these answers, where the group's task isn't
-    /// late.
-    pub(crate) fn of(model: &ValidModel, settled: &List<TaskAnswer>, group: Group) -> GroupTiming
-        requires answers { settled.now ≡ answers_of (system_of model.now) }
+    /// What the bounds know of a group of a valid model, where the jobs of its task always finish within this response.
+    pub fn of(model: &ValidModel, group: Group, response: u64) -> GroupTiming
         requires group { IsGroupOf model.now group }
-        requires not_late { is_late (answer_at settled.now group.task) ≡ false }
-        ensures timing { result ≡ settled_timing (system_of model.now) group }
+        requires holds_execution { greatest_execution (timing_at (system_of model.now) group.task) ≤ response }
+        requires by_deadline { response ≤ (timing_at (system_of model.now) group.task).deadline }
+        ensures timing { result ≡ group_timing (system_of model.now) (λ (task : ℕ). response) group }
+        ensures near { IsNear result }
         ensures valid { IsValid model.now }
     {
         let task = model.task(group.task);
         let stimulus = AnyStimulus::of(model.stimulus_of(group.task));
-        let response = settled.as_slice()[group.task as usize].response();
         GroupTiming {
             task: group.task,
             core: model.core_of(group.task),
@@ -72,8 +69,15 @@ impl GroupTiming {
         }
     }
 
+    /// The number of its task.
+    pub fn task(&self) -> u32
+        ensures { result ≡ self.now.task }
+    {
+        self.task
+    }
+
     /// Whether a hop from this writer saves the writer's time.
-    fn saves(&self, reader: &GroupTiming) -> bool
+    pub fn saves(&self, reader: &GroupTiming) -> bool
         ensures { result ≡ saves self.now reader.now }
     {
         self.core == reader.core
@@ -82,24 +86,32 @@ impl GroupTiming {
             && !reader.is_timed
     }
 
+    /// The delay of the hop from this writer to a reader: a job of the reader that reads before a job of the writer
+    /// writes arrives less than this after it.
+    pub fn delay(&self, reader: &GroupTiming) -> i128
+        ensures delay { result ≡ delay self.now reader.now }
+        ensures fits { IsIntegerWithin (2 ^ 64) result }
+        ensures near { IsNear self.now → IsNear reader.now → IsIntegerWithin MOST_TICKS result }
+    {
+        if self.task == reader.task {
+            1
+        } else if self.saves(reader) {
+            i128::from(self.jitter) - i128::from(reader.read)
+        } else {
+            i128::from(self.write) - i128::from(reader.read)
+        }
+    }
+
     /// The hop from this writer to a reader, over one distance between arrivals.
     fn hop(&self, reader: &GroupTiming, distance: u64) -> i128
         ensures hop { result ≡ hop distance self.now reader.now }
         ensures near { IsIntegerWithin (2 ^ 65) result }
     {
-        if self.task == reader.task {
-            return i128::from(distance);
-        }
-        let delay = if self.saves(reader) {
-            self.jitter
-        } else {
-            self.write
-        };
-        i128::from(distance) - 1 + i128::from(delay) - i128::from(reader.read)
+        i128::from(distance) - 1 + self.delay(reader)
     }
 
     /// The hop in the forward direction.
-    pub(crate) fn forward_hop(&self, reader: &GroupTiming) -> i128
+    pub fn forward_hop(&self, reader: &GroupTiming) -> i128
         ensures hop { result ≡ forward_hop self.now reader.now }
         ensures near { IsIntegerWithin (2 ^ 65) result }
     {
@@ -107,34 +119,31 @@ impl GroupTiming {
     }
 
     /// The hop in the backward direction.
-    pub(crate) fn backward_hop(&self, reader: &GroupTiming) -> i128
+    pub fn backward_hop(&self, reader: &GroupTiming) -> i128
         ensures hop { result ≡ backward_hop self.now reader.now }
         ensures near { IsIntegerWithin (2 ^ 65) result }
     {
         self.hop(reader, self.distance)
     }
 
-    /// Its greatest distance between arrivals, signed.
-    pub(crate) fn distance(&self) -> i128
-        ensures number { result ≡ pos self.now.distance }
-        ensures near { IsIntegerWithin (2 ^ 64) result }
+    /// The greatest distance between two of its arrivals.
+    pub fn distance(&self) -> u64
+        ensures { result ≡ self.now.distance }
     {
-        i128::from(self.distance)
+        self.distance
     }
 
-    /// When it reads at the earliest, signed.
-    pub(crate) fn read(&self) -> i128
-        ensures number { result ≡ pos self.now.read }
-        ensures near { IsIntegerWithin (2 ^ 64) result }
+    /// When it reads at the earliest, from the arrival of its job.
+    pub fn read(&self) -> u64
+        ensures { result ≡ self.now.read }
     {
-        i128::from(self.read)
+        self.read
     }
 
-    /// When it writes at the latest, signed.
-    pub(crate) fn write(&self) -> i128
-        ensures number { result ≡ pos self.now.write }
-        ensures near { IsIntegerWithin (2 ^ 64) result }
+    /// When it writes at the latest, from the arrival of its job.
+    pub fn write(&self) -> u64
+        ensures { result ≡ self.now.write }
     {
-        i128::from(self.write)
+        self.write
     }
 }

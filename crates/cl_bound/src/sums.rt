@@ -1,6 +1,7 @@
 //! Sums of hops, one group after the other. Times are in ticks.
 ghost use Rattle.std.specs.Prelude.{◌≡◌, ℕ, ◌+◌, ◌*◌, ◌^◌, []};
-ghost use Rattle.cl_bound.specs.Inner.Sums.{IsIntegerWithin, sums_with, sums_of, reaction_in, age_in, reduced_in, HaveBounds, AreBoundsIn};
+ghost use Rattle.cl_bound.specs.Hops.{IsIntegerWithin};
+ghost use Rattle.cl_bound.specs.Inner.Sums.{sums_with, sums_of, reaction_in, age_in, reduced_in, HaveBounds, AreBoundsIn};
 
 use crate::bounds::Bounds;
 use crate::group_timing::GroupTiming;
@@ -45,7 +46,9 @@ impl Sums {
         requires { IsIntegerWithin (2 ^ 100) self.now.forward }
         ensures { result ≡ reaction_in first.now self.now }
     {
-        first.distance() - first.read() + self.forward + self.last.write()
+        i128::from(first.distance()) - i128::from(first.read())
+            + self.forward
+            + i128::from(self.last.write())
     }
 
     /// From the read of the first job to the write of the last.
@@ -54,7 +57,7 @@ impl Sums {
         ensures sum { result ≡ reduced_in first.now self.now }
         ensures near { IsIntegerWithin (2 ^ 101) result }
     {
-        self.last.write() - first.read() + self.backward
+        i128::from(self.last.write()) - i128::from(first.read()) + self.backward
     }
 
     /// From the read of the first job to the write of the job after the last.
@@ -62,7 +65,7 @@ impl Sums {
         requires { IsIntegerWithin (2 ^ 100) self.now.backward }
         ensures { result ≡ age_in first.now self.now }
     {
-        self.last.distance() + self.reduced(first)
+        i128::from(self.last.distance()) + self.reduced(first)
     }
 
     /// The bounds of the chain, from its first group.

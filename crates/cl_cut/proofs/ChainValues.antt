@@ -63,7 +63,7 @@ module _ (system : System) (sound : IsSound system) where
       → AreExactLengths system groups exact → exact.reaction.length ≤ (bounds_of system groups).reaction
   exact_within groups settled timed exact are =
       let (run, ticks, legal) = some_legal system sound exact.reaction.to in
-      let attained = ((exact_in_runs system sound groups (settled_timed system groups settled timed) exact are).attained run legal).reaction (omega (arith, ticks)) in
+      let attained = ((exact_in_runs system sound groups (settled_timed system sound groups settled timed) exact are).attained run legal).reaction (omega (arith, ticks)) in
       omega (arith, attained.length, (settled_safe system sound groups settled run legal).reaction (chain_of exact.reaction) attained.is_chain)
 
 -- ---- the best cut of a chain of a model

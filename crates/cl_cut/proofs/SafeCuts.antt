@@ -44,14 +44,14 @@ rest_groups system groups settled first =
     subst (All (IsGroupOfTask system)) (part_rest groups first) (settled_part system groups settled first (length groups)).groups_of
 
 -- one whose tasks are all timed and periodic is a settled timed chain
-pub settled_timed : (system : System) (groups : List Group) → IsSettledChain system groups → are_timed_periodic system groups ≡ true
+pub settled_timed : (system : System) → IsSound system → (groups : List Group) → IsSettledChain system groups → are_timed_periodic system groups ≡ true
     → IsSettledTimedChain system groups
-settled_timed system groups settled timed = record {
+settled_timed system sound groups settled timed = record {
   runnables = λ i d h.
       let of = settled.groups_of i d h in
       record { first = omega (arith, of.ordered, of.is_runnable); last = of.is_runnable };
   timed = timed;
-  settled = settled_have_responses system groups settled;
+  settled = settled_have_responses system sound groups settled;
 }
 
 -- ---- in a run
@@ -89,7 +89,7 @@ module _ (system : System) (sound : IsSound system) where
   value_safe groups settled value (inl exact) run legal chain complete = omega (
     arith,
     exact.value_is,
-    ((exact_in_runs system sound groups (settled_timed system groups settled exact.timed) exact.exact exact.are_exact).greatest run legal).reaction
+    ((exact_in_runs system sound groups (settled_timed system sound groups settled exact.timed) exact.exact exact.are_exact).greatest run legal).reaction
         chain complete,
   )
   value_safe groups settled value (inr bound) run legal chain complete =

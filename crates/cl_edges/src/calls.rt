@@ -19,6 +19,20 @@ pub(crate) fn analysis_of(alloc: Global, name: &str) -> Result<Words, NoMemory> 
     Ok(words)
 }
 
+/// The words of a command on two files.
+pub(crate) fn of_two_files(
+    alloc: Global,
+    verb: &str,
+    first: &str,
+    second: &str,
+) -> Result<Words, NoMemory> {
+    let mut words = Words::new(alloc);
+    words.push(verb)?;
+    words.push(first)?;
+    words.push(second)?;
+    Ok(words)
+}
+
 /// What the analysis of a file of this name and content answers: its status, a blank, and what was written.
 pub(crate) fn analysed(alloc: Global, name: &str, content: &[u8]) -> Result<String, NoMemory> {
     let words = analysis_of(alloc, name)?;
@@ -33,10 +47,11 @@ fn analysed_words(
 ) -> Result<String, NoMemory> {
     let mut shelf = MemShelf::new(alloc);
     shelf.put(name, content)?;
-    analysed_over(alloc, words, &mut shelf)
+    answered_over(alloc, words, &mut shelf)
 }
 
-fn analysed_over<S: Shelf>(
+/// What a command over a shelf answers into a sink in memory.
+pub(crate) fn answered_over<S: Shelf>(
     alloc: Global,
     words: &Words,
     shelf: &mut S,

@@ -1,5 +1,5 @@
 //! File words of every kind, files that are no texts, and shelves and sinks that never fail.
-use crate::calls::{analysed, analysis_of, run_here};
+use crate::calls::{analysed, analysis_of, answered_over, of_two_files, run_here};
 use crate::models::EMPTY;
 use cl_io::{SureShelf, SureSink};
 use cl_time::NoMemory;
@@ -55,5 +55,61 @@ fn sure_shelves_and_sinks_never_fail(rt: HostRuntime) -> Result<(), Fail> {
     let mut sink = SureSink::new();
     assert_eq!(rt; run_here(alloc, &words, &mut shelf, &mut sink), 5);
     assert_eq!(rt; sink.taken(), 28);
+    Ok(())
+}
+
+#[test]
+fn what_a_sure_shelf_lacks_is_an_empty_file(rt: HostRuntime) -> Result<(), Fail> {
+    let alloc = rt.alloc();
+    let words = analysis_of(alloc, "nothing")?;
+    let mut shelf = SureShelf::new(alloc);
+    let found = answered_over(alloc, &words, &mut shelf)?;
+    assert_eq!(rt; found.as_str(), "5 model refused M2 top.format\n");
+    Ok(())
+}
+
+/// A sure shelf with a model of nothing, and a second file.
+fn shelf_with(alloc: Global, second: &[u8]) -> Result<SureShelf, NoMemory> {
+    let mut shelf = SureShelf::new(alloc);
+    shelf.put("model", EMPTY.as_bytes())?;
+    shelf.put("second", second)?;
+    Ok(shelf)
+}
+
+/// Asserts what a command on a model of nothing and a second file answers over a sure shelf: this status and text into a
+/// sink in memory, and the same status into a sure sink.
+fn assert_sure(
+    rt: &impl Abort,
+    alloc: Global,
+    verb: &str,
+    second: &[u8],
+    status: u8,
+    wanted: &str,
+) -> Result<(), NoMemory> {
+    let words = of_two_files(alloc, verb, "model", "second")?;
+    let found = answered_over(alloc, &words, &mut shelf_with(alloc, second)?)?;
+    assert_eq!(rt; found.as_str(), wanted, "{verb}");
+    let mut shelf = shelf_with(alloc, second)?;
+    let mut sink = SureSink::new();
+    assert_eq!(rt; run_here(alloc, &words, &mut shelf, &mut sink), status);
+    Ok(())
+}
+
+#[test]
+fn replays_and_edits_over_sure_shelves_never_fail(rt: HostRuntime) -> Result<(), Fail> {
+    let alloc = rt.alloc();
+    let trace = b"chainlat trace 1\nticks 0\nend\n";
+    assert_sure(&rt, alloc, "replay", trace, 0, "0 chainlat replay 1\n")?;
+    assert_sure(&rt, alloc, "replay", b"x", 6, "6 trace refused line 1\n")?;
+    let edits = b"chainlat edits 1\nreport\n";
+    assert_sure(&rt, alloc, "edit", edits, 0, "0 chainlat report 1\n")?;
+    assert_sure(
+        &rt,
+        alloc,
+        "edit",
+        b"x",
+        7,
+        "7 edits refused line 1 E1 top\n",
+    )?;
     Ok(())
 }

@@ -23,6 +23,7 @@ use Rattle.cl_model.specs.Name.{is_name_byte, is_name, IsName}
 use Rattle.cl_model.specs.Kinds.{access_word}
 use Rattle.cl_model.specs.Reading.Checks.{meaning_of}
 use Rattle.cl_model.proofs.ListFacts.{both_pass}
+use Rattle.cl_model.proofs.Names.{name_bytes}
 use Rattle.cl_edit.specs.Lines.{flag_word, deadline_word}
 use Rattle.cl_edit.specs.Inner.Parts.{parts}
 use Rattle.cl_edit.specs.Inner.Fields.{name_in, number_in, time_in, flag_in, access_in, deadline_in, names_in}
@@ -127,9 +128,6 @@ pub record IsField {X : Type 0} (read : List ℕ → Option X) (write : X → Li
   pub said : (word : List ℕ) (x : X) → read word ≡ Some x → (word ≡ write x) × Good x
   pub back : (x : X) → Good x → read (write x) ≡ Some x
   pub graphic : (x : X) → Good x → list_all is_graphic (write x) ≡ true
-
-pub name_bytes : (name : List ℕ) → IsName name → list_all is_name_byte name ≡ true
-name_bytes name is = grind (arith, nat_tests, is)
 
 graphic_byte : (byte : ℕ) → is_name_byte byte ≡ true → is_graphic byte ≡ true
 graphic_byte byte is = grind (arith, nat_tests)

@@ -13,6 +13,7 @@ pub mod Oldest
 pub mod FoundExact
 pub mod WholeScan
 pub mod ExactOnce
+pub mod LimitFacts
 pub mod Existence
 pub mod ModelExact
 pub mod Turns

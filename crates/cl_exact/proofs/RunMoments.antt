@@ -1,4 +1,4 @@
--- In a legal run the jobs of a task that is periodic, timed and settled read and write at their ideal moments.
+-- In a legal run the jobs of a task that is periodic, timed and timely read and write at their ideal moments.
 use Rattle.std.proofs.Common.{◌≡◌, ℕ, ◌+◌, ◌*◌, ◌<◌, ◌≤◌, inl, inr, length, refl, sym, subst, arith}
 use Rattle.std.proofs.lemmas.Bool.{cases_lt}
 use Rattle.std.proofs.Math.Nat.{mul-le-mul_right}
@@ -20,9 +20,7 @@ use Rattle.cl_runs.specs.RunChains.{ArrivesAt, run_moments, ideal_moments}
 use Rattle.cl_runs.proofs.RunArrivals.{follow_pattern}
 use Rattle.cl_runs.proofs.PatternLaws.{pattern_period}
 use Rattle.cl_runs.proofs.MomentFacts.{reads_below, writes_within}
-use Rattle.cl_resp.specs.Response.{IsSettled}
-use Rattle.cl_resp.proofs.BusyWindowTask.{settled_finish}
-use Rattle.cl_resp.proofs.SettledTasks.{response_in_deadline}
+use Rattle.cl_resp.specs.Promises.{IsTimely}
 use Rattle.cl_exact.specs.RunPromises.{IsIdealUntilTheEnd}
 
 -- ---- the numbers of a periodic task
@@ -37,12 +35,12 @@ task_period system i = least_distance (timing_at system i).pattern
 abbrev pub task_arrival : System → (i k : ℕ) → ℕ
 task_arrival system i k = task_offset system i + k * task_period system i
 
--- a task that is periodic and timed, and settled
+-- a task that is periodic and timed, and timely
 pub record IsIdealTask (system : System) (i : ℕ) : Type 0 where
   pub periodic : (timing_at system i).pattern ≡ Periodic (task_period system i) (task_offset system i) (greatest_jitter (timing_at system i).pattern)
   pub timed : (timing_at system i).access ≡ Timed
   pub response : ℕ
-  pub settled : IsSettled system i response
+  pub timely : IsTimely system i response
 
 module _ (system : System) (i : ℕ) (is : IsIdealTask system i) where
   -- a job arrives at one tick
@@ -56,7 +54,7 @@ module _ (system : System) (sound : IsSound system) (run : Run) (legal : IsLegal
   follows : FollowsPeriod run.table.ticks (task_period system i) (task_offset system i) (greatest_jitter (timing_at system i).pattern) (jobs_of run i)
   follows = pattern_period run.table.ticks _ _ _ (jobs_of run i)
       (subst (λ (kind : StimulusKind). FollowPattern kind run.table.ticks (jobs_of run i)) is.periodic
-      (follow_pattern system sound run legal i is.settled.is_task))
+      (follow_pattern system sound run legal i is.timely.is_task))
 
   arrival_is : (k : ℕ) → k < length (jobs_of run i) → (job_at (jobs_of run i) k).arrival ≡ task_arrival system i k
   arrival_is k h = let each = follows.each k h in omega (arith, each.not_early, each.not_late)
@@ -86,11 +84,11 @@ module _ (system : System) (sound : IsSound system) (run : Run) (legal : IsLegal
   writes_so : (k p t : ℕ) → p < length (timing_at system i).ranges → t ≡ task_arrival system i k + (timing_at system i).deadline
       → t ≤ run.table.ticks → Writes system run i k p t
   writes_so k p t place at by =
-      let task = is.settled.is_task in
+      let task = is.timely.is_task in
       let job = in_table k (omega (arith, at, by, (sound.tasks i task).above_jitter)) in
       let here = arrival_is k job in
-      let soon = response_in_deadline system i is.response is.settled sound in
-      let (finish, finishes, in_time) = (settled_finish system sound i is.response is.settled run legal).each k job (omega (arith, here, at, by, soon)) in
+      let soon = is.timely.by_deadline in
+      let (finish, finishes, in_time) = (is.timely.always run legal).each k job (omega (arith, here, at, by, soon)) in
       let moment : WritesAtDeadline system run i k t
       = record { finish = finish; finishes = finishes; in_time = omega (arith, in_time, here, at, soon); at_deadline = omega (arith, here, at); by_end = by } in
       record { in_table = job; is_runnable = place; moment = subst (λ (a : AccessKind). WritesBy a system run i k p t) (sym is.timed) moment }

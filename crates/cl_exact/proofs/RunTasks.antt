@@ -1,5 +1,5 @@
 -- The groups of a settled timed chain, and the groups of a valid model that are such.
-use Rattle.std.proofs.Common.{◌≡◌, ℕ, ◌<◌, true, List, length, refl, sym, arith}
+use Rattle.std.proofs.Common.{◌≡◌, ℕ, true, List, refl, sym, arith}
 use Rattle.std.specs.Prelude.{slice_index_or, All}
 use Rattle.std.specs.List.{AllPass}
 use Rattle.std.proofs.lemmas.Bool.{and_parts, true≢false}
@@ -40,7 +40,7 @@ module _ (system : System) (groups : List Group) (chain : IsSettledTimedChain sy
   unfolding are_timed_periodic
   is_timed_task = AllPass-from_list_all (λ (group : Group). is_timed_periodic_task (timing_at system group.task)) groups chain.timed
 
-  -- each group of a settled timed chain is one of a periodic, timed and settled task
+  -- each group of a settled timed chain is one of a periodic, timed and timely task
   pub ideal_groups : All (IsIdealGroup system) groups
   ideal_groups i d h =
       let timing : Timing = timing_at system (slice_index_or groups i d).task in
@@ -52,14 +52,14 @@ module _ (system : System) (groups : List Group) (chain : IsSettledTimedChain sy
           periodic = periodic_kind timing.pattern periodic;
           timed = timed_kind timing.access timed;
           response = settled.response;
-          settled = settled.settled;
+          timely = settled.timely;
         };
         first = runnables.first;
         last = runnables.last;
       }
 
   pub groups_of_system : AreGroupsOf system groups
-  groups_of_system i d h = (chain.settled i d h).settled.is_task
+  groups_of_system i d h = (chain.settled i d h).timely.is_task
 
 -- ---- groups of a model
 

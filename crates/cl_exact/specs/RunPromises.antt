@@ -6,7 +6,7 @@ use Rattle.cl_runs.specs.Run.{Run, jobs_of}
 use Rattle.cl_runs.specs.Legal.{IsLegal}
 use Rattle.cl_runs.specs.Chains.{Moments, JobChain, chain_length, last_group, IsForwardChain, IsAgeChain, IsReducedChain}
 use Rattle.cl_runs.specs.RunChains.{run_moments, ideal_moments}
-use Rattle.cl_resp.specs.Response.{IsSettled}
+use Rattle.cl_resp.specs.Promises.{IsTimely}
 use Rattle.cl_exact.specs.TimedPeriodic.{are_timed_periodic}
 use Rattle.cl_exact.specs.Hyperperiod.{period_of}
 use Rattle.cl_exact.specs.ExactLengths.{chain_of, Witnesses}
@@ -14,10 +14,10 @@ use Rattle.cl_exact.specs.declared.witness.Witness.{Witness}
 
 -- ---- which chains
 
--- a task that isn't late: it has a response within its deadline
+-- a task that isn't late: its jobs always finish within a response that its deadline allows
 pub record HasResponse (system : System) (task : ℕ) : Type 0 where
   pub response : ℕ
-  pub settled : IsSettled system task response
+  pub timely : IsTimely system task response
 
 -- none of the tasks of these groups is late
 abbrev pub HaveResponses : System → List Group → Type 0

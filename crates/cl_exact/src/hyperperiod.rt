@@ -1,14 +1,19 @@
 //! The hyperperiod of a chain, up to its limit. Times are in ticks.
-ghost use Rattle.std.specs.Prelude.{◌≡◌, ℕ, ◌≤◌, ◌<◌, List, MatchOption};
+ghost use Rattle.std.specs.Prelude.{◌≡◌, ◌↔◌, ℕ, ◌≤◌, ◌<◌, true, IsTrue, List, length, MatchOption};
 ghost use Rattle.cl_model.specs.declared.group.Group.{Group};
+ghost use Rattle.cl_model.specs.Groups.{groups_at};
 ghost use Rattle.cl_runs.specs.TaskTiming.{System};
-ghost use Rattle.cl_exact.specs.Hyperperiod.{hyper_limit};
+ghost use Rattle.cl_runs.specs.SystemOf.{system_of};
+ghost use Rattle.cl_exact.specs.TimedPeriodic.{is_timed_periodic_chain};
+ghost use Rattle.cl_exact.specs.Hyperperiod.{hyper_limit, IsWithinLimit};
 ghost use Rattle.cl_exact.specs.Inner.Beats.{AreBeats, AreBeatsOf};
 ghost use Rattle.cl_exact.specs.Inner.Periods.{IsLeastMultiple};
 ghost use Rattle.cl_exact.specs.Inner.Found.{MOST_HYPERPERIOD};
 
 use crate::beat::Beat;
+use crate::beats::beats_of;
 use crate::limit::MOST_FIRST_JOBS;
+use cl_model::ValidModel;
 use cl_time::lcm_upto;
 
 /// The limit on the hyperperiod.
@@ -32,4 +37,18 @@ pub(crate) fn hyperperiod(beats: &[Beat], limit: u64) -> Option<u64>
         hyperperiod = lcm_upto(hyperperiod, beat.period, limit)?;
     }
     Some(hyperperiod)
+}
+
+/// Whether the hyperperiod of a chain of a valid model, given by its number, whose tasks are all timed and periodic, is
+/// within the limit on it: whether `exact` finds exact lengths.
+///
+/// It looks at each group of the chain once, counts no step, and takes no memory.
+pub fn is_within_limit(model: &ValidModel, chain: u32) -> bool
+    requires is_chain { chain < length model.now.chains }
+    requires timed_periodic { is_timed_periodic_chain model.now chain ≡ true }
+    ensures { IsTrue result ↔ IsWithinLimit (system_of model.now) (groups_at model.now chain) }
+{
+    let numbers = beats_of(model, model.groups(chain));
+    let beats = numbers.as_slice();
+    hyperperiod(beats, hyper_limit(beats)).is_some()
 }

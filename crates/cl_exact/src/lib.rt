@@ -22,6 +22,7 @@ mod witness;
 pub use beats::{are_timed_periodic, is_timed_periodic};
 pub use exact_lengths::ExactLengths;
 pub use finding::{exact, exact_of_groups};
+pub use hyperperiod::is_within_limit;
 pub use job_numbers::JobNumbers;
 pub use limit::{HyperLimit, MOST_FIRST_JOBS};
 pub use witness::Witness;

@@ -8,6 +8,7 @@ use Rattle.cl_runs.specs.TaskTiming.{timing_at, IsSoundTask, IsSound}
 use Rattle.cl_runs.specs.SystemOf.{system_of}
 use Rattle.cl_resp.specs.Question.{greatest_execution, longest_hold, block_of, question_of}
 use Rattle.cl_resp.specs.Response.{demand, busy_window, IsSettled}
+use Rattle.cl_resp.proofs.BusyWindowTask.{settled_timely}
 use Rattle.cl_exact.specs.TimedPeriodic.{are_timed_periodic}
 use Rattle.cl_exact.specs.RunPromises.{HasResponse, HasItsRunnables, IsSettledTimedChain}
 use Rattle.cl_examples.specs.Examples.{from_a_to_b}
@@ -51,6 +52,8 @@ timed_settled = record {
   runnables = All-from_recursion (HasItsRunnables timed_tasks) from_a_to_b
       (record { first = omega arith; last = omega arith }, (record { first = omega arith; last = omega arith }, _));
   timed = refl;
-  settled = All-from_recursion (λ (group : Group). HasResponse timed_tasks group.task) from_a_to_b
-      (record { response = 1; settled = settled_a }, (record { response = 1; settled = settled_b }, _));
+  settled = All-from_recursion (λ (group : Group). HasResponse timed_tasks group.task) from_a_to_b (
+    record { response = 1; timely = settled_timely timed_tasks timed_sound 0 1 settled_a },
+    (record { response = 1; timely = settled_timely timed_tasks timed_sound 1 1 settled_b }, _),
+  );
 }

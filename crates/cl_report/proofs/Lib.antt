@@ -4,3 +4,4 @@ pub mod OneReport
 pub mod SmallSums
 pub mod SurveyPieces
 pub mod OneSurvey
+pub mod TightLines

@@ -19,7 +19,7 @@ use Rattle.cl_analyse.specs.declared.findings.ExactAnswer.TheVariants as exact
 use Rattle.cl_analyse.specs.declared.findings.Verdict.{Verdict}
 use Rattle.cl_analyse.specs.declared.findings.Verdict.TheVariants as verdict
 use Rattle.cl_analyse.specs.declared.findings.Findings.{Findings}
-use Rattle.cl_analyse.specs.Verdicts.{verdict_of, verdict_at}
+use Rattle.cl_analyse.specs.Verdicts.{verdict_of, verdict_at, no_requirement, requirement_at}
 use Rattle.cl_analyse.specs.ChainAnswers.{chain_answer_of, chain_answer_at, exact_answer_at}
 use Rattle.cl_analyse.specs.Findings.{AreFindings}
 use Rattle.cl_analyse.proofs.SafeFindings.{named_task_within}
@@ -38,11 +38,11 @@ chains_found model findings is = ap (λ (answers : List ChainAnswer). length ans
 pub task_answer : (answers : List TaskAnswer) (i : ℕ) (answer : TaskAnswer) → i < length answers → answer ≡ get_or answers i answer → answer ≡ answer_at answers i
 task_answer answers i answer lt at = at ∙ get_or_default answers i answer task.Late lt
 
-pub chain_answer_found : (findings : Findings) (i : ℕ) (answer : ChainAnswer) → i < length findings.chains → answer ≡ get_or findings.chains i answer → answer ≡ chain_answer_at findings.chains i
-chain_answer_found findings i answer lt at = at ∙ get_or_default findings.chains i answer (chain.Late 0) lt
+pub chain_answer_in : (answers : List ChainAnswer) (i : ℕ) (answer : ChainAnswer) → i < length answers → answer ≡ get_or answers i answer → answer ≡ chain_answer_at answers i
+chain_answer_in answers i answer lt at = at ∙ get_or_default answers i answer (chain.Late 0) lt
 
-pub task_within : (model : SystemModel) (findings : Findings) (i : ℕ) → AreFindings model findings → i < length model.tasks → i < length findings.tasks
-task_within model findings i is lt = rw (tasks_found model findings is) lt
+pub chain_answer_found : (findings : Findings) (i : ℕ) (answer : ChainAnswer) → i < length findings.chains → answer ≡ get_or findings.chains i answer → answer ≡ chain_answer_at findings.chains i
+chain_answer_found findings = chain_answer_in findings.chains
 
 pub chain_within : (model : SystemModel) (findings : Findings) (i : ℕ) → AreFindings model findings → i < length model.chains → i < length findings.chains
 chain_within model findings i is lt = rw (chains_found model findings is) lt
@@ -61,14 +61,16 @@ pub exact_answer_found : (findings : Findings) (i : ℕ) (answer : ExactAnswer) 
 exact_answer_found findings i answer lt at = at ∙ get_or_default findings.exacts i answer exact.ChainLate lt
 
 -- the verdicts
-pub verdict_within : (model : SystemModel) (findings : Findings) (i : ℕ) → AreFindings model findings → i < length model.requirements → i < length findings.verdicts
-verdict_within model findings i is lt =
-    let count = ap (λ (verdicts : List Verdict). length verdicts) is.verdicts ∙ length-map model.requirements (verdict_of model findings.chains findings.exacts) in
-    rw count lt
+pub verdicts_found : (model : SystemModel) (findings : Findings) → AreFindings model findings → length findings.verdicts ≡ length model.requirements
+verdicts_found model findings is =
+    ap (λ (verdicts : List Verdict). length verdicts) is.verdicts ∙ length-map model.requirements (verdict_of model findings.chains findings.exacts)
 
-pub verdict_found : (findings : Findings) (i : ℕ) (verdict : Verdict) → i < length findings.verdicts → verdict ≡ get_or findings.verdicts i verdict
-    → verdict ≡ verdict_at findings.verdicts i
-verdict_found findings i found lt at = at ∙ get_or_default findings.verdicts i found (verdict.Unshown None) lt
+pub verdict_found : (verdicts slice : List Verdict) (i : ℕ) → i < length verdicts → slice ≡ verdicts → get_or slice i (verdict.Met 0) ≡ verdict_at verdicts i
+verdict_found verdicts slice i lt is = ap (λ (all : List Verdict). get_or all i (verdict.Met 0)) is ∙ get_or_default verdicts i (verdict.Met 0) (verdict.Unshown None) lt
+
+pub requirement_found : (model : SystemModel) (i : ℕ) (requirement : RequirementDef) → i < length model.requirements
+    → requirement ≡ get_or model.requirements i requirement → requirement ≡ requirement_at model i
+requirement_found model i requirement lt at = at ∙ get_or_default model.requirements i requirement no_requirement lt
 
 -- the witnesses of exact lengths have one job a group
 module _ (system : System) (groups : List Group) (lengths : Witnesses) (are : AreExactLengths system groups lengths) where

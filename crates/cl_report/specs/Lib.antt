@@ -1,3 +1,4 @@
 pub mod Beginnings
 pub mod Report
 pub mod Survey
+pub mod Tight

@@ -31,10 +31,14 @@ abbrev pub task_words : TaskAnswer → List ℕ
 task_words (task.Settled settled) = codes " response " ++ decimal settled.response
 task_words task.Late = codes " late"
 
--- the line of task i
-unfoldable pub task_line : SystemModel → Findings → ℕ → List ℕ
-task_line model findings i =
-    line (codes "task " ++ (task_at model i).name ++ task_words (answer_at findings.tasks i) ++ codes " deadline " ++ decimal (deadline_of model i))
+-- the line of a task that has this answer
+unfoldable pub task_line : SystemModel → (answer : TaskAnswer) → (task : ℕ) → List ℕ
+task_line model answer task =
+    line (codes "task " ++ (task_at model task).name ++ task_words answer ++ codes " deadline " ++ decimal (deadline_of model task))
+
+-- the lines of all tasks, in file order
+abbrev pub task_lines : SystemModel → List TaskAnswer → List ℕ
+task_lines model answers = flat_map (λ task. task_line model (answer_at answers task) task) (range_with_len 0 (length model.tasks))
 
 -- ---- bounds
 
@@ -47,10 +51,13 @@ abbrev pub chain_words : SystemModel → ChainAnswer → List ℕ
 chain_words model (chain.Bounds bounds) = bounds_words bounds
 chain_words model (chain.Late i) = codes " late " ++ (task_at model i).name
 
--- the line of chain i
-unfoldable pub chain_line : SystemModel → Findings → ℕ → List ℕ
-chain_line model findings i =
-    line (codes "chain " ++ (chain_at model i).name ++ chain_words model (chain_answer_at findings.chains i))
+-- the line of a chain that has this answer
+unfoldable pub chain_line : SystemModel → ChainAnswer → (chain : ℕ) → List ℕ
+chain_line model answer chain = line (codes "chain " ++ (chain_at model chain).name ++ chain_words model answer)
+
+-- the lines of all chains, in file order, without their exact lengths
+abbrev pub bound_lines : SystemModel → List ChainAnswer → List ℕ
+bound_lines model answers = flat_map (λ chain. chain_line model (chain_answer_at answers chain) chain) (range_with_len 0 (length model.chains))
 
 -- ---- exact lengths
 
@@ -91,7 +98,7 @@ exact_lines model i exact.ChainLate = []
 
 -- all lines of chain i
 abbrev pub chain_lines : SystemModel → Findings → ℕ → List ℕ
-chain_lines model findings i = chain_line model findings i ++ exact_lines model i (exact_answer_at findings.exacts i)
+chain_lines model findings i = chain_line model (chain_answer_at findings.chains i) i ++ exact_lines model i (exact_answer_at findings.exacts i)
 
 -- ---- requirements
 
@@ -117,9 +124,9 @@ verdict_line requirement verdict =
     line (codes "requirement " ++ requirement.name ++ codes " " ++ kind_word requirement.kind
     ++ codes " " ++ verdict_words requirement.most verdict)
 
--- the line of requirement i
-abbrev pub requirement_line : SystemModel → Findings → ℕ → List ℕ
-requirement_line model findings i = verdict_line (requirement_at model i) (verdict_at findings.verdicts i)
+-- the lines of all requirements, in file order
+abbrev pub requirement_lines : SystemModel → List Verdict → List ℕ
+requirement_lines model verdicts = flat_map (λ i. verdict_line (requirement_at model i) (verdict_at verdicts i)) (range_with_len 0 (length model.requirements))
 
 -- ---- the report
 
@@ -127,9 +134,9 @@ requirement_line model findings i = verdict_line (requirement_at model i) (verdi
 unfoldable pub report_text : SystemModel → Findings → List ℕ
 report_text model findings =
     line (codes "chainlat report 1")
-    ++ flat_map (task_line model findings) (range_with_len 0 (length model.tasks))
+    ++ task_lines model findings.tasks
     ++ flat_map (chain_lines model findings) (range_with_len 0 (length model.chains))
-    ++ flat_map (requirement_line model findings) (range_with_len 0 (length model.requirements))
+    ++ requirement_lines model findings.verdicts
 
 -- the text is the report of the model's findings
 pub record IsReportOf (model : SystemModel) (text : List ℕ) : Type 0 where

@@ -1,4 +1,4 @@
-//! The report and the survey of a model.
+//! The report and the survey of a model, and the texts of its tight findings.
 #![tactic(auto)]
 
 mod exact_lines;
@@ -6,8 +6,10 @@ pub mod laws;
 mod lines;
 mod requirement_lines;
 mod survey;
+mod tight;
 mod words;
 
-pub use lines::report;
+pub use lines::{put_bounds, put_chain, put_task, report};
 pub use survey::survey_text;
+pub use tight::{tight_report, verify_report};
 pub use words::{kind_word, put_chain_name, put_jobs, put_name, put_task_name};

@@ -1,16 +1,17 @@
 //! The report of a model, as text.
-ghost use Rattle.std.specs.Prelude.{◌≡◌, ℕ, ◌<◌, ◌++◌, length, OnOk, IfOk};
+ghost use Rattle.std.specs.Prelude.{◌≡◌, ℕ, ◌<◌, ◌++◌, length, OnOk, OnErr, IfOk};
 ghost use Rattle.std.specs.List.{flat_map, range_with_len};
 ghost use Rattle.cl_analyse.specs.declared.findings.ChainAnswer.TheVariants.{Late};
 ghost use Rattle.cl_analyse.specs.Findings.{AreFindings};
-ghost use Rattle.cl_report.specs.Report.{task_words, task_line, bounds_words, chain_words, chain_line, chain_lines, report_text};
+ghost use Rattle.cl_report.specs.Beginnings.{PutsPart};
+ghost use Rattle.cl_report.specs.Report.{task_words, task_line, task_lines, bounds_words, chain_words, chain_line, chain_lines, report_text};
 
 use crate::exact_lines::put_exact;
 use crate::requirement_lines::put_requirements;
 use crate::words::{put_name, put_task_name};
 use cl_analyse::{ChainAnswer, Findings};
 use cl_bound::{Bounds, TaskAnswer};
-use cl_model::ValidModel;
+use cl_model::{List, ValidModel};
 use cl_text::Text;
 use cl_time::NoMemory;
 use std::alloc::Global;
@@ -25,37 +26,42 @@ pub fn report(alloc: Global, model: &ValidModel, findings: &Findings) -> Result<
 {
     let mut text = Text::new(alloc);
     text.put(b"chainlat report 1\n")?;
-    put_tasks(&mut text, model, findings)?;
+    put_tasks(&mut text, model, &findings.tasks)?;
     put_chains(&mut text, model, findings)?;
-    put_requirements(&mut text, model, findings)?;
+    put_requirements(&mut text, model, &findings.verdicts)?;
     Ok(text)
 }
 
-/// Puts the lines of all tasks.
-fn put_tasks(text: &mut Text, model: &ValidModel, findings: &Findings) -> Result<(), NoMemory>
-    requires { AreFindings model.now findings.now }
-    ensures { OnOk result (text.new ≡ text.old ++ flat_map (task_line model.now findings.now) (range_with_len 0 (length model.now.tasks))) }
+/// Puts the lines of all tasks, one for each answer.
+pub(crate) fn put_tasks(
+    text: &mut Text,
+    model: &ValidModel,
+    tasks: &List<TaskAnswer>,
+) -> Result<(), NoMemory>
+    requires { length tasks.now ≡ length model.now.tasks }
+    ensures { OnOk result (text.new ≡ text.old ++ task_lines model.now tasks.now) }
 {
     for task in 0..model.tasks() {
-        put_task(text, model, findings, task)?;
+        put_task(text, model, &tasks.as_slice()[task as usize], task)?;
     }
     Ok(())
 }
 
-/// Puts the line of a task.
-fn put_task(
+/// Puts the line of a task that has this answer behind a text. `NoMemory` leaves the text with a beginning of the line
+/// after it.
+pub fn put_task(
     text: &mut Text,
     model: &ValidModel,
-    findings: &Findings,
+    answer: &TaskAnswer,
     task: u32,
 ) -> Result<(), NoMemory>
-    requires found { AreFindings model.now findings.now }
-    requires within { task < length model.now.tasks }
-    ensures { OnOk result (text.new ≡ text.old ++ task_line model.now findings.now task) }
+    requires { task < length model.now.tasks }
+    ensures ok { OnOk result (text.new ≡ text.old ++ task_line model.now answer.now task) }
+    ensures err { OnErr result (PutsPart text.old text.new (task_line model.now answer.now task)) }
 {
     text.put(b"task ")?;
     put_task_name(text, model, task)?;
-    put_answer(text, &findings.tasks.as_slice()[task as usize])?;
+    put_answer(text, answer)?;
     text.put(b" deadline ")?;
     text.put_number(model.deadline_of(task))?;
     text.put(b"\n")
@@ -63,7 +69,8 @@ fn put_task(
 
 /// Puts what is found of a task.
 fn put_answer(text: &mut Text, answer: &TaskAnswer) -> Result<(), NoMemory>
-    ensures { OnOk result (text.new ≡ text.old ++ task_words answer.now) }
+    ensures ok { OnOk result (text.new ≡ text.old ++ task_words answer.now) }
+    ensures err { OnErr result (PutsPart text.old text.new (task_words answer.now)) }
 {
     match answer {
         TaskAnswer::Settled(settled) => {
@@ -74,32 +81,39 @@ fn put_answer(text: &mut Text, answer: &TaskAnswer) -> Result<(), NoMemory>
     }
 }
 
-/// Puts the lines of all chains.
+/// Puts the lines of all chains, each with those of its exact lengths after it.
 fn put_chains(text: &mut Text, model: &ValidModel, findings: &Findings) -> Result<(), NoMemory>
     requires { AreFindings model.now findings.now }
     ensures { OnOk result (text.new ≡ text.old ++ flat_map (chain_lines model.now findings.now) (range_with_len 0 (length model.now.chains))) }
 {
     for chain in 0..model.chains() {
-        put_chain(text, model, findings, chain)?;
+        put_chain(
+            text,
+            model,
+            &findings.chains.as_slice()[chain as usize],
+            chain,
+        )?;
         put_exact(text, model, findings, chain)?;
     }
     Ok(())
 }
 
-/// Puts the line of a chain.
-fn put_chain(
+/// Puts the line of a chain that has this answer behind a text. A late task that it names is a task of the model.
+/// `NoMemory` leaves the text with a beginning of the line after it.
+pub fn put_chain(
     text: &mut Text,
     model: &ValidModel,
-    findings: &Findings,
+    answer: &ChainAnswer,
     chain: u32,
 ) -> Result<(), NoMemory>
-    requires found { AreFindings model.now findings.now }
     requires within { chain < length model.now.chains }
-    ensures { OnOk result (text.new ≡ text.old ++ chain_line model.now findings.now chain) }
+    requires known { (late : ℕ) → answer.now ≡ Late late → late < length model.now.tasks }
+    ensures ok { OnOk result (text.new ≡ text.old ++ chain_line model.now answer.now chain) }
+    ensures err { OnErr result (PutsPart text.old text.new (chain_line model.now answer.now chain)) }
 {
     text.put(b"chain ")?;
     put_name(text, &model.chain(chain).name)?;
-    put_chain_answer(text, model, &findings.chains.as_slice()[chain as usize])?;
+    put_chain_answer(text, model, answer)?;
     text.put(b"\n")
 }
 
@@ -110,7 +124,8 @@ fn put_chain_answer(
     answer: &ChainAnswer,
 ) -> Result<(), NoMemory>
     requires { (late : ℕ) → answer.now ≡ Late late → late < length model.now.tasks }
-    ensures { OnOk result (text.new ≡ text.old ++ chain_words model.now answer.now) }
+    ensures ok { OnOk result (text.new ≡ text.old ++ chain_words model.now answer.now) }
+    ensures err { OnErr result (PutsPart text.old text.new (chain_words model.now answer.now)) }
 {
     match answer {
         ChainAnswer::Bounds(bounds) => put_bounds(text, bounds),
@@ -121,9 +136,10 @@ fn put_chain_answer(
     }
 }
 
-/// Puts the bounds of a chain.
-fn put_bounds(text: &mut Text, bounds: &Bounds) -> Result<(), NoMemory>
-    ensures { OnOk result (text.new ≡ text.old ++ bounds_words bounds.now) }
+/// Puts the bounds of a chain behind a text. `NoMemory` leaves the text with a beginning of the words after it.
+pub fn put_bounds(text: &mut Text, bounds: &Bounds) -> Result<(), NoMemory>
+    ensures ok { OnOk result (text.new ≡ text.old ++ bounds_words bounds.now) }
+    ensures err { OnErr result (PutsPart text.old text.new (bounds_words bounds.now)) }
 {
     text.put(b" reaction ")?;
     text.put_number(bounds.reaction())?;

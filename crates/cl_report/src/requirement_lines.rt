@@ -1,51 +1,31 @@
 //! The lines of requirements.
-ghost use Rattle.std.specs.Prelude.{◌≡◌, ◌<◌, ◌++◌, length, OnOk};
-ghost use Rattle.std.specs.List.{flat_map, range_with_len};
-ghost use Rattle.cl_analyse.specs.Findings.{AreFindings};
-ghost use Rattle.cl_report.specs.Report.{verdict_value, verdict_word, verdict_words, verdict_line, requirement_line};
+ghost use Rattle.std.specs.Prelude.{◌≡◌, ◌++◌, length, OnOk};
+ghost use Rattle.cl_report.specs.Report.{verdict_value, verdict_word, verdict_words, verdict_line, requirement_lines};
 
 use crate::words::{kind_word, put_name};
-use cl_analyse::{Findings, Verdict};
-use cl_model::{RequirementDef, ValidModel};
+use cl_analyse::Verdict;
+use cl_model::{List, RequirementDef, ValidModel};
 use cl_text::Text;
 use cl_time::NoMemory;
 
-/// Puts the lines of all requirements.
+/// Puts the lines of all requirements, one for each verdict.
 pub(crate) fn put_requirements(
     text: &mut Text,
     model: &ValidModel,
-    findings: &Findings,
+    verdicts: &List<Verdict>,
 ) -> Result<(), NoMemory>
-    requires { AreFindings model.now findings.now }
-    ensures { OnOk result (text.new ≡ text.old
-        ++ flat_map (requirement_line model.now findings.now) (range_with_len 0 (length model.now.requirements))) }
+    requires { length verdicts.now ≡ length model.now.requirements }
+    ensures { OnOk result (text.new ≡ text.old ++ requirement_lines model.now verdicts.now) }
 {
-    for place in 0..model.plain().requirements.len() {
-        put_requirement(text, model, findings, place)?;
+    let requirements = model.plain().requirements.as_slice();
+    for place in 0..requirements.len() {
+        put_requirement(text, &requirements[place], &verdicts.as_slice()[place])?;
     }
     Ok(())
 }
 
-/// Puts the line of the requirement at a place of the file.
+/// Puts the line of a requirement on which there is this verdict.
 fn put_requirement(
-    text: &mut Text,
-    model: &ValidModel,
-    findings: &Findings,
-    place: usize,
-) -> Result<(), NoMemory>
-    requires found { AreFindings model.now findings.now }
-    requires within { place < length model.now.requirements }
-    ensures { OnOk result (text.new ≡ text.old ++ requirement_line model.now findings.now place) }
-{
-    put_judged(
-        text,
-        &model.plain().requirements.as_slice()[place],
-        &findings.verdicts.as_slice()[place],
-    )
-}
-
-/// Puts the line of a requirement.
-fn put_judged(
     text: &mut Text,
     requirement: &RequirementDef,
     verdict: &Verdict,

@@ -1,9 +1,9 @@
--- Held tasks that aren't above a task run only at the beginning of its busy window: each began its whole runnable
--- before the window did, since within it such a task isn't the highest pending one, and no runnable holds its core for
--- longer than what blocks the task.
-use Rattle.std.proofs.Common.{◌≡◌, ◌≢◌, ℕ, suc, ◌+◌, ◌<◌, ◌≤◌, ◌⊎◌, inl, inr, true, ◌-◌, length, sym, ◌∙◌, arith}
+-- Held tasks of lower priority run only at the beginning of a busy window: each began its whole runnable before the
+-- window did, since within it such a task isn't the highest pending one, and no runnable holds its core for longer than
+-- what blocks the task.
+use Rattle.std.proofs.Common.{◌≡◌, ℕ, suc, ◌+◌, ◌<◌, ◌≤◌, inl, inr, true, ◌-◌, length, sym, ◌∙◌, arith}
 use Rattle.std.specs.Prelude.{slice_index}
-use Rattle.std.proofs.lemmas.Bool.{cases_lt, cond-true, and_from, eq-eqb, le-leb}
+use Rattle.std.proofs.lemmas.Bool.{cases_lt, cond-true, and_from, eq-eqb, lt-ltb}
 use Rattle.cl_runs.specs.TaskTiming.{Timing, System, timing_at, no_timing, range_at, no_range, IsSound}
 use Rattle.cl_runs.specs.Table.{job_at, LiesIn}
 use Rattle.cl_runs.specs.Run.{Run, jobs_of, executed}
@@ -15,10 +15,9 @@ use Rattle.cl_runs.proofs.LegalFacts.{place_of_task, job_times}
 use Rattle.cl_runs.proofs.MomentFacts.{has_started}
 use Rattle.cl_runs.proofs.StartsFinishes.{finish_reached}
 use Rattle.cl_runs.proofs.ZippedLists.{zip_at}
-use Rattle.cl_resp.specs.Question.{may_block, hold_of, longest_hold, block_of}
-use Rattle.cl_resp.proofs.BusyWindowStart.{HasLess}
-use Rattle.cl_resp.proofs.BusyWindowTicks.{above, above_core, above_priority, RunsHeld}
-use Rattle.cl_resp.proofs.BusyWindowWork.{released_before, released_is}
+use Rattle.cl_resp.specs.Question.{is_below, hold_of, longest_hold, lower_block_of}
+use Rattle.cl_resp.proofs.BusyWindowTicks.{above_core, above_priority, RunsLower, IsWaiting}
+use Rattle.cl_resp.proofs.BusyWindowWork.{released_is}
 use Rattle.cl_resp.proofs.Greatest.{greatest_least, greatest_filtered}
 
 -- a runnable that has begun holds its core no longer than the longest hold of its task
@@ -31,12 +30,12 @@ hold_within task place h whole = omega (
   cond-true (range_at task place).whole ((range_at task place).greatest - 1) 0 whole,
 )
 
--- a task of the core of a task that isn't above it blocks it for no longer than the greatest block
+-- a task of lower priority on its core holds it no longer than the longest such task
 block_within : (system : System) (task : Timing) (other : ℕ) → other < length system.tasks → (timing_at system other).core ≡ task.core
-    → (timing_at system other).priority ≤ task.priority → longest_hold (timing_at system other) ≤ block_of system task
-unfolding block_of
+    → (timing_at system other).priority < task.priority → longest_hold (timing_at system other) ≤ lower_block_of system task
+unfolding lower_block_of
 block_within system task other is core lower =
-    greatest_filtered longest_hold (may_block task) system.tasks other no_timing is (and_from _ _ (eq-eqb _ _ core) (le-leb _ _ lower))
+    greatest_filtered longest_hold (is_below task) system.tasks other no_timing is (and_from _ _ (eq-eqb _ _ core) (lt-ltb _ _ lower))
 
 -- a held task began its runnable no longer ago than it may hold its core
 held_since : (system : System) (sound : IsSound system) (run : Run) (legal : IsLegal system run) (m k p t : ℕ) → t ≤ run.table.ticks
@@ -57,38 +56,29 @@ held_since system sound run legal m k p t h inside =
     )
 
 module _ (system : System) (sound : IsSound system) (run : Run) (legal : IsLegal system run) (i : ℕ) (is : i < length system.tasks) where
-  -- one above has work left at u, or the task has and isn't the task of number m
-  abbrev pub IsWaitedFor : (m u : ℕ) → Type 0
-  IsWaitedFor m u = HasLess (above system i) (λ j. executed system run j u) (λ j. released_before (jobs_of run j) (suc u)) (length system.tasks)
-      ⊎ ((m ≢ i) × (executed system run i u < released_before (jobs_of run i) (suc u)))
-
-  -- no runnable of a task that isn't above begins there
+  -- no runnable of a task of lower priority begins where one waits
   begins_elsewhere : (m k p u : ℕ) → m < length system.tasks → (timing_at system m).core ≡ (timing_at system i).core
-      → (timing_at system m).priority ≤ (timing_at system i).priority → Starts system run m k p u → IsWaitedFor m u → ⊥
-  begins_elsewhere m k p u is_m core lower starts waited =
+      → (timing_at system m).priority < (timing_at system i).priority → Starts system run m k p u → IsWaiting system run i u → ⊥
+  begins_elsewhere m k p u is_m core lower starts waits =
       let first : IsHighestPending system run.table (λ j. executed system run j u) u (timing_at system m).core m
       = start_pending system sound run legal m k p u starts in
-      elim waited [
+      elim waits [
         | inl less ↦ omega (
           arith,
           lower,
           above_priority system i less.at less.passes,
           first.highest less.at less.below (above_core system i less.at less.passes ∙ sym core) (omega (arith, less.less, released_is (jobs_of run less.at) u)),
         )
-        | inr itself ↦ itself.0 (sound.distinct m i is_m is core (omega (
-          arith,
-          lower,
-          first.highest i is (sym core) (omega (arith, itself.1, released_is (jobs_of run i) u)),
-        )))
+        | inr itself ↦ omega (arith, lower, first.highest i is (sym core) (omega (arith, itself, released_is (jobs_of run i) u)))
       ]
 
-  -- so a held task that isn't above runs only until so long after s, where one above or the task itself waits from s on
-  pub held_early : (s t : ℕ) → t ≤ run.table.ticks → (one : RunsHeld system run i t)
-      → ((u : ℕ) → s ≤ u → u < t → IsWaitedFor one.task u) → t < s + block_of system (timing_at system i)
-  held_early s t h one waited =
+  -- so a held one runs only until so long after s, where one waits from s on
+  pub held_early : (s t : ℕ) → t ≤ run.table.ticks → RunsLower system run i t → ((u : ℕ) → s ≤ u → u < t → IsWaiting system run i u)
+      → t < s + lower_block_of system (timing_at system i)
+  held_early s t h one waits =
       let (begun, within) = held_since system sound run legal one.task one.held.job one.held.place t h one.held.inside in
       elim (cases_lt begun.start s) [
         | inl earlier ↦ omega (arith, earlier, within, block_within system (timing_at system i) one.task one.is_task one.on_core one.lower)
         | inr later ↦ absurd (begins_elsewhere one.task one.held.job one.held.place begun.start one.is_task one.on_core one.lower begun.starts
-            (waited begun.start later begun.before))
+            (waits begun.start later begun.before))
       ]

@@ -1,10 +1,9 @@
--- What a core runs in a tick while a task waits: a task above it, or where none is pending and it is, the task itself;
--- or a held task that isn't above.
+-- What a core runs in a tick while a task or one above it waits: one of these, or a held task of lower priority.
 use Rattle.std.proofs.Common.{◌≡◌, ℕ, zero, suc, ◌+◌, ◌<◌, ◌≤◌, ◌⊎◌, inl, inr, Option, Some, None, Bool, true, length, refl, ap, ◌∙◌, arith}
 use Rattle.std.proofs.lemmas.Bool.{cases_lt, and_parts, and_from, eqb-true, eq-eqb, ltb-true, lt-ltb}
 use Rattle.cl_runs.specs.TaskTiming.{System, timing_at, IsSound}
 use Rattle.cl_runs.specs.Run.{Run, jobs_of, entry_at, executed}
-use Rattle.cl_runs.specs.Legal.{released, IsLegal, IsScheduled}
+use Rattle.cl_runs.specs.Legal.{released, IsHighestPending, IsNonePending, IsLegal, IsScheduled}
 use Rattle.cl_runs.specs.Moments.{IsHeldAt}
 use Rattle.cl_runs.proofs.Climbing.{climb_mono}
 use Rattle.cl_runs.proofs.Executed.{executed_zero, executed_climbs, executed_grew, executed_more}
@@ -29,14 +28,22 @@ pub record RunsAbove (system : System) (run : Run) (i t : ℕ) : Type 0 where
   pub above : above system i task ≡ true
   pub runs : entry_at run (timing_at system i).core t ≡ Some task
 
--- in tick t a held task runs that isn't above task i
-pub record RunsHeld (system : System) (run : Run) (i t : ℕ) : Type 0 where
+-- in tick t task i runs, or one above it
+abbrev pub RunsHere : System → Run → (i t : ℕ) → Type 0
+RunsHere system run i t = RunsAbove system run i t ⊎ (entry_at run (timing_at system i).core t ≡ Some i)
+
+-- in tick t a held task of lower priority than task i runs
+pub record RunsLower (system : System) (run : Run) (i t : ℕ) : Type 0 where
   pub task : ℕ
   pub is_task : task < length system.tasks
   pub on_core : (timing_at system task).core ≡ (timing_at system i).core
-  pub lower : (timing_at system task).priority ≤ (timing_at system i).priority
+  pub lower : (timing_at system task).priority < (timing_at system i).priority
   pub held : IsHeldAt system run task t
-  pub runs : entry_at run (timing_at system i).core t ≡ Some task
+
+-- at t a task above task i has work left, or task i has
+abbrev pub IsWaiting : System → Run → (i t : ℕ) → Type 0
+IsWaiting system run i t = HasLess (above system i) (λ j. executed system run j t) (λ j. released_before (jobs_of run j) (suc t)) (length system.tasks)
+    ⊎ (executed system run i t < released_before (jobs_of run i) (suc t))
 
 -- a task above is on the same core, and its priority is higher
 pub above_core : (system : System) (i j : ℕ) → above system i j ≡ true → (timing_at system j).core ≡ (timing_at system i).core
@@ -68,57 +75,55 @@ module _ (system : System) (sound : IsSound system) (run : Run) (legal : IsLegal
       omega (arith, executed_next j is t h (executed_climbs system run j t), released_is (jobs_of run j) t)
 
 module _ (system : System) (sound : IsSound system) (run : Run) (legal : IsLegal system run) (i : ℕ) (is : i < length system.tasks) where
-  -- where a held task is scheduled, it is above or it isn't
-  scheduled_held : (t m : ℕ) → m < length system.tasks → (timing_at system m).core ≡ (timing_at system i).core → IsHeldAt system run m t
-      → entry_at run (timing_at system i).core t ≡ Some m → RunsAbove system run i t ⊎ RunsHeld system run i t
-  scheduled_held t m is_m core held runs = elim (cases_lt (timing_at system i).priority (timing_at system m).priority) [
-    | inl higher ↦ inl (record { task = m; is_task = is_m; above = above_from system i m core higher; runs = runs })
-    | inr lower ↦ inr (record { task = m; is_task = is_m; on_core = core; lower = lower; held = held; runs = runs })
+  -- a task of the core that runs is above, or task i, or of lower priority
+  by_priority : (t m : ℕ) → m < length system.tasks → (timing_at system m).core ≡ (timing_at system i).core
+      → entry_at run (timing_at system i).core t ≡ Some m
+      → RunsHere system run i t ⊎ ((timing_at system m).priority < (timing_at system i).priority)
+  by_priority t m is_m core runs = elim (cases_lt (timing_at system i).priority (timing_at system m).priority) [
+    | inl higher ↦ inl (inl (record { task = m; is_task = is_m; above = above_from system i m core higher; runs = runs }))
+    | inr no_higher ↦ elim (cases_lt (timing_at system m).priority (timing_at system i).priority) [
+      | inl lower ↦ inr lower
+      | inr no_lower ↦ inl (inr (runs ∙ ap Some (sound.distinct m i is_m is core (omega (arith, no_higher, no_lower)))))
+    ]
   ]
 
-  -- where a task above has work left, one above is scheduled, or a held task
-  scheduled_above : (t : ℕ) (e : Option ℕ) → entry_at run (timing_at system i).core t ≡ e
+  scheduled_held : (t m : ℕ) → m < length system.tasks → (timing_at system m).core ≡ (timing_at system i).core → IsHeldAt system run m t
+      → entry_at run (timing_at system i).core t ≡ Some m → RunsHere system run i t ⊎ RunsLower system run i t
+  scheduled_held t m is_m core held runs = elim (by_priority t m is_m core runs) [
+    | inl here ↦ inl here
+    | inr lower ↦ inr (record { task = m; is_task = is_m; on_core = core; lower = lower; held = held })
+  ]
+
+  -- where the pending task of highest priority runs, it isn't lower than one that waits
+  scheduled_first : (t m : ℕ) → entry_at run (timing_at system i).core t ≡ Some m
+      → IsHighestPending system run.table (λ j. executed system run j t) t (timing_at system i).core m
+      → IsWaiting system run i t → (timing_at system i).priority ≤ (timing_at system m).priority
+  scheduled_first t m runs first (inl less) = omega (
+    arith,
+    above_priority system i less.at less.passes,
+    first.highest less.at less.below (above_core system i less.at less.passes) (omega (arith, less.less, released_is (jobs_of run less.at) t)),
+  )
+  scheduled_first t m runs first (inr itself) = first.highest i is refl (omega (arith, itself, released_is (jobs_of run i) t))
+
+  -- a core doesn't idle where one waits
+  scheduled_none : (t : ℕ) → IsNonePending system run.table (λ j. executed system run j t) t (timing_at system i).core → IsWaiting system run i t → ⊥
+  scheduled_none t idle (inl less) =
+      idle.none less.at less.below (above_core system i less.at less.passes) (omega (arith, less.less, released_is (jobs_of run less.at) t))
+  scheduled_none t idle (inr itself) = idle.none i is refl (omega (arith, itself, released_is (jobs_of run i) t))
+
+  scheduled_waiting : (t : ℕ) (e : Option ℕ) → entry_at run (timing_at system i).core t ≡ e
       → IsScheduled system run.table (λ j. executed system run j t) t (timing_at system i).core e
-      → HasLess (above system i) (λ j. executed system run j t) (λ j. released_before (jobs_of run j) (suc t)) (length system.tasks)
-      → RunsAbove system run i t ⊎ RunsHeld system run i t
-  scheduled_above t None runs idle less = absurd (idle.1.none less.at less.below (above_core system i less.at less.passes)
-      (omega (arith, less.less, released_is (jobs_of run less.at) t)))
-  scheduled_above t (Some m) runs (inl first) less = scheduled_held t m first.is_task first.on_core first.held runs
-  scheduled_above t (Some m) runs (inr first) less =
-      let no_lower : (timing_at system less.at).priority ≤ (timing_at system m).priority
-      = first.1.highest less.at less.below (above_core system i less.at less.passes) (omega (arith, less.less, released_is (jobs_of run less.at) t)) in
-      inl (record {
-        task = m;
-        is_task = first.1.is_task;
-        above = above_from system i m first.1.on_core (omega (arith, above_priority system i less.at less.passes, no_lower));
-        runs = runs;
-      })
+      → IsWaiting system run i t → RunsHere system run i t ⊎ RunsLower system run i t
+  scheduled_waiting t None runs idle waits = absurd (scheduled_none t idle.1 waits)
+  scheduled_waiting t (Some m) runs (inl first) waits = scheduled_held t m first.is_task first.on_core first.held runs
+  scheduled_waiting t (Some m) runs (inr first) waits = elim (by_priority t m first.1.is_task first.1.on_core runs) [
+    | inl here ↦ inl here
+    | inr lower ↦ absurd (omega (arith, lower, scheduled_first t m runs first.1 waits))
+  ]
 
-  -- where the task itself has, one above is scheduled, or the task, or another held task
-  scheduled_here : (t : ℕ) (e : Option ℕ) → entry_at run (timing_at system i).core t ≡ e
-      → IsScheduled system run.table (λ j. executed system run j t) t (timing_at system i).core e
-      → executed system run i t < released_before (jobs_of run i) (suc t)
-      → (RunsAbove system run i t ⊎ RunsHeld system run i t) ⊎ (e ≡ Some i)
-  scheduled_here t None runs idle less = absurd (idle.1.none i is refl (omega (arith, less, released_is (jobs_of run i) t)))
-  scheduled_here t (Some m) runs (inl first) less = inl (scheduled_held t m first.is_task first.on_core first.held runs)
-  scheduled_here t (Some m) runs (inr first) less =
-      let no_lower : (timing_at system i).priority ≤ (timing_at system m).priority
-      = first.1.highest i is refl (omega (arith, less, released_is (jobs_of run i) t)) in
-      elim (cases_lt (timing_at system i).priority (timing_at system m).priority) [
-        | inl higher ↦ inl (inl (record { task = m; is_task = first.1.is_task; above = above_from system i m first.1.on_core higher; runs = runs }))
-        | inr no_higher ↦ inr (ap Some (sound.distinct m i first.1.is_task is first.1.on_core (omega arith)))
-      ]
-
-  -- where one above has work left, one above runs, or a held task
-  pub runs_above : (t : ℕ) → t < run.table.ticks
-      → HasLess (above system i) (λ j. executed system run j t) (λ j. released_before (jobs_of run j) (suc t)) (length system.tasks)
-      → RunsAbove system run i t ⊎ RunsHeld system run i t
-  runs_above t h less = scheduled_above t _ refl (legal.scheduled (timing_at system i).core t (sound.tasks i is).on_core h) less
-
-  -- where the task itself has, one above runs, or a held task, or the task
-  pub runs_here : (t : ℕ) → t < run.table.ticks → executed system run i t < released_before (jobs_of run i) (suc t)
-      → (RunsAbove system run i t ⊎ RunsHeld system run i t) ⊎ (entry_at run (timing_at system i).core t ≡ Some i)
-  runs_here t h less = scheduled_here t _ refl (legal.scheduled (timing_at system i).core t (sound.tasks i is).on_core h) less
+  -- where one waits, task i or one above runs, or a held task of lower priority
+  pub runs_waiting : (t : ℕ) → t < run.table.ticks → IsWaiting system run i t → RunsHere system run i t ⊎ RunsLower system run i t
+  runs_waiting t h waits = scheduled_waiting t _ refl (legal.scheduled (timing_at system i).core t (sound.tasks i is).on_core h) waits
 
   -- where one above runs, the executed ticks of those above grow
   above_grows : (t : ℕ) → t < run.table.ticks → RunsAbove system run i t → executed_above system run i t < executed_above system run i (suc t)
@@ -130,26 +135,13 @@ module _ (system : System) (sound : IsSound system) (run : Run) (legal : IsLegal
       total_grows (above system i) (λ j. executed system run j t) (λ j. executed system run j (suc t)) (λ j. executed_rises system run j t)
       one.task one.above (omega (arith, more)) (length system.tasks) one.is_task
 
-  -- and those of the task stay
-  pub task_waits : (t : ℕ) → RunsAbove system run i t → executed system run i (suc t) ≡ executed system run i t
-  task_waits t one = elim (executed_climbs system run i t) [
-    | inl same ↦ same
-    | inr more ↦
-        let runs = (executed_grew system run i t more).1 in
-        let itself : one.task ≡ i = cc (runs, one.runs) in
-        absurd (omega (arith, above_priority system i one.task one.above, ap (λ (m : ℕ). (timing_at system m).priority) itself))
-  ]
-
-  -- where one above runs, the ticks of the task and those above together grow
-  pub grows_above : (t : ℕ) → t < run.table.ticks → RunsAbove system run i t
+  -- where task i or one above runs, their ticks together grow
+  pub grows_here : (t : ℕ) → t < run.table.ticks → RunsHere system run i t
       → executed system run i t + executed_above system run i t < executed system run i (suc t) + executed_above system run i (suc t)
-  grows_above t h one = omega (arith, above_grows t h one, executed_rises system run i t)
-
-  -- and where the task itself runs
-  pub grows_here : (t : ℕ) → t < run.table.ticks → entry_at run (timing_at system i).core t ≡ Some i
-      → executed system run i t + executed_above system run i t < executed system run i (suc t) + executed_above system run i (suc t)
-  grows_here t h runs = omega (
+  grows_here t h (inl one) = omega (arith, above_grows t h one, executed_rises system run i t)
+  grows_here t h (inr itself) = omega (
     arith,
-    executed_more system run i t (omega (arith, h, core_ticks system sound run legal i is)) runs,
-    total_rises (above system i) (λ j. executed system run j t) (λ j. executed system run j (suc t)) (length system.tasks) (λ j. executed_rises system run j t),
+    executed_more system run i t (omega (arith, h, core_ticks system sound run legal i is)) itself,
+    total_rises (above system i) (λ j. executed system run j t) (λ j. executed system run j (suc t)) (length system.tasks)
+        (λ j _ _. executed_rises system run j t),
   )

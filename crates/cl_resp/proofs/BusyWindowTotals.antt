@@ -25,14 +25,32 @@ total_within test a b c (suc n) h = omega (
   part_within (test n) (a n) (b n) (c n) (λ passes. h n (omega arith) passes),
 )
 
-part_rises : (p : Bool) (a b : ℕ) → a ≤ b → cond p a 0 ≤ cond p b 0
-part_rises true a b h = h
+part_rises : (p : Bool) (a b : ℕ) → (p ≡ true → a ≤ b) → cond p a 0 ≤ cond p b 0
+part_rises true a b h = h refl
 part_rises false a b h = omega arith
 
--- where none falls, the total doesn't
-pub total_rises : (test : ℕ → Bool) (a b : ℕ → ℕ) (n : ℕ) → ((j : ℕ) → a j ≤ b j) → total test a n ≤ total test b n
+-- where none that passes falls, the total doesn't
+pub total_rises : (test : ℕ → Bool) (a b : ℕ → ℕ) (n : ℕ) → ((j : ℕ) → j < n → test j ≡ true → a j ≤ b j) → total test a n ≤ total test b n
 total_rises test a b zero h = omega arith
-total_rises test a b (suc n) h = omega (arith, total_rises test a b n h, part_rises (test n) (a n) (b n) (h n))
+total_rises test a b (suc n) h = omega (
+  arith,
+  total_rises test a b n (λ j below passes. h j (omega arith) passes),
+  part_rises (test n) (a n) (b n) (λ passes. h n (omega arith) passes),
+)
+
+-- and where it is reached, each of them is
+pub total_reached : (test : ℕ → Bool) (a b : ℕ → ℕ) (n : ℕ) → ((j : ℕ) → j < n → test j ≡ true → a j ≤ b j) → total test b n ≤ total test a n
+    → (j : ℕ) → j < n → test j ≡ true → b j ≤ a j
+total_reached test a b zero h reached j below passes = absurd (omega arith)
+total_reached test a b (suc n) h reached j below passes =
+    let before : total test a n ≤ total test b n = total_rises test a b n (λ k lower through. h k (omega arith) through) in
+    let last : cond (test n) (a n) 0 ≤ cond (test n) (b n) 0 = part_rises (test n) (a n) (b n) (λ through. h n (omega arith) through) in
+    elim (cases_eq j n) [
+      | inl same ↦
+          let through : test n ≡ true = ap test (sym same) ∙ passes in
+          omega (arith, reached, before, cond-true (test n) (a n) 0 through, cond-true (test n) (b n) 0 through, ap a same, ap b same)
+      | inr other ↦ total_reached test a b n (λ k lower through. h k (omega arith) through) (omega (arith, reached, last)) j (omega arith) passes
+    ]
 
 part_grows : (p : Bool) (a b : ℕ) → p ≡ true → a < b → cond p a 0 < cond p b 0
 part_grows p a b passes h = omega (arith, cond-true p a 0 passes, cond-true p b 0 passes)
@@ -44,13 +62,13 @@ total_grows test a b h k passes more zero below = absurd (omega arith)
 total_grows test a b h k passes more (suc n) below = elim (cases_eq k n) [
   | inl same ↦ omega (
     arith,
-    total_rises test a b n h,
+    total_rises test a b n (λ j _ _. h j),
     part_grows (test n) (a n) (b n) (ap test (sym same) ∙ passes) (omega (arith, more, ap a same, ap b same)),
   )
   | inr other ↦ omega (
     arith,
     total_grows test a b h k passes more n (omega arith),
-    part_rises (test n) (a n) (b n) (h n),
+    part_rises (test n) (a n) (b n) (λ _. h n),
   )
 ]
 

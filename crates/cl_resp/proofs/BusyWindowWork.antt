@@ -1,5 +1,5 @@
 -- The work of a task that is released before a moment, and how much of it a window of ticks can add.
-use Rattle.std.proofs.Common.{◌≡◌, ℕ, zero, suc, ◌+◌, ◌*◌, ◌<◌, ◌≤◌, Bool, true, false, ◌&&◌, cond, nat_le, nat_lt, List, [], ◌∷◌, take, refl, ap, arith, add-mul}
+use Rattle.std.proofs.Common.{◌≡◌, ℕ, zero, suc, ◌+◌, ◌*◌, ◌<◌, ◌≤◌, Bool, true, false, ◌&&◌, cond, nat_le, nat_lt, List, [], ◌∷◌, length, take, refl, ap, arith, add-mul}
 use Rattle.std.specs.Prelude.{sum, sum_by, All}
 use Rattle.std.specs.List.{AllZip}
 use Rattle.std.proofs.lemmas.Bool.Decides.{nat_tests}
@@ -32,6 +32,15 @@ released_is jobs t = omega (
   sum_by-le-sum_by (λ (job : Job). cond (nat_lt job.release (suc t)) (sum job.times) 0)
       (λ (job : Job). cond (nat_le job.release t) (sum job.times) 0) jobs (λ job. next_before job.release t (sum job.times)),
 )
+
+before_later : (r t v : ℕ) → cond (nat_lt r t) v 0 ≤ cond (nat_lt r (suc t)) v 0
+before_later r t v = grind (arith, nat_tests)
+
+-- what is released before a moment is released before the next
+pub before_rises : (jobs : List Job) (t : ℕ) → released_before jobs t ≤ released_before jobs (suc t)
+unfolding released_before
+before_rises jobs t = sum_by-le-sum_by (λ (job : Job). cond (nat_lt job.release t) (sum job.times) 0)
+    (λ (job : Job). cond (nat_lt job.release (suc t)) (sum job.times) 0) jobs (λ job. before_later job.release t (sum job.times))
 
 before_nil : (t : ℕ) → released_before [] t ≡ 0
 unfolding released_before
@@ -110,4 +119,29 @@ first_released (job ∷ jobs) (suc n) t h = omega (
   part_there job.release t (sum job.times) (h 0 (omega arith)),
   sum_by-cons (λ (j : Job). sum j.times) job (take n jobs),
   first_released jobs n t (λ l below. h (suc l) (omega arith)),
+)
+
+part_later : (r t v : ℕ) → t ≤ r → cond (nat_lt r t) v 0 ≡ 0
+part_later r t v h = grind (arith, nat_tests)
+
+part_most : (r t v : ℕ) → cond (nat_lt r t) v 0 ≤ v
+part_most r t v = grind (arith, nat_tests)
+
+-- where none but the first jobs is released before t, no more than their work is
+pub first_alone : (jobs : List Job) (n t : ℕ) → ((l : ℕ) → n ≤ l → l < length jobs → t ≤ (job_at jobs l).release)
+    → released_before jobs t ≤ sum_by (λ (job : Job). sum job.times) (take n jobs)
+first_alone [] zero t h = omega (arith, before_nil t)
+first_alone [] (suc n) t h = omega (arith, before_nil t)
+first_alone (job ∷ jobs) zero t h = omega (
+  arith,
+  before_cons job jobs t,
+  part_later job.release t (sum job.times) (h 0 (omega arith) (omega arith)),
+  first_alone jobs zero t (λ l after below. h (suc l) (omega arith) (omega arith)),
+)
+first_alone (job ∷ jobs) (suc n) t h = omega (
+  arith,
+  before_cons job jobs t,
+  part_most job.release t (sum job.times),
+  sum_by-cons (λ (j : Job). sum j.times) job (take n jobs),
+  first_alone jobs n t (λ l after below. h (suc l) (omega arith) (omega arith)),
 )

@@ -1,6 +1,7 @@
 -- The greatest of a list by a number of each element: none is greater, and it is within each bound on all of them.
 use Rattle.std.proofs.Common.{◌≡◌, ℕ, zero, suc, ◌+◌, ◌<◌, ◌≤◌, Bool, true, false, cond, max, List, [], ◌∷◌, length, get_or, take, map, refl, ap, ◌∙◌, arith}
 use Rattle.std.specs.Prelude.{fold, filter, All}
+use Rattle.std.proofs.lemmas.Bool.{cond-true}
 use Rattle.std.proofs.lemmas.List.Elements.{All-head, All-tail, filter_more}
 use Rattle.std.proofs.lemmas.List.Folds.{fold-map}
 use Rattle.std.proofs.lemmas.List.Sums.{fold-append}
@@ -51,6 +52,27 @@ module _ {X : Type 0} (f : X → ℕ) where
   pub greatest_filtered : (p : X → Bool) (xs : List X) (n : ℕ) (d : X) → n < length xs → p (get_or xs n d) ≡ true
       → f (get_or xs n d) ≤ greatest_by f (filter p xs)
   greatest_filtered p = from_filtered p 0
+
+  from_more : (p q : X → Bool) → ((x : X) → p x ≡ true → q x ≡ true) → (a b : ℕ) → a ≤ b → (xs : List X)
+      → greatest_from a (filter p xs) ≤ greatest_from b (filter q xs)
+  from_more p q more a b start [] = start
+  from_more p q more a b start (x ∷ xs) =
+      elim (p x) as (λ c. (c ≡ true → q x ≡ true) → greatest_from a (cond c (x ∷ filter p xs) (filter p xs)) ≤ greatest_from b (cond (q x) (x ∷ filter q xs) (filter q xs))) [
+        | true ↦ λ also. omega (
+          arith,
+          from_more p q more (max a (f x)) (max b (f x)) (omega (arith, start)) xs,
+          ap (greatest_from b) (cond-true (q x) (x ∷ filter q xs) (filter q xs) (also refl)),
+        )
+        | false ↦ λ also. elim (q x) as (λ c. greatest_from a (filter p xs) ≤ greatest_from b (cond c (x ∷ filter q xs) (filter q xs))) [
+          | true ↦ from_more p q more a (max b (f x)) (omega (arith, start)) xs
+          | false ↦ from_more p q more a b start xs
+        ]
+      ] (more x)
+
+  -- where more pass, the greatest is no less
+  pub greatest_of_more : (p q : X → Bool) → ((x : X) → p x ≡ true → q x ≡ true) → (xs : List X)
+      → greatest_by f (filter p xs) ≤ greatest_by f (filter q xs)
+  greatest_of_more p q more = from_more p q more 0 0 (omega arith)
 
 from_one : {X : Type 0} (f : X → ℕ) (b : Bool) (a : ℕ) (x : X) → greatest_from f a (cond b (x ∷ []) []) ≡ max a (cond b (f x) 0)
 from_one f true a x = refl

@@ -1,8 +1,11 @@
 -- A question that asks no more than another is answered no later: a window of the other holds its demand, too.
 use Rattle.std.proofs.Common.{◌≡◌, ℕ, ◌+◌, ◌≤◌, Option, Some, None, refl, ap, arith}
 use Rattle.std.specs.Option.{option_map}
+use Rattle.cl_runs.specs.TaskTiming.{System, timing_at}
 use Rattle.cl_resp.specs.declared.question.Question.{Question}
-use Rattle.cl_resp.specs.Response.{Response, busy_window, response_to, AsksNoMore, IsAnsweredBy}
+use Rattle.cl_resp.specs.Question.{question_of, tight_question_of}
+use Rattle.cl_resp.specs.Response.{Response, busy_window, response_to, IsSettled, IsTightlySettled, AsksNoMore, IsAnsweredBy}
+use Rattle.cl_resp.proofs.EnoughAsked.{tight_asks_no_more}
 use Rattle.cl_resp.proofs.SettledTasks.{answer_of, answer_parts}
 use Rattle.cl_resp.proofs.Windows.{window_is_least, no_window_holds}
 
@@ -32,3 +35,14 @@ answered_no_later question other less latest answered = go (busy_window question
           no_wider = least;
           no_later = omega (arith, least, parts.1, less.jitter);
         }
+
+-- so a task that is settled is settled by its tight question, too, and no later
+pub tight_no_later : (system : System) (task response : ℕ) → IsSettled system task response
+    → (tight : ℕ) × IsTightlySettled system task tight × (tight ≤ response)
+tight_no_later system task response settled =
+    let less = answered_no_later (tight_question_of system (timing_at system task)) (question_of system (timing_at system task))
+    (tight_asks_no_more system (timing_at system task)) (record { window = settled.window; response = response }) settled.answered in (
+      less.answer.response,
+      record { is_task = settled.is_task; window = less.answer.window; answered = less.answered },
+      less.no_later,
+    )

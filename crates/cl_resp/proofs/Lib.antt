@@ -1,12 +1,13 @@
 pub mod FirstFound
 pub mod StimulusKinds
 pub mod Windows
+pub mod Greatest
+pub mod EnoughAsked
 pub mod SettledTasks
 pub mod LessAsked
 pub mod BusyWindowTotals
 pub mod BusyWindowStart
 pub mod BusyWindowWork
-pub mod Greatest
 pub mod BusyWindowTicks
 pub mod BusyWindowHeld
 pub mod BusyWindowDemand

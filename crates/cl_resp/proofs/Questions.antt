@@ -1,6 +1,6 @@
 -- The question of a task of a valid model: what it is by the numbers of the tasks of its core, and that it is in range.
 use Rattle.std.proofs.Common.{◌≡◌, ℕ, ◌+◌, ◌-◌, ◌*◌, ◌<◌, ◌≤◌, Bool, true, false, cond, nat_le, nat_lt, List, length, get_or, map, sym, ap, ◌∙◌, subst, arith}
-use Rattle.std.specs.Prelude.{All, ◌==◌}
+use Rattle.std.specs.Prelude.{All, ◌==◌, ◌&&◌}
 use Rattle.std.specs.List.{filter, range_with_len}
 use Rattle.std.proofs.lemmas.Bool.{ltb-true, eqb-true, eq-eqb, le-ltb}
 use Rattle.std.proofs.lemmas.List.{length-map}
@@ -18,13 +18,13 @@ use Rattle.cl_model.specs.Validity.{IsValid}
 use Rattle.cl_model.specs.Holds.{greatest_by, runnable_hold, task_hold}
 use Rattle.cl_model.proofs.ValidTasks.{kind_in_range, early_enough, released_before, some_time, little_time, runnables_in_range}
 use Rattle.cl_model.proofs.CoreTasks.{below_known, few_tasks, few_distances}
-use Rattle.cl_runs.specs.TaskTiming.{TimeRange, Timing, timing_at}
+use Rattle.cl_runs.specs.TaskTiming.{TimeRange, Timing, System, timing_at}
 use Rattle.cl_runs.specs.SystemOf.{range_of, timing_of, system_of}
 use Rattle.cl_runs.proofs.ModelSystem.{timing_is}
 use Rattle.cl_stim.specs.AnyStimulus.{as_stimulus}
 use Rattle.cl_resp.specs.declared.question.Above.{Above}
 use Rattle.cl_resp.specs.declared.question.Question.{Question}
-use Rattle.cl_resp.specs.Question.{greatest_execution, is_above, may_block, hold_of, longest_hold, block_of, taken_by, question_of, IsAboveInRange, IsQuestionInRange}
+use Rattle.cl_resp.specs.Question.{greatest_execution, is_above, hold_of, longest_hold, block_of, lower_block_of, taken_by, question_of, tight_question_of, IsAboveInRange, IsQuestionInRange}
 use Rattle.cl_resp.proofs.StimulusKinds.{kind_of-as_stimulus, least_few}
 use Rattle.cl_resp.proofs.Filters.{by_number, maps_agree, filter-map, filter-both, fewer}
 use Rattle.cl_resp.proofs.Greatest.{greatest_within, greatest_agrees, greatest_mapped}
@@ -45,23 +45,36 @@ numbers_above model task = filter (is_higher model task) (tasks_of_core model (c
 abbrev pub hold_at : SystemModel → (other : ℕ) → ℕ
 hold_at model other = task_hold (task_at model other)
 
--- whether another task has no higher priority, by number
-abbrev pub is_no_higher : SystemModel → (task other : ℕ) → Bool
-is_no_higher model task other = nat_le (task_at model other).priority (task_at model task).priority
+-- whether another task may hold the core of a task, by number: it has a lower priority, or no higher one, where the
+-- task's own runnables count
+abbrev pub may_hold : SystemModel → (own : Bool) → (task other : ℕ) → Bool
+may_hold model own task other =
+    cond own (nat_le (task_at model other).priority (task_at model task).priority) (nat_lt (task_at model other).priority (task_at model task).priority)
 
--- how long a runnable of such a task on the core of a task may
-abbrev pub longest_no_higher : SystemModel → (task : ℕ) → ℕ
-longest_no_higher model task = greatest_by (hold_at model) (filter (is_no_higher model task) (tasks_of_core model (core_of model task)))
+-- how long a runnable of such a task may
+abbrev pub longest_blocker : SystemModel → (own : Bool) → (task : ℕ) → ℕ
+longest_blocker model own task = greatest_by (hold_at model) (filter (may_hold model own task) (tasks_of_core model (core_of model task)))
 
--- the question of a task, by number
-abbrev pub question_by_number : SystemModel → (task : ℕ) → Question
-question_by_number model task = record {
-  time = time_of model task;
-  block = longest_no_higher model task;
+-- the question of a task, by number: with these times and tasks above it, and with its own
+abbrev pub question_with : SystemModel → (task time block : ℕ) → List Above → Question
+question_with model task time block above = record {
+  time = time;
+  block = block;
   jitter = jitter_of model task;
   deadline = deadline_of model task;
-  above = map (above_at model) (numbers_above model task);
+  above = above;
 }
+
+abbrev pub question_by_number : SystemModel → (own : Bool) → (task : ℕ) → Question
+question_by_number model own task =
+    question_with model task (time_of model task) (longest_blocker model own task) (map (above_at model) (numbers_above model task))
+
+-- the block and the question that counts the task's own runnables, or the tight one
+abbrev pub either_block : (own : Bool) → System → Timing → ℕ
+either_block own system task = cond own (block_of system task) (lower_block_of system task)
+
+abbrev pub either_question : (own : Bool) → System → Timing → Question
+either_question own system task = cond own (question_of system task) (tight_question_of system task)
 
 -- ---- the question by number is the question
 
@@ -97,36 +110,45 @@ module _ (model : SystemModel) where
       ∙ ap (map (λ j. taken_by (timing j))) (filter-both (λ j. core_of model j == core_of model i) (is_higher model i) all)
       ∙ maps_agree (λ j. taken_by (timing j)) (above_at model) taken_is (numbers_above model i)
 
-  pub block_is : (i : ℕ) → block_of (system_of model) (timing_of model (task_at model i)) ≡ longest_no_higher model i
-  unfolding block_of
-  block_is i =
-      let task = timing_of model (task_at model i) in
+  -- of the tasks of a core whose priority passes a test
+  longest_is : (test : ℕ → ℕ → Bool) (i : ℕ) → greatest_by longest_hold
+      (filter (λ other. (other.core == core_of model i) && test other.priority (task_at model i).priority) (system_of model).tasks)
+      ≡ greatest_by (hold_at model) (filter (λ j. test (task_at model j).priority (task_at model i).priority) (tasks_of_core model (core_of model i)))
+  longest_is test i =
       let timing : ℕ → Timing = λ j. timing_of model (task_at model j) in
       let all = range_with_len 0 (length model.tasks) in
-      ap (greatest_by longest_hold) (timings_passing (may_block task))
-      ∙ greatest_mapped longest_hold timing (filter (λ j. may_block task (timing j)) all)
-      ∙ ap (greatest_by (λ j. longest_hold (timing j))) (filter-both (λ j. core_of model j == core_of model i) (is_no_higher model i) all)
-      ∙ greatest_agrees (λ j. longest_hold (timing j)) (hold_at model) hold_is (filter (is_no_higher model i) (tasks_of_core model (core_of model i)))
+      let here : ℕ → Bool = λ j. core_of model j == core_of model i in
+      let passes : ℕ → Bool = λ j. test (task_at model j).priority (task_at model i).priority in
+      ap (greatest_by longest_hold) (timings_passing (λ other. (other.core == core_of model i) && test other.priority (task_at model i).priority))
+      ∙ greatest_mapped longest_hold timing (filter (λ j. here j && passes j) all)
+      ∙ ap (greatest_by (λ j. longest_hold (timing j))) (filter-both here passes all)
+      ∙ greatest_agrees (λ j. longest_hold (timing j)) (hold_at model) hold_is (filter passes (tasks_of_core model (core_of model i)))
+
+  pub block_is : (own : Bool) (i : ℕ) → either_block own (system_of model) (timing_of model (task_at model i)) ≡ longest_blocker model own i
+  unfolding block_of lower_block_of
+  block_is true i = longest_is nat_le i
+  block_is false i = longest_is nat_lt i
+
+  -- with the timing of the task, and a block
+  with_block : (block : ℕ) (i : ℕ)
+      → question_with model i (greatest_execution (timing_of model (task_at model i))) block
+      (map taken_by (filter (is_above (timing_of model (task_at model i))) (system_of model).tasks))
+      ≡ question_with model i (time_of model i) block (map (above_at model) (numbers_above model i))
+  with_block block i =
+      let above = map taken_by (filter (is_above (timing_of model (task_at model i))) (system_of model).tasks) in
+      ap (λ time. question_with model i time block above) (time_is i) ∙ ap (question_with model i (time_of model i) block) (above_is i)
 
   -- with the timing of the task
-  with_timing : (i : ℕ) → question_of (system_of model) (timing_of model (task_at model i)) ≡ question_by_number model i
-  unfolding question_of
-  with_timing i =
-      let task = timing_of model (task_at model i) in
-      let above = map taken_by (filter (is_above task) (system_of model).tasks) in
-      let asked : (time block : ℕ) → List Above → Question = λ time block above. record {
-        time = time;
-        block = block;
-        jitter = jitter_of model i;
-        deadline = deadline_of model i;
-        above = above;
-      } in
-      ap (λ time. asked time (block_of (system_of model) task) above) (time_is i)
-      ∙ ap (λ block. asked (time_of model i) block above) (block_is i)
-      ∙ ap (asked (time_of model i) (longest_no_higher model i)) (above_is i)
+  with_timing : (own : Bool) (i : ℕ) → either_question own (system_of model) (timing_of model (task_at model i)) ≡ question_by_number model own i
+  unfolding question_of tight_question_of
+  with_timing true i = with_block (block_of (system_of model) (timing_of model (task_at model i))) i
+      ∙ ap (λ block. question_with model i (time_of model i) block (map (above_at model) (numbers_above model i))) (block_is true i)
+  with_timing false i = with_block (lower_block_of (system_of model) (timing_of model (task_at model i))) i
+      ∙ ap (λ block. question_with model i (time_of model i) block (map (above_at model) (numbers_above model i))) (block_is false i)
 
-  pub question_is : (i : ℕ) → i < length model.tasks → question_of (system_of model) (timing_at (system_of model) i) ≡ question_by_number model i
-  question_is i h = ap (question_of (system_of model)) (timing_is model i h) ∙ with_timing i
+  pub question_is : (own : Bool) (i : ℕ) → i < length model.tasks
+      → either_question own (system_of model) (timing_at (system_of model) i) ≡ question_by_number model own i
+  question_is own i h = ap (either_question own (system_of model)) (timing_is model i h) ∙ with_timing own i
 
 -- ---- the question is in range
 
@@ -172,44 +194,46 @@ module _ (model : SystemModel) (valid : IsValid model) (i : ℕ) (h : i < length
       let less = fewer on_core (is_higher model i) all i 0 (omega (arith, h, length-range_with_len 0 (length model.tasks))) itself not_above in
       omega (arith, less, length-map (numbers_above model i) (above_at model), few_tasks model valid (core_of model i))
 
-  block_few : longest_no_higher model i ≤ MOST_TICKS
-  block_few =
+  block_few : (own : Bool) → longest_blocker model own i ≤ MOST_TICKS
+  block_few own =
       let on_core : ℕ → Bool = λ j. core_of model j == core_of model i in
       let all = range_with_len 0 (length model.tasks) in
-      greatest_within (hold_at model) (filter (is_no_higher model i) (filter on_core all)) MOST_TICKS
-      (λ k d lt. hold_few model valid _ (All-filter (is_no_higher model i) (λ j. j < length model.tasks) (filter on_core all)
+      greatest_within (hold_at model) (filter (may_hold model own i) (filter on_core all)) MOST_TICKS
+      (λ k d lt. hold_few model valid _ (All-filter (may_hold model own i) (λ j. j < length model.tasks) (filter on_core all)
       (below_known model (length model.tasks) (core_of model i)) k d lt))
 
-  pub question_in_range : IsQuestionInRange (question_by_number model i)
-  question_in_range = record {
+  pub question_in_range : (own : Bool) → IsQuestionInRange (question_by_number model own i)
+  question_in_range own = record {
     released_before = released_before model valid i h;
     deadline = omega (arith, early_enough model valid i h, least_few (tasks.stimulus_of model i) (kind_in_range model valid i h));
     some_time = some_time model valid i h;
     time = little_time model valid i h;
-    block = block_few;
+    block = block_few own;
     few_above = few_above;
     above = all_above;
   }
 
 -- ---- the question that is put together
 
-module _ (model : SystemModel) (i : ℕ) (h : i < length model.tasks) (time block jitter deadline : ℕ) (above : List Above) (is_time : time ≡ time_of model i)
-    (is_block : block ≡ block_of (system_of model) (timing_of model (task_at model i)))
+module _ (model : SystemModel) (own : Bool) (i : ℕ) (h : i < length model.tasks) (time block jitter deadline : ℕ) (above : List Above)
+    (is_time : time ≡ time_of model i) (is_block : block ≡ either_block own (system_of model) (timing_of model (task_at model i)))
     (is_jitter : jitter ≡ jitter_of model i) (is_deadline : deadline ≡ deadline_of model i)
     (is_list : above ≡ map taken_by (filter (is_above (timing_of model (task_at model i))) (system_of model).tasks)) where
-  put_together : record { time = time; block = block; jitter = jitter; deadline = deadline; above = above } ≡ question_by_number model i
+  put_together : record { time = time; block = block; jitter = jitter; deadline = deadline; above = above } ≡ question_by_number model own i
   put_together =
       let above_by_number = is_list ∙ above_is model i in
-      let block_by_number = is_block ∙ block_is model i in
+      let block_by_number = is_block ∙ block_is model own i in
       cc
 
   pub is_question : record { time = time; block = block; jitter = jitter; deadline = deadline; above = above }
-      ≡ question_of (system_of model) (timing_at (system_of model) i)
-  is_question = put_together ∙ sym (question_is model i h)
+      ≡ either_question own (system_of model) (timing_at (system_of model) i)
+  is_question = put_together ∙ sym (question_is model own i h)
 
   pub is_in_range : IsValid model → IsQuestionInRange (record { time = time; block = block; jitter = jitter; deadline = deadline; above = above })
-  is_in_range valid = subst (λ (q : Question). IsQuestionInRange q) (sym put_together) (question_in_range model valid i h)
+  is_in_range valid = subst (λ (q : Question). IsQuestionInRange q) (sym put_together) (question_in_range model valid i h own)
 
--- the question of each task is in range
-pub questions_in_range : (model : SystemModel) → IsValid model → (i : ℕ) → i < length model.tasks → IsQuestionInRange (question_of (system_of model) (timing_at (system_of model) i))
-questions_in_range model valid i h = subst (λ (q : Question). IsQuestionInRange q) (sym (question_is model i h)) (question_in_range model valid i h)
+-- the questions of each task are in range
+pub questions_in_range : (own : Bool) (model : SystemModel) → IsValid model → (i : ℕ) → i < length model.tasks
+    → IsQuestionInRange (either_question own (system_of model) (timing_at (system_of model) i))
+questions_in_range own model valid i h =
+    subst (λ (q : Question). IsQuestionInRange q) (sym (question_is model own i h)) (question_in_range model valid i h own)

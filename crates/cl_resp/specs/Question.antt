@@ -1,6 +1,6 @@
 -- The question of a task: what its response depends on.
 -- Source: Audsley et al. 1993, with release jitter, and with blocking by non-preemptive regions.
-use Rattle.std.specs.Prelude.{ℕ, ◌<◌, ◌≤◌, ◌*◌, ◌+◌, ◌-◌, Bool, ◌==◌, ◌&&◌, cond, nat_le, nat_lt, map, filter, length, sum_by, All}
+use Rattle.std.specs.Prelude.{◌≡◌, ℕ, ◌<◌, ◌≤◌, ◌*◌, ◌+◌, ◌-◌, Bool, ◌==◌, ◌&&◌, cond, nat_le, nat_lt, map, filter, length, sum_by, All}
 use Rattle.cl_model.specs.declared.limits.TheConstants.{MOST_TICKS, MOST_RUNNABLES, MOST_DISTANCES, MOST_TASKS_OF_CORE}
 use Rattle.cl_model.specs.Timing.{least_distance, greatest_jitter}
 use Rattle.cl_model.specs.Holds.{greatest_by}
@@ -34,6 +34,14 @@ longest_hold task = greatest_by hold_of task.ranges
 unfoldable pub block_of : System → Timing → ℕ
 block_of system task = greatest_by longest_hold (filter (may_block task) system.tasks)
 
+-- whether the other task has a lower priority on the core of the task
+abbrev pub is_below : Timing → (other : Timing) → Bool
+is_below task other = (other.core == task.core) && nat_lt other.priority task.priority
+
+-- how long a runnable of a task of lower priority on its core may
+unfoldable pub lower_block_of : System → Timing → ℕ
+lower_block_of system task = greatest_by longest_hold (filter (is_below task) system.tasks)
+
 -- what a task of higher priority takes
 abbrev pub taken_by : Timing → Above
 taken_by other = record { stimulus = as_stimulus other.pattern; time = greatest_execution other }
@@ -48,6 +56,25 @@ question_of system task = record {
   deadline = task.deadline;
   above = map taken_by (filter (is_above task) system.tasks);
 }
+
+-- the tight question of a task: the same, but that runnables of its own don't block it
+unfoldable pub tight_question_of : System → Timing → Question
+tight_question_of system task = record {
+  time = greatest_execution task;
+  block = lower_block_of system task;
+  jitter = greatest_jitter task.pattern;
+  deadline = task.deadline;
+  above = map taken_by (filter (is_above task) system.tasks);
+}
+
+-- a question asks enough of a task: it is its question but for the block, which is no less than how long a runnable of
+-- a task of lower priority on its core may hold that. A question of it and a tight one both do
+pub record AsksEnough (system : System) (task : Timing) (question : Question) : Type 0 where
+  pub time : question.time ≡ greatest_execution task
+  pub block : lower_block_of system task ≤ question.block
+  pub jitter : question.jitter ≡ greatest_jitter task.pattern
+  pub deadline : question.deadline ≡ task.deadline
+  pub above : question.above ≡ map taken_by (filter (is_above task) system.tasks)
 
 -- the numbers of what stands above a task with this deadline are those of a valid model
 pub record IsAboveInRange (deadline : ℕ) (above : Above) : Type 0 where

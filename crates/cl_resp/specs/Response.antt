@@ -8,7 +8,7 @@ use Rattle.cl_stim.specs.AnyStimulus.{kind_of}
 use Rattle.cl_stim.specs.Releases.{most_releases}
 use Rattle.cl_resp.specs.declared.question.Above.{Above}
 use Rattle.cl_resp.specs.declared.question.Question.{Question}
-use Rattle.cl_resp.specs.Question.{question_of}
+use Rattle.cl_resp.specs.Question.{question_of, tight_question_of}
 
 -- the most ticks that a job of the task and what goes before it need of a window of `width` ticks
 unfoldable pub demand : Question → (width : ℕ) → ℕ
@@ -33,6 +33,12 @@ pub record IsSettled (system : System) (task response : ℕ) : Type 0 where
   pub is_task : task < length system.tasks
   pub window : ℕ
   pub answered : response_to (question_of system (timing_at system task)) ≡ Some (record { window = window; response = response })
+
+-- the task of a number is settled by its tight question: that has this response
+pub record IsTightlySettled (system : System) (task response : ℕ) : Type 0 where
+  pub is_task : task < length system.tasks
+  pub window : ℕ
+  pub answered : response_to (tight_question_of system (timing_at system task)) ≡ Some (record { window = window; response = response })
 
 -- in words: a window holds its own demand, and no lesser one does
 pub record IsWindow (question : Question) (width : ℕ) : Type 0 where

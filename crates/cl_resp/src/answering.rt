@@ -24,7 +24,7 @@ fn taken(above: &Above, width: u64) -> u128
 }
 
 /// The most ticks that a job of the task and what goes before it need of a window of `width` ticks.
-fn demand(question: &Question, width: u64) -> u128
+pub fn demand(question: &Question, width: u64) -> u128
     requires in_range { IsQuestionInRange question.now }
     requires width { width ≤ MOST_WIDTH }
     ensures { result ≡ demand question.now width }
@@ -58,8 +58,8 @@ fn window(question: &Question) -> Option<u64>
 }
 
 /// The window and the response of a task, or that it is late: that no window up to its deadline holds its own demand.
-/// Each job of a task with this question that arrives a response or more before the end of a legal run finishes within
-/// the response of its arrival. It takes no memory, and counts one analysing step, whatever it answers.
+/// Each job of a task of which the question asks enough that arrives a response or more before the end of a legal run
+/// finishes within the response of its arrival. It takes no memory, and counts one analysing step, whatever it answers.
 pub fn respond<L: Ledger>(question: &Question, steps: &mut Steps<L>) -> Result<Settled, Late>
     requires { IsQuestionInRange question.now }
     ensures response { MatchResult result
@@ -69,6 +69,17 @@ pub fn respond<L: Ledger>(question: &Question, steps: &mut Steps<L>) -> Result<S
     ensures steps { steps.new ≡ steps.old + 1 }
 {
     steps.tick();
+    settle(question)
+}
+
+/// What `respond` answers, without a step: for one who asks another question of a task whose step is counted.
+pub fn settle(question: &Question) -> Result<Settled, Late>
+    requires { IsQuestionInRange question.now }
+    ensures response { MatchResult result
+        (λ settled. response_to question.now ≡ Some settled)
+        (λ _. response_to question.now ≡ None) }
+    ensures finishing { IfOk result (λ settled. AnswersFor question.now settled.response) }
+{
     match window(question) {
         Some(window) => Ok(Settled {
             window,

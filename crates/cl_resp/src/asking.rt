@@ -1,10 +1,10 @@
 //! The question of a task of a valid model. Times are in ticks.
-ghost use Rattle.std.specs.Prelude.{◌≡◌, ◌<◌, ◌↔◌, IsTrue, length, map, filter, IfOk};
+ghost use Rattle.std.specs.Prelude.{◌≡◌, ◌<◌, ◌↔◌, IsTrue, cond, nat_le, nat_lt, length, map, filter, IfOk};
 ghost use Rattle.cl_model.specs.ByNumber.{task_at};
 ghost use Rattle.cl_model.specs.Validity.{IsValid};
 ghost use Rattle.cl_runs.specs.SystemOf.{timing_of, system_of};
 ghost use Rattle.cl_runs.specs.TaskTiming.{timing_at};
-ghost use Rattle.cl_resp.specs.Question.{is_above, block_of, taken_by, question_of, IsQuestionInRange};
+ghost use Rattle.cl_resp.specs.Question.{is_above, block_of, lower_block_of, taken_by, question_of, tight_question_of, IsQuestionInRange};
 
 use crate::question::{Above, Question};
 use cl_model::{List, ValidModel};
@@ -44,21 +44,58 @@ fn all_above(
     Ok(above)
 }
 
-/// How long a whole runnable that has begun may hold the core of a task: one of the task itself, which has this
-/// priority, or of a task of lower priority there.
+/// Whether a task may hold its core while one of this priority waits there: it has a lower priority, or, where the
+/// waiting task counts too, it is that one.
+fn may_hold(model: &ValidModel, other: u32, priority: u64, own: bool) -> bool
+    requires { other < length model.now.tasks }
+    ensures { result
+        ≡ cond own (nat_le (task_at model.now other).priority priority) (nat_lt (task_at model.now other).priority priority) }
+{
+    let other = model.task(other).priority;
+    if own {
+        other <= priority
+    } else {
+        other < priority
+    }
+}
+
+/// How long a whole runnable that has begun may hold the core of a task: one of a task of lower priority there, or,
+/// where its own count, of the task itself, which has this priority.
 #[tactic(auto, using(crate::proofs::Greatest::greatest_more))]
-fn block_of(model: &ValidModel, task: u32, priority: u64) -> u64
+fn block_of(model: &ValidModel, task: u32, priority: u64, own: bool) -> u64
     requires task { task < length model.now.tasks }
     requires priority { priority ≡ (task_at model.now task).priority }
-    ensures { result ≡ block_of (system_of model.now) (timing_of model.now (task_at model.now task)) }
+    ensures { result
+        ≡ cond own
+        (block_of (system_of model.now) (timing_of model.now (task_at model.now task)))
+        (lower_block_of (system_of model.now) (timing_of model.now (task_at model.now task))) }
 {
     let mut block = 0;
     for other in model.tasks_of_core(model.core_of(task)) {
-        if !is_higher(model, *other, priority) {
+        if may_hold(model, *other, priority, own) {
             block = block.max(model.task(*other).longest_hold());
         }
     }
     block
+}
+
+/// The question of a task, given by its number: the tight one, or the one whose block counts its own whole runnables.
+fn asked(alloc: Global, model: &ValidModel, task: u32, own: bool) -> Result<Question, NoMemory>
+    requires { task < length model.now.tasks }
+    ensures question { IfOk result (λ question. question
+        ≡ cond own
+        (question_of (system_of model.now) (timing_at (system_of model.now) task))
+        (tight_question_of (system_of model.now) (timing_at (system_of model.now) task))) }
+    ensures in_range { IfOk result IsQuestionInRange }
+{
+    let priority = model.task(task).priority;
+    Ok(Question {
+        time: model.time_of(task),
+        block: block_of(model, task, priority, own),
+        jitter: model.jitter_of(task),
+        deadline: model.deadline_of(task),
+        above: all_above(alloc, model, task, priority)?,
+    })
 }
 
 /// The question of a task, given by its number. Whole runnables of its core block it, but for those of higher priority,
@@ -70,12 +107,19 @@ pub fn ask(alloc: Global, model: &ValidModel, task: u32) -> Result<Question, NoM
         ≡ question_of (system_of model.now) (timing_at (system_of model.now) task)) }
     ensures in_range { IfOk result IsQuestionInRange }
 {
-    let priority = model.task(task).priority;
-    Ok(Question {
-        time: model.time_of(task),
-        block: block_of(model, task, priority),
-        jitter: model.jitter_of(task),
-        deadline: model.deadline_of(task),
-        above: all_above(alloc, model, task, priority)?,
-    })
+    let with_own = true;
+    asked(alloc, model, task, with_own)
+}
+
+/// The tight question of a task, given by its number: that of `ask`, but that its block leaves out the task's own whole
+/// runnables. Its response holds as well, and is no later: the earlier jobs of a settled task have finished by the
+/// moment from which the window of a job counts. The only error is that there is no memory for the tasks above.
+pub fn ask_tight(alloc: Global, model: &ValidModel, task: u32) -> Result<Question, NoMemory>
+    requires { task < length model.now.tasks }
+    ensures question { IfOk result (λ question. question
+        ≡ tight_question_of (system_of model.now) (timing_at (system_of model.now) task)) }
+    ensures in_range { IfOk result IsQuestionInRange }
+{
+    let with_own = false;
+    asked(alloc, model, task, with_own)
 }

@@ -7,7 +7,7 @@ pub mod laws;
 mod question;
 mod settled;
 
-pub use answering::respond;
-pub use asking::ask;
+pub use answering::{demand, respond, settle};
+pub use asking::{ask, ask_tight};
 pub use question::{Above, Question};
 pub use settled::{Late, Settled};

@@ -16,7 +16,8 @@ pub struct Above {
 pub struct Question {
     /// The greatest execution time of a job of the task.
     pub time: u64,
-    /// How long a whole runnable that has begun may hold the core: one of the task itself, or of lower priority.
+    /// How long a whole runnable that has begun may hold the core: one of a task of lower priority, and in a question
+    /// that isn't tight one of the task itself, too.
     pub block: u64,
     /// How long after its arrival a job is released at most.
     pub jitter: u64,

@@ -1,5 +1,5 @@
 -- Where an outcome comes from, and why it is what it is.
-use Rattle.std.proofs.Common.{◌≡◌, ◌⊎◌, ℕ, ◌≤◌, inl, inr, List, Option, Some, None, Result, Ok, Err, refl, sym, subst}
+use Rattle.std.proofs.Common.{◌≡◌, ◌⊎◌, ℕ, ◌≤◌, inl, inr, List, Option, Some, None, Result, Ok, Err, refl, sym, ap, subst}
 use Rattle.std.specs.Prelude.{Contains}
 use Rattle.cl_model.specs.declared.model.SystemModel.{SystemModel}
 use Rattle.cl_model.specs.declared.refusal.Refusal.{Refusal}
@@ -7,10 +7,11 @@ use Rattle.cl_model.specs.Reading.{model_of}
 use Rattle.cl_model.specs.Validity.{refusal_of}
 use Rattle.cl_top.specs.declared.command.Command.{Command}
 use Rattle.cl_top.specs.declared.outcome.Outcome.{Outcome}
+use Rattle.cl_top.specs.declared.status.TheConstants.{MODEL_REFUSED}
 use Rattle.cl_top.specs.Calls.{ShelfCall}
 use Rattle.cl_top.specs.Command.{File, command_of, files_of, word}
 use Rattle.cl_top.specs.Files.{Fetched, Unasked, Bytes, Fault, TooLong, SomeFile, FileGave, FileRose, FileTooLong, MayGive, IsAccepted, NoneAfter}
-use Rattle.cl_top.specs.Outcome.{words_refused, read_fault, long_file, model_refused, ValidatesTo, ReadsTo, OpensTo, OpensFile}
+use Rattle.cl_top.specs.Outcome.{words_refused, read_fault, long_file, ValidatesTo, ReadsTo, OpensTo, OpensFile}
 use Rattle.cl_top.specs.Run.{ComesAs, ComesTo}
 
 -- a status of what the files hold: neither of their fetches, of the words or of the model, nor of a call that failed
@@ -44,7 +45,7 @@ module _ (words : List (List ℕ)) (shelf : ShelfCall) where
     NoCommand : command ≡ None → found ≡ words_refused → Cause command found
     OfFault : SomeFile command (λ file. FileRose words shelf file × NoneAfter command words shelf file.place × (found ≡ read_fault file.place)) → Cause command found
     OfLength : SomeFile command (λ file. FileTooLong words shelf file × NoneAfter command words shelf file.place × (found ≡ long_file file.place)) → Cause command found
-    OfRefusal : (refusal : Refusal) → NoneAfter command words shelf 1 → found ≡ model_refused refusal → Cause command found
+    OfRefusal : NoneAfter command words shelf 1 → found.status ≡ MODEL_REFUSED → Cause command found
     OfContent : IsOfContent found.status → Cause command found
 
   module _ (command : Option Command) (found : Outcome) where
@@ -68,11 +69,11 @@ module _ (words : List (List ℕ)) (shelf : ShelfCall) where
         (bytes : List ℕ) (last : ¬ IsAccepted (Bytes bytes) → NoneAfter command words shelf 1) where
       validated_cause : (model : SystemModel) (refusal : Option Refusal) → model_of bytes ≡ Ok model → refusal_of model ≡ refusal → ValidatesTo model refusal next found → Cause command found
       validated_cause model None means none is = caused model is
-      validated_cause model (Some refusal) means some is = OfRefusal refusal (last (not_refused bytes model refusal means some)) is
+      validated_cause model (Some refusal) means some is = OfRefusal (last (not_refused bytes model refusal means some)) (ap (λ (o : Outcome). o.status) is)
 
       by_reading : (read : Result SystemModel Refusal) → model_of bytes ≡ read → ReadsTo read next found → Cause command found
       by_reading (Ok model) means is = validated_cause model (refusal_of model) means refl is
-      by_reading (Err refusal) means is = OfRefusal refusal (last (not_read bytes refusal means)) is
+      by_reading (Err refusal) means is = OfRefusal (last (not_read bytes refusal means)) (ap (λ (o : Outcome). o.status) is)
 
       pub read_cause : ReadsTo (model_of bytes) next found → Cause command found
       read_cause is = by_reading (model_of bytes) refl is

@@ -13,9 +13,10 @@ use Rattle.cl_top.specs.Commands.Replay.{IsOfTrace}
 use Rattle.cl_top.specs.Commands.Simulate.{IsSimulated}
 use Rattle.cl_top.specs.Files.{FileRose, FileTooLong, NoneAfter}
 use Rattle.cl_top.specs.OfModel.{IsAnswer}
-use Rattle.cl_top.specs.Outcome.{words_refused, read_fault, long_file, model_refused}
+use Rattle.cl_top.specs.Outcome.{words_refused, read_fault, long_file}
 use Rattle.cl_top.specs.Run.{ComesAs, ComesTo, IsWhole, IsCutShort, WritesOfFile}
 use Rattle.cl_top.proofs.Comings.{Cause, NoCommand, OfFault, OfLength, OfRefusal, OfContent, IsOfContent, comes_as}
+use Rattle.cl_top.proofs.Checks.{check_cause}
 use Rattle.cl_top.proofs.OfEdit.{of_edit}
 use Rattle.cl_top.proofs.OfReplay.{of_replay}
 use Rattle.cl_top.proofs.OneFile.{model_cause, of_answer, of_simulate}
@@ -40,6 +41,9 @@ module _ (words : List (List ℕ)) (shelf : ShelfCall) where
   cause (Some command.Edit) found comes = two_cause command.Edit FILE_LIMIT IsOfEdits of_edit words shelf found comes
   cause (Some (command.Generate seed tasks)) found comes = OfContent (inl comes.follows.status_is)
   cause (Some (command.Survey seed tasks)) found comes = OfContent (inl comes.follows.status_is)
+  cause (Some command.Check) found comes = check_cause words shelf found comes
+  cause (Some command.Help) found comes = OfContent (inl comes.follows.status_is)
+  cause (Some command.Version) found comes = OfContent (inl comes.follows.status_is)
 
   status_is : (found other : Outcome) → found ≡ other → found.status ≡ other.status
   status_is found other is = ap (λ (o : Outcome). o.status) is
@@ -52,7 +56,7 @@ module _ (words : List (List ℕ)) (shelf : ShelfCall) where
   refused_words asked found (NoCommand none is) status = none
   refused_words asked found (OfFault fault) status = absurd (omega (arith, status, status_is found (read_fault fault.0.place) fault.2.2))
   refused_words asked found (OfLength length) status = absurd (omega (arith, status, status_is found (long_file length.0.place) length.2.2))
-  refused_words asked found (OfRefusal refusal none is) status = absurd (omega (arith, status, status_is found (model_refused refusal) is))
+  refused_words asked found (OfRefusal none is) status = absurd (omega (arith, status, is))
   refused_words asked found (OfContent content) status = of_content found.status content (inl status)
 
   of_none : (found : Outcome) → ComesAs None words shelf found → found.status ≡ 2
@@ -72,7 +76,7 @@ module _ (words : List (List ℕ)) (shelf : ShelfCall) where
       fault_writes (NoCommand none is) fault whole = absurd (omega (arith, fault, status_is found words_refused is))
       fault_writes (OfFault cause) fault whole = (cause.0, cause.1, (cause.2.0, cause.2.1, moved (read_fault cause.0.place) cause.2.2 whole))
       fault_writes (OfLength cause) fault whole = absurd (omega (arith, fault, status_is found (long_file cause.0.place) cause.2.2))
-      fault_writes (OfRefusal refusal none is) fault whole = absurd (omega (arith, fault, status_is found (model_refused refusal) is))
+      fault_writes (OfRefusal none is) fault whole = absurd (omega (arith, fault, is))
       fault_writes (OfContent content) fault whole = of_content found.status content (inr (inl fault))
 
       length_writes : Cause words shelf (command_of words) found → found.status ≡ 4 → IsWhole sink found status
@@ -80,14 +84,14 @@ module _ (words : List (List ℕ)) (shelf : ShelfCall) where
       length_writes (NoCommand none is) long whole = absurd (omega (arith, long, status_is found words_refused is))
       length_writes (OfFault cause) long whole = absurd (omega (arith, long, status_is found (read_fault cause.0.place) cause.2.2))
       length_writes (OfLength cause) long whole = (cause.0, cause.1, (cause.2.0, cause.2.1, moved (long_file cause.0.place) cause.2.2 whole))
-      length_writes (OfRefusal refusal none is) long whole = absurd (omega (arith, long, status_is found (model_refused refusal) is))
+      length_writes (OfRefusal none is) long whole = absurd (omega (arith, long, is))
       length_writes (OfContent content) long whole = of_content found.status content (inr (inr (inl long)))
 
       refusal_leaves : Cause words shelf (command_of words) found → found.status ≡ 5 → NoneAfter (command_of words) words shelf 1
       refusal_leaves (NoCommand none is) refused = absurd (omega (arith, refused, status_is found words_refused is))
       refusal_leaves (OfFault cause) refused = absurd (omega (arith, refused, status_is found (read_fault cause.0.place) cause.2.2))
       refusal_leaves (OfLength cause) refused = absurd (omega (arith, refused, status_is found (long_file cause.0.place) cause.2.2))
-      refusal_leaves (OfRefusal refusal none is) refused = none
+      refusal_leaves (OfRefusal none is) refused = none
       refusal_leaves (OfContent content) refused = of_content found.status content (inr (inr (inr refused)))
 
       -- the statuses of a call that ended with this outcome
@@ -116,7 +120,7 @@ module _ (words : List (List ℕ)) (shelf : ShelfCall) where
       other_status (NoCommand none is) failed = absurd (omega (arith, failed, status_is found words_refused is))
       other_status (OfFault cause) failed = absurd (omega (arith, failed, status_is found (read_fault cause.0.place) cause.2.2))
       other_status (OfLength cause) failed = absurd (omega (arith, failed, status_is found (long_file cause.0.place) cause.2.2))
-      other_status (OfRefusal refusal none is) failed = absurd (omega (arith, failed, status_is found (model_refused refusal) is))
+      other_status (OfRefusal none is) failed = absurd (omega (arith, failed, is))
       other_status (OfContent content) failed = absurd (omega (arith, content, failed))
 
       pub write_fault_cuts : Carried sink found status → status ≡ WRITE_FAULT → IsCutShort sink found status

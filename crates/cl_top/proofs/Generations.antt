@@ -1,26 +1,24 @@
--- The numbers that words may ask for, and what the commands on generated models come to.
-use Rattle.std.proofs.Common.{◌≡◌, ℕ, ◌≤◌, leb, List, [], ◌∷◌, Option, Some, None, subst, codes}
-use Rattle.std.specs.Prelude.{nat_lt, ◌&&◌, decimal}
+-- The numbers that words may ask for, and what the commands without a file come to.
+use Rattle.std.proofs.Common.{◌≡◌, ℕ, ◌≤◌, leb, List, [], ◌∷◌, Option, Some, None, sym, subst, codes, length}
+use Rattle.std.specs.Prelude.{nat_lt, ◌&&◌, ◌==◌, decimal}
+use Rattle.std.specs.List.{AllByRecursion}
 use Rattle.std.specs.Option.{option_map}
 use Rattle.std.specs.Str.{bytes_eq}
 use Rattle.std.proofs.lemmas.Bool.{cond_both, ltb-true, leb-true}
 use Rattle.cl_model.specs.declared.limits.TheConstants.{MOST_TASKS}
 use Rattle.cl_model.proofs.ListFacts.{both_pass}
 use Rattle.cl_gen.specs.declared.limits.TheConstants.{MOST_RUN_TICKS}
-use Rattle.cl_gen.specs.Generated.{generated}
-use Rattle.cl_report.specs.Survey.{IsSurveyOf}
 use Rattle.cl_text.specs.Decimal.{number_of}
-use Rattle.cl_write.specs.Texts.{IsTextOf}
 use Rattle.cl_top.specs.declared.command.Command.{Command}
 use Rattle.cl_top.specs.declared.command.Command.TheVariants as command
 use Rattle.cl_top.specs.declared.command.Draw.{Draw}
 use Rattle.cl_top.specs.declared.command.OfModel.{OfModel}
 use Rattle.cl_top.specs.declared.outcome.Outcome.{Outcome}
 use Rattle.cl_top.specs.Calls.{ShelfCall}
-use Rattle.cl_top.specs.Command.{MOST_SEED, number_upto, of_model, simulation, simulate_of, of_two_files, drawing, draw_of, command_of}
-use Rattle.cl_top.specs.Done.{IsDone}
-use Rattle.cl_top.specs.Files.{Unasked}
+use Rattle.cl_top.specs.Command.{MOST_SEED, number_upto, of_model, simulation, simulate_of, of_words, asks_help, asks_version, drawing, draw_of, command_of, File, files_of}
+use Rattle.cl_top.specs.Files.{Unasked, EachFile}
 use Rattle.cl_top.specs.OfModel.{of_verb}
+use Rattle.cl_top.specs.Outcome.{HasOutcome}
 use Rattle.cl_top.specs.Run.{ComesTo}
 use Rattle.cl_top.proofs.Comings.{comes_to}
 
@@ -32,6 +30,9 @@ AsksForFew command.Replay = Unit {0}
 AsksForFew command.Edit = Unit {0}
 AsksForFew (command.Generate seed tasks) = (1 ≤ tasks) × (tasks ≤ MOST_TASKS)
 AsksForFew (command.Survey seed tasks) = (1 ≤ tasks) × (tasks ≤ MOST_TASKS)
+AsksForFew command.Check = Unit {0}
+AsksForFew command.Help = Unit {0}
+AsksForFew command.Version = Unit {0}
 
 abbrev FewIf : Option Command → Type 0
 FewIf None = Unit {0}
@@ -63,11 +64,8 @@ few_of_simulate (a ∷ b ∷ c ∷ []) = number_small MOST_RUN_TICKS b (λ ticks
     (λ ticks few. few_of_simulation ticks (number_upto MOST_SEED c) few) (none_of_simulation (number_upto MOST_SEED c))
 few_of_simulate (a ∷ b ∷ c ∷ d ∷ words) = tt
 
-few_of_two_files : (asked : Command) → AsksForFew asked → (words : List (List ℕ)) → FewIf (of_two_files asked words)
-few_of_two_files asked few [] = tt
-few_of_two_files asked few (a ∷ []) = tt
-few_of_two_files asked few (a ∷ b ∷ []) = few
-few_of_two_files asked few (a ∷ b ∷ c ∷ words) = tt
+few_of_counted : (count : ℕ) (asked : Command) → AsksForFew asked → (words : List (List ℕ)) → FewIf (of_words count asked words)
+few_of_counted count asked few words = cond_both (length words == count) (Some asked) None FewIf (λ is. few) (λ other. tt)
 
 abbrev drawn_by : (seed tasks : ℕ) → Draw
 drawn_by seed tasks = record { seed = seed; tasks = tasks }
@@ -99,22 +97,25 @@ few_of_words : (words : List (List ℕ)) → FewIf (command_of words)
 few_of_words [] = tt
 few_of_words (verb ∷ words) =
     cond_both (bytes_eq verb (codes "simulate")) (simulate_of words) _ FewIf (λ _. few_of_simulate words) (λ _.
-    cond_both (bytes_eq verb (codes "replay")) (of_two_files command.Replay words) _ FewIf (λ _. few_of_two_files command.Replay tt words) (λ _.
-    cond_both (bytes_eq verb (codes "edit")) (of_two_files command.Edit words) _ FewIf (λ _. few_of_two_files command.Edit tt words) (λ _.
+    cond_both (bytes_eq verb (codes "replay")) (of_words 3 command.Replay (verb ∷ words)) _ FewIf (λ _. few_of_counted 3 command.Replay tt (verb ∷ words)) (λ _.
+    cond_both (bytes_eq verb (codes "edit")) (of_words 3 command.Edit (verb ∷ words)) _ FewIf (λ _. few_of_counted 3 command.Edit tt (verb ∷ words)) (λ _.
     cond_both (bytes_eq verb (codes "generate")) (option_map generate_drawn (draw_of words)) _ FewIf (λ _. few_of_draws generate_drawn (λ drawn some few. (some, few)) words) (λ _.
-    cond_both (bytes_eq verb (codes "survey")) (option_map survey_drawn (draw_of words)) (of_model (of_verb verb) words) FewIf
-    (λ _. few_of_draws survey_drawn (λ drawn some few. (some, few)) words) (λ _. few_of_model (of_verb verb) words)))))
+    cond_both (bytes_eq verb (codes "survey")) (option_map survey_drawn (draw_of words)) _ FewIf (λ _. few_of_draws survey_drawn (λ drawn some few. (some, few)) words) (λ _.
+    cond_both (bytes_eq verb (codes "check")) (of_words 2 command.Check (verb ∷ words)) _ FewIf (λ _. few_of_counted 2 command.Check tt (verb ∷ words)) (λ _.
+    cond_both (asks_help verb) (of_words 1 command.Help (verb ∷ words)) _ FewIf (λ _. few_of_counted 1 command.Help tt (verb ∷ words)) (λ _.
+    cond_both (asks_version verb) (of_words 1 command.Version (verb ∷ words)) (of_model (of_verb verb) words) FewIf (λ _. few_of_counted 1 command.Version tt (verb ∷ words))
+    (λ _. few_of_model (of_verb verb) words))))))))
 
 pub asks_for_few : (words : List (List ℕ)) (asked : Command) → command_of words ≡ Some asked → AsksForFew asked
 asks_for_few words asked is = subst FewIf is (few_of_words words)
 
--- ---- what they come to, without a file
+-- ---- what is come to without a file
 
-module _ (words : List (List ℕ)) (shelf : ShelfCall) (seed tasks : ℕ) (found : Outcome) where
-  pub generate_comes : command_of words ≡ Some (command.Generate seed tasks) → IsDone (IsTextOf (generated seed tasks)) found → ComesTo words shelf found
-  generate_comes is_generate is = comes_to words shelf (Some (command.Generate seed tasks)) found is_generate
-      (record { gave = λ _. Unasked; files = tt; waits = λ _. tt; follows = is })
-
-  pub survey_comes : command_of words ≡ Some (command.Survey seed tasks) → IsDone (IsSurveyOf (generated seed tasks)) found → ComesTo words shelf found
-  survey_comes is_survey is = comes_to words shelf (Some (command.Survey seed tasks)) found is_survey
-      (record { gave = λ _. Unasked; files = tt; waits = λ _. tt; follows = is })
+module _ (words : List (List ℕ)) (shelf : ShelfCall) (asked : Command) (found : Outcome) where
+  -- words of a command that has no file come to its outcome
+  pub fileless_comes : files_of (Some asked) ≡ [] → command_of words ≡ Some asked → HasOutcome (Some asked) (λ _. Unasked) found → ComesTo words shelf found
+  fileless_comes none is_asked follows = comes_to words shelf (Some asked) found is_asked
+      (record { gave = λ _. Unasked; files = each_none _; waits = λ _. each_none _; follows = follows })
+    where
+      each_none : (P : File → Type 0) → EachFile (Some asked) P
+      each_none P = subst (λ files. AllByRecursion P files) (sym none) tt

@@ -4,7 +4,10 @@ pub mod Comings
 pub mod Endings
 pub mod Tellings
 pub mod OneOutcome
+pub mod FileAlone
 pub mod OneFile
+pub mod Checks
+pub mod CheckedOnce
 pub mod ModelAnswers
 pub mod SafeReport
 pub mod SafeTexts

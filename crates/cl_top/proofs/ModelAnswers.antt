@@ -1,12 +1,16 @@
 -- The commands that name a model file and nothing else: each has an outcome for a valid model, and but one.
-use Rattle.std.proofs.Common.{◌≡◌, ℕ, ◌≤◌, inl, inr, List, Option, Some, None, Result, Ok, refl, sym, ◌∙◌, subst, arith}
+use Rattle.std.proofs.Common.{◌≡◌, ℕ, ◌≤◌, inl, inr, Bool, true, false, List, Option, Some, None, Result, Ok, refl, sym, ap, ◌∙◌, subst, arith}
+use Rattle.std.specs.Prelude.{if◌then◌else◌}
 use Rattle.cl_model.specs.declared.model.SystemModel.{SystemModel}
 use Rattle.cl_model.specs.declared.refusal.Refusal.{Refusal}
 use Rattle.cl_model.specs.Reading.{model_of}
 use Rattle.cl_model.specs.Validity.{IsValid}
 use Rattle.cl_model.proofs.ReadModels.{read_in_range, read_named}
 use Rattle.cl_analyse.proofs.SomeFindings.{some_findings}
+use Rattle.cl_tight.specs.TightFindings.{tight_findings_of, is_verified}
+use Rattle.cl_explain.specs.Explanation.{explanation}
 use Rattle.cl_report.specs.Report.{report_text, IsReportOf}
+use Rattle.cl_report.specs.Tight.{tight_text, verify_text}
 use Rattle.cl_report.proofs.OneReport.{one_report}
 use Rattle.cl_write.proofs.SomeTexts.{some_text}
 use Rattle.cl_designs.specs.Cuts.{IsCutTextOf}
@@ -14,11 +18,11 @@ use Rattle.cl_designs.specs.Orders.{IsOrderTextOf}
 use Rattle.cl_designs.specs.Headroom.{IsHeadroomTextOf}
 use Rattle.cl_designs.proofs.OneText.{some_cut_text, some_order_text, some_headroom_text, one_cut_text, one_order_text, one_headroom_text}
 use Rattle.cl_top.specs.declared.command.OfModel.{OfModel}
-use Rattle.cl_top.specs.declared.command.OfModel.TheVariants.{Analyse, Migrate, Cut, Order, Headroom}
+use Rattle.cl_top.specs.declared.command.OfModel.TheVariants.{Analyse, Migrate, Cut, Order, Headroom, Tighten, Verify, Explain}
 use Rattle.cl_top.specs.declared.outcome.Outcome.{Outcome}
-use Rattle.cl_top.specs.declared.status.TheConstants.{DONE}
+use Rattle.cl_top.specs.declared.status.TheConstants.{DONE, NOT_VERIFIED}
 use Rattle.cl_top.specs.Done.{IsDone}
-use Rattle.cl_top.specs.OfModel.{IsAnswer, AnswersTheSame, most_steps}
+use Rattle.cl_top.specs.OfModel.{verify_status, IsAnswer, AnswersTheSame, most_steps}
 use Rattle.cl_top.specs.Steps.{AreAtMost}
 use Rattle.cl_top.proofs.Comings.{IsOfContent}
 
@@ -92,12 +96,58 @@ of_headroom = record {
   content = λ model found is. inl is.status_is;
 }
 
+of_tighten : HasAnswers Tighten
+of_tighten = record {
+  some = λ bytes model means valid. done_some (λ text. text ≡ tight_text model) (tight_text model) refl;
+  same = λ model valid one other first second. done_once (λ text. text ≡ tight_text model) (λ text again is likewise. is ∙ sym likewise) one other first second;
+  equal = λ one other is. is;
+  content = λ model found is. inl is.status_is;
+}
+
+of_explain : HasAnswers Explain
+of_explain = record {
+  some = λ bytes model means valid. done_some (λ text. text ≡ explanation model) (explanation model) refl;
+  same = λ model valid one other first second. done_once (λ text. text ≡ explanation model) (λ text again is likewise. is ∙ sym likewise) one other first second;
+  equal = λ one other is. is;
+  content = λ model found is. inl is.status_is;
+}
+
+-- the status of `verify` is of content
+status_by : (verified : Bool) → IsOfContent (if verified then DONE else NOT_VERIFIED)
+status_by true = inl refl
+status_by false = inr (inr (omega arith))
+
+-- what it is, where the model is verified and where it isn't
+pub verified_ends : (model : SystemModel) → is_verified (tight_findings_of model) ≡ true → DONE ≡ verify_status model
+unfolding verify_status
+verified_ends model is = ap (λ (verified : Bool). if verified then DONE else NOT_VERIFIED) (sym is)
+
+pub unverified_ends : (model : SystemModel) → is_verified (tight_findings_of model) ≡ false → NOT_VERIFIED ≡ verify_status model
+unfolding verify_status
+unverified_ends model is = ap (λ (verified : Bool). if verified then DONE else NOT_VERIFIED) (sym is)
+
+verify_content : (model : SystemModel) → IsOfContent (verify_status model)
+unfolding verify_status
+verify_content model = status_by (is_verified (tight_findings_of model))
+
+of_verify : HasAnswers Verify
+of_verify = record {
+  some = λ bytes model means valid. (record { status = verify_status model; text = verify_text model }, record { status_is = refl; text_is = refl });
+  same = λ model valid one other first second.
+      same_parts one other (first.status_is ∙ sym second.status_is) (first.text_is ∙ sym second.text_is);
+  equal = λ one other is. is;
+  content = λ model found is. subst IsOfContent (sym is.status_is) (verify_content model);
+}
+
 pub has_answers : (asked : OfModel) → HasAnswers asked
 has_answers Analyse = of_analyse
 has_answers Migrate = of_migrate
 has_answers Cut = of_cut
 has_answers Order = of_order
 has_answers Headroom = of_headroom
+has_answers Tighten = of_tighten
+has_answers Verify = of_verify
+has_answers Explain = of_explain
 
 -- ---- steps
 

@@ -1,7 +1,5 @@
 -- A command of a model file alone.
-use Rattle.std.proofs.Common.{◌≡◌, ◌≢◌, ℕ, ◌<◌, inl, inr, List, [], ◌∷◌, Option, Some, Ok, refl, sym, ap, subst, arith}
-use Rattle.std.specs.Prelude.{Contains}
-use Rattle.std.specs.List.{AllByRecursion}
+use Rattle.std.proofs.Common.{◌≡◌, ℕ, ◌<◌, inl, inr, List, [], ◌∷◌, Option, Some, Ok, refl, ap, subst, arith}
 use Rattle.std.proofs.lemmas.Bool.{cases_lt}
 use Rattle.cl_io.specs.Shelf.{Content}
 use Rattle.cl_gen.specs.declared.limits.TheConstants.{MOST_EXECUTIONS}
@@ -18,7 +16,7 @@ use Rattle.cl_top.specs.declared.outcome.Outcome.{Outcome}
 use Rattle.cl_top.specs.Calls.{ShelfCall, FetchesAlone}
 use Rattle.cl_top.specs.Command.{File, model_file, command_of, files_of, word}
 use Rattle.cl_top.specs.Commands.Simulate.{IsSimulated}
-use Rattle.cl_top.specs.Files.{Fetched, EachFile, TellsFiles}
+use Rattle.cl_top.specs.Files.{Fetched}
 use Rattle.cl_top.specs.Inner.Leaving.{LeavesRest}
 use Rattle.cl_top.specs.Inner.Opened.{IsOpenedAs, HasOpened}
 use Rattle.cl_top.specs.OfModel.{IsAnswer}
@@ -26,6 +24,7 @@ use Rattle.cl_top.specs.Outcome.{ReadsTo, OpensModel, HasOutcome}
 use Rattle.cl_top.specs.Run.{ComesAs, ComesTo}
 use Rattle.cl_top.specs.Steps.{AreFewSteps}
 use Rattle.cl_top.proofs.Comings.{Cause, OfContent, IsOfContent, file_cause, read_cause, comes_to}
+use Rattle.cl_top.proofs.FileAlone.{has_model, of_each, each_of, none_after, file_leaves}
 use Rattle.cl_top.proofs.ModelAnswers.{has_answers}
 use Rattle.cl_top.proofs.Openings.{opened_valid, opened_stopped, opened_means}
 
@@ -37,31 +36,21 @@ pub record IsOfModel (command : Command) (next : SystemModel → Outcome → Typ
   pub content : (model : SystemModel) (found : Outcome) → next model found → IsOfContent found.status
 
 module _ (command : Command) (next : SystemModel → Outcome → Type 0) (of : IsOfModel command next) where
-  pub has_model : Contains (files_of (Some command)) (model_file 1)
-  has_model = subst (λ files. Contains files (model_file 1)) (sym of.files) (0, omega arith, refl)
-
-  -- what holds of each file holds of the model, and the other way round
-  pub of_each : (P : File → Type 0) → EachFile (Some command) P → P (model_file 1)
-  of_each P each = (subst (λ files. AllByRecursion P files) of.files each).0
-
-  pub each_of : (P : File → Type 0) → P (model_file 1) → EachFile (Some command) P
-  each_of P one = subst (λ files. AllByRecursion P files) (sym of.files) (one, tt)
-
   module _ (words : List (List ℕ)) (shelf : ShelfCall) where
     -- its causes
     pub model_cause : (found : Outcome) → ComesAs (Some command) words shelf found → Cause words shelf (Some command) found
     model_cause found comes =
-        file_cause words shelf (Some command) found (model_file 1) has_model (λ bytes. ReadsTo (model_of bytes) next)
+        file_cause words shelf (Some command) found (model_file 1) (has_model command of.files) (λ bytes. ReadsTo (model_of bytes) next)
         (λ bytes last. read_cause words shelf (Some command) found next (λ model is. OfContent (of.content model found is)) bytes last)
-        comes.gave comes.waits (of_each _ comes.files) (of.opens comes.gave found comes.follows)
+        comes.gave comes.waits (of_each command of.files _ comes.files) (of.opens comes.gave found comes.follows)
 
     module _ (is_command : command_of words ≡ Some command) where
       module _ (gives : Opened) (has : HasOpened shelf (word words 1) 1 gives) (found : Outcome) where
         comes_of : OpensModel (model_file 1) (λ _. has.fetch) next found → ComesTo words shelf found
         comes_of opens = comes_to words shelf (Some command) found is_command (record {
           gave = λ _. has.fetch;
-          files = each_of _ has.may;
-          waits = λ _. each_of _ (λ less. absurd (omega (arith, less)));
+          files = each_of command of.files _ has.may;
+          waits = λ _. none_after command of.files words shelf;
           follows = of.has (λ _. has.fetch) found opens;
         })
 
@@ -75,19 +64,10 @@ module _ (command : Command) (next : SystemModel → Outcome → Type 0) (of : I
       -- ---- what it leaves
 
       module _ (alone : FetchesAlone shelf (word words 1)) (steps steps_after : ℕ) where
-        abbrev IsBeside : Option Command → (name : List ℕ) → Type 0
-        IsBeside other name = EachFile other (λ file. name ≢ word words file.place)
-
         -- where the steps are few of a file that is told
         pub model_leaves : ((contents : ℕ → List ℕ) → shelf.held (word words 1) ≡ Content (contents 1) → AreFewSteps (Some command) contents steps steps_after)
             → LeavesRest words shelf steps steps_after
-        model_leaves few = record {
-          same = alone.same;
-          other_faults = λ name beside. alone.faults.others name (of_each _ (subst (λ other. IsBeside other name) is_command beside));
-          other_longest = λ name beside. alone.longest.others name (of_each _ (subst (λ other. IsBeside other name) is_command beside));
-          few_steps = λ contents tells. subst (λ other. AreFewSteps other contents steps steps_after) (sym is_command)
-              (few contents (of_each _ (subst (λ other. TellsFiles other words shelf.held contents) is_command tells)));
-        }
+        model_leaves few = file_leaves command of.files words shelf is_command alone steps steps_after few
 
         -- where they are few of a valid model
         pub valid_leaves : (gives : Opened) → HasOpened shelf (word words 1) 1 gives → (model : SystemModel) → gives ≡ opened.Valid model

@@ -32,12 +32,14 @@ use Rattle.cl_top.specs.declared.outcome.Outcome.{Outcome}
 use Rattle.cl_top.specs.declared.status.TheConstants.{DONE}
 use Rattle.cl_top.specs.Command.{File, model_file, command_of}
 use Rattle.cl_top.specs.Commands.Edit.{IsOfEdits}
+use Rattle.cl_top.specs.Commands.Help.{help_text, version_text}
 use Rattle.cl_top.specs.Commands.Replay.{trace_refused, trace_illegal, IsOfRun, IsOfTrace}
 use Rattle.cl_top.specs.Commands.Simulate.{IsSimulated}
 use Rattle.cl_top.specs.Done.{IsDone}
 use Rattle.cl_top.specs.Files.{Fetched, Unasked, Bytes, Fault, TooLong, EachFile, WasFetched}
 use Rattle.cl_top.specs.OfModel.{IsAnswer, AnswersTheSame}
 use Rattle.cl_top.specs.Outcome.{words_refused, read_fault, long_file, model_refused, ValidatesTo, ReadsTo, OpensTo, HasOutcome, SaysTheSame}
+use Rattle.cl_top.proofs.CheckedOnce.{check_some, check_same}
 use Rattle.cl_top.proofs.EditsOnce.{some_edits, one_edited}
 use Rattle.cl_top.proofs.Generations.{asks_for_few}
 use Rattle.cl_top.proofs.LegalOrBroken.{IsBroken, legal_or_broken}
@@ -131,6 +133,9 @@ has_outcome words (Some command.Replay) is gave fetched = two_some command.Repla
 has_outcome words (Some command.Edit) is gave fetched = two_some command.Edit FILE_LIMIT IsOfEdits of_edit some_edits gave fetched
 has_outcome words (Some (command.Generate seed tasks)) is gave fetched = generated_some seed tasks (asks_for_few words (command.Generate seed tasks) is).1
 has_outcome words (Some (command.Survey seed tasks)) is gave fetched = surveyed_some seed tasks (asks_for_few words (command.Survey seed tasks) is).1
+has_outcome words (Some command.Check) is gave fetched = check_some (gave (model_file 1)) fetched.0
+has_outcome words (Some command.Help) is gave fetched = done_some (λ text. text ≡ help_text) help_text refl
+has_outcome words (Some command.Version) is gave fetched = done_some (λ text. text ≡ version_text) version_text refl
 
 -- words whose files were all fetched have an outcome
 pub some_outcome : (words : List (List ℕ)) (gave : File → Fetched) → EachFile (command_of words) (λ file. WasFetched (gave file)) → SomeOutcome (HasOutcome (command_of words) gave)
@@ -191,6 +196,9 @@ says_the_same (Some command.Edit) gave one other h k = two_same command.Edit FIL
 says_the_same (Some (command.Generate seed tasks)) gave one other h k = inr (generated seed tasks, h, k)
 says_the_same (Some (command.Survey seed tasks)) gave one other h k =
     done_once (IsSurveyOf (generated seed tasks)) (one_survey (generated seed tasks)) one other h k
+says_the_same (Some command.Check) gave one other h k = check_same one other (gave (model_file 1)) h k
+says_the_same (Some command.Help) gave one other h k = done_once (λ text. text ≡ help_text) (λ text again is likewise. is ∙ sym likewise) one other h k
+says_the_same (Some command.Version) gave one other h k = done_once (λ text. text ≡ version_text) (λ text again is likewise. is ∙ sym likewise) one other h k
 
 -- two outcomes of the same words say the same
 pub same_outcome : (words : List (List ℕ)) (gave : File → Fetched) (one other : Outcome) → HasOutcome (command_of words) gave one → HasOutcome (command_of words) gave other → SaysTheSame (command_of words) one other

@@ -11,6 +11,8 @@ use Rattle.cl_model.specs.Reading.{model_of}
 use Rattle.cl_model.specs.declared.refusal.Code.TheVariants.{E1}
 use Rattle.cl_model.specs.Place.{top}
 use Rattle.cl_model.specs.Validity.{IsValid}
+use Rattle.cl_tight.specs.TightFindings.{tight_findings_of, is_verified}
+use Rattle.cl_tight.proofs.TightLaws.{tight_findings_safe, tight_findings_as_tight, verified_in_time}
 use Rattle.cl_cut.proofs.OneCutAnswer.{all_safe, all_no_worse}
 use Rattle.cl_edit.specs.declared.edit.Edit.{Edit}
 use Rattle.cl_edit.specs.declared.edit.Edit.TheVariants.{Report}
@@ -20,17 +22,17 @@ use Rattle.cl_replay.proofs.SafeMargins.{with_margins}
 use Rattle.cl_top.specs.declared.command.Command.{Command}
 use Rattle.cl_top.specs.declared.command.Command.TheVariants as command
 use Rattle.cl_top.specs.declared.command.OfModel.{OfModel}
-use Rattle.cl_top.specs.declared.command.OfModel.TheVariants.{Analyse, Cut}
+use Rattle.cl_top.specs.declared.command.OfModel.TheVariants.{Analyse, Cut, Tighten, Verify}
 use Rattle.cl_top.specs.declared.opening.TheConstants.{FILE_LIMIT, TRACE_LIMIT}
 use Rattle.cl_top.specs.declared.outcome.Outcome.{Outcome}
-use Rattle.cl_top.specs.declared.status.TheConstants.{DONE}
+use Rattle.cl_top.specs.declared.status.TheConstants.{DONE, NOT_VERIFIED}
 use Rattle.cl_top.specs.Calls.{ShelfCall, SinkCall}
 use Rattle.cl_top.specs.Command.{File, model_file, command_of}
 use Rattle.cl_top.specs.Commands.Edit.{edits_refused, behind, IsWrittenBy, AreAccepted, IsOfEdits}
 use Rattle.cl_top.specs.Commands.Replay.{trace_refused, trace_illegal, IsOfTrace}
 use Rattle.cl_top.specs.Files.{Fetched, Unasked, Bytes, Fault, TooLong, TellsFiles, told_fetch}
-use Rattle.cl_top.specs.Headline.{IsSafePiece, IsSafeReplay, AreSafeReports, AreSafeCuts, IsSafeText, HasPrintedSafe}
-use Rattle.cl_top.specs.OfModel.{IsAnswer}
+use Rattle.cl_top.specs.Headline.{IsSafePiece, IsSafeReplay, AreSafeReports, AreSafeCuts, IsSafeTightReport, ProvesInTime, IsSafeText, HasPrintedSafe}
+use Rattle.cl_top.specs.OfModel.{verify_status, IsAnswer}
 use Rattle.cl_top.specs.Outcome.{read_fault, long_file, model_refused, OpensTo, OpensModel, HasOutcome}
 use Rattle.cl_top.specs.Run.{ComesTo}
 use Rattle.cl_top.proofs.EditsOnce.{listed_in_range}
@@ -78,6 +80,15 @@ opened_text OfText found done Fault opens = absurd (omega (arith, done, status_o
 opened_text OfText found done TooLong opens = absurd (omega (arith, done, status_of found (long_file 2) opens))
 opened_text OfText found done (Bytes text) opens = (text, refl, opens)
 
+-- `verify` ends with status 0 only where the model is verified
+done_by : (verified : Bool) → (if verified then DONE else NOT_VERIFIED) ≡ DONE → verified ≡ true
+done_by true is = refl
+done_by false is = absurd (omega (arith, is))
+
+verified_at_done : (model : SystemModel) → verify_status model ≡ DONE → is_verified (tight_findings_of model) ≡ true
+unfolding verify_status
+verified_at_done model is = done_by (is_verified (tight_findings_of model)) is
+
 -- the model of the first file, where the command did what it says
 pub record HasDone (next : SystemModel → Outcome → Type 0) (bytes : List ℕ) (found : Outcome) : Type 0 where
   pub model : SystemModel
@@ -110,6 +121,24 @@ module _ (contents : ℕ → List ℕ) (found : Outcome) (done : found.status �
     cuts = has.comes_next.text_is;
     safe = all_safe has.model has.valid has.comes_next.text_is.answers has.comes_next.text_is.are;
     no_worse = all_no_worse has.model has.valid has.comes_next.text_is.answers has.comes_next.text_is.are;
+  }
+
+  safe_tight : HasDone (IsAnswer Tighten) (contents 1) found → IsSafeTightReport (contents 1) found.text
+  safe_tight has = record {
+    model = has.model;
+    means = has.means;
+    valid = has.valid;
+    printed = has.comes_next.text_is;
+    safe = tight_findings_safe has.model has.valid;
+    as_tight = λ report is. tight_findings_as_tight has.model has.valid report is;
+  }
+
+  proves_in_time : HasDone (IsAnswer Verify) (contents 1) found → ProvesInTime (contents 1)
+  proves_in_time has = record {
+    model = has.model;
+    means = has.means;
+    valid = has.valid;
+    in_time = verified_in_time has.model has.valid (verified_at_done has.model (sym has.comes_next.status_is ∙ done));
   }
 
   safe_replay : HasDone (OfSecond TRACE_LIMIT IsOfTrace (told_fetch contents)) (contents 1) found → IsSafeReplay (contents 1) (contents 2) found.text
@@ -168,6 +197,8 @@ module _ (contents : ℕ → List ℕ) (found : Outcome) (done : found.status �
   safe_text (command.OfModel Analyse) comes = let has = opened_model (IsAnswer Analyse) comes in
       record { model = has.model; means = has.means; report = safe_report_of has.model found.text has.valid has.comes_next.text_is }
   safe_text (command.OfModel Cut) comes = safe_cuts (opened_model (IsAnswer Cut) comes)
+  safe_text (command.OfModel Tighten) comes = safe_tight (opened_model (IsAnswer Tighten) comes)
+  safe_text (command.OfModel Verify) comes = proves_in_time (opened_model (IsAnswer Verify) comes)
   safe_text command.Replay comes = safe_replay (opened_model (OfSecond TRACE_LIMIT IsOfTrace (told_fetch contents)) comes)
   safe_text command.Edit comes = safe_reports (opened_model (OfSecond FILE_LIMIT IsOfEdits (told_fetch contents)) comes)
   safe_text asked comes = tt

@@ -1,5 +1,5 @@
 -- What a call comes to where the shelf tells the files.
-use Rattle.std.proofs.Common.{◌≡◌, ◌⊎◌, ℕ, ◌+◌, ◌≤◌, inl, inr, List, Option, Some, None, Result, Ok, Err, sym, ap, ◌∙◌, subst, arith, length}
+use Rattle.std.proofs.Common.{◌≡◌, ◌⊎◌, ℕ, ◌+◌, ◌≤◌, inl, inr, List, Option, Some, None, Result, Ok, Err, refl, sym, ap, ◌∙◌, subst, arith, length}
 use Rattle.std.specs.Prelude.{Contains, nat_lt, if◌then◌else◌}
 use Rattle.std.specs.List.{AllByRecursion}
 use Rattle.std.proofs.lemmas.Bool.Decides.{nat_tests}
@@ -18,6 +18,7 @@ use Rattle.cl_top.specs.declared.outcome.Outcome.{Outcome}
 use Rattle.cl_top.specs.declared.status.TheConstants.{DONE}
 use Rattle.cl_top.specs.Calls.{ShelfCall, SinkCall}
 use Rattle.cl_top.specs.Command.{File, model_file, command_of, files_of, word}
+use Rattle.cl_top.specs.Commands.Check.{IsChecked}
 use Rattle.cl_top.specs.Commands.Edit.{IsOfEdits}
 use Rattle.cl_top.specs.Commands.Replay.{IsOfTrace}
 use Rattle.cl_top.specs.Commands.Simulate.{IsSimulated}
@@ -26,9 +27,10 @@ use Rattle.cl_top.specs.OfModel.{IsAnswer}
 use Rattle.cl_top.specs.Outcome.{ValidatesTo, ReadsTo, OpensTo, OpensFile, HasOutcome}
 use Rattle.cl_top.specs.Run.{ComesAs, ComesTo, ComesToTold, IsFileFault, IsWhole, IsCarriedOut}
 use Rattle.cl_top.proofs.Endings.{Carried, counted_rose}
+use Rattle.cl_top.proofs.FileAlone.{has_model, of_each as of_model}
 use Rattle.cl_top.proofs.OfEdit.{of_edit}
 use Rattle.cl_top.proofs.OfReplay.{of_replay}
-use Rattle.cl_top.proofs.OneFile.{IsOfModel, has_model, of_each as of_model, of_answer, of_simulate}
+use Rattle.cl_top.proofs.OneFile.{IsOfModel, of_answer, of_simulate}
 use Rattle.cl_top.proofs.TwoFiles.{IsOfTwo, OfSecond, second_file, has_first, has_second, of_each as of_both}
 
 pub told_bytes : (limit : ℕ) (content : List ℕ) → length content ≤ limit → (if nat_lt limit (length content) then TooLong else Bytes content) ≡ Bytes content
@@ -84,8 +86,8 @@ module _ (words : List (List ℕ)) (shelf : ShelfCall) (contents : ℕ → List 
       → TellsFiles (Some asked) words shelf.held contents → ComesAs (Some asked) words shelf found
       → ComesToTold (Some asked) words shelf contents found
   told_of_model asked next of found tells comes =
-      let opens = opens_told words shelf contents (Some asked) found (model_file 1) (has_model asked next of) (λ bytes. ReadsTo (model_of bytes) next) (λ bytes. ReadsTo (model_of bytes) next)
-      (λ bytes h. inl h) comes.gave (of_model asked next of _ comes.files) (of_model asked next of _ tells) (of.opens comes.gave found comes.follows) in
+      let opens = opens_told words shelf contents (Some asked) found (model_file 1) (has_model asked of.files) (λ bytes. ReadsTo (model_of bytes) next) (λ bytes. ReadsTo (model_of bytes) next)
+      (λ bytes h. inl h) comes.gave (of_model asked of.files _ comes.files) (of_model asked of.files _ tells) (of.opens comes.gave found comes.follows) in
       elim opens [
         | inl told ↦ inl (of.has (told_fetch contents) found told)
         | inr faulted ↦ inr faulted
@@ -120,6 +122,10 @@ module _ (words : List (List ℕ)) (shelf : ShelfCall) (contents : ℕ → List 
   told_comes (Some command.Edit) found tells comes = told_of_two command.Edit FILE_LIMIT IsOfEdits of_edit found tells comes
   told_comes (Some (command.Generate seed tasks)) found tells comes = inl comes.follows
   told_comes (Some (command.Survey seed tasks)) found tells comes = inl comes.follows
+  told_comes (Some command.Check) found tells comes =
+      opens_told words shelf contents (Some command.Check) found (model_file 1) (has_model command.Check refl) IsChecked IsChecked (λ bytes h. inl h) comes.gave comes.files.0 tells.0 comes.follows
+  told_comes (Some command.Help) found tells comes = inl comes.follows
+  told_comes (Some command.Version) found tells comes = inl comes.follows
 
   module _ {K : Type 0} (sink : SinkCall K) (found : Outcome) (status : ℕ) (comes : ComesTo words shelf found) (carried : Carried sink found status)
       (tells : TellsFiles (command_of words) words shelf.held contents) where

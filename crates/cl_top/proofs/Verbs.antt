@@ -2,8 +2,9 @@
 use Rattle.std.proofs.Common.{◌≡◌, ℕ, Bool, true, false, List, [], ◌∷◌, drop, Option, Some, None, cond, codes, refl, sym, ap, ◌∙◌}
 use Rattle.std.specs.List.{slice_get}
 use Rattle.std.specs.Str.{bytes_eq}
+use Rattle.std.proofs.lemmas.Bool.{or_from}
 use Rattle.std.proofs.lemmas.Slice.Eq.{bytes_eq-Decides}
-use Rattle.cl_top.specs.Command.{of_model, command_of}
+use Rattle.cl_top.specs.Command.{of_model, asks_help, asks_version, command_of}
 use Rattle.cl_top.specs.OfModel.{of_verb}
 
 fails : (xs ys : List ℕ) → (xs ≡ ys → ⊥) → bytes_eq xs ys ≡ false
@@ -21,13 +22,30 @@ drop_first : (word : List ℕ) (words : List (List ℕ)) → drop 1 (word ∷ wo
 drop_first word [] = refl
 drop_first word (other ∷ words) = refl
 
-pub other_verb : (words : List (List ℕ)) (verb : List ℕ) → Some verb ≡ slice_get words 0 → (verb ≡ codes "simulate" → ⊥) → (verb ≡ codes "replay" → ⊥)
-    → (verb ≡ codes "edit" → ⊥) → (verb ≡ codes "generate" → ⊥) → (verb ≡ codes "survey" → ⊥) → of_model (of_verb verb) (drop 1 words) ≡ command_of words
-other_verb [] verb is simulate replay edit generate survey = absurd cc
-other_verb (first ∷ words) verb is simulate replay edit generate survey =
+-- a verb is none of those that have words of their own
+pub record IsOther (verb : List ℕ) : Type 0 where
+  pub simulate : verb ≡ codes "simulate" → ⊥
+  pub replay : verb ≡ codes "replay" → ⊥
+  pub edit : verb ≡ codes "edit" → ⊥
+  pub generate : verb ≡ codes "generate" → ⊥
+  pub survey : verb ≡ codes "survey" → ⊥
+  pub check : verb ≡ codes "check" → ⊥
+  pub help : verb ≡ codes "help" → ⊥
+  pub long_help : verb ≡ codes "--help" → ⊥
+  pub short_help : verb ≡ codes "-h" → ⊥
+  pub version : verb ≡ codes "version" → ⊥
+  pub long_version : verb ≡ codes "--version" → ⊥
+
+pub other_verb : (words : List (List ℕ)) (verb : List ℕ) → Some verb ≡ slice_get words 0 → IsOther verb → of_model (of_verb verb) (drop 1 words) ≡ command_of words
+other_verb [] verb is other = absurd cc
+other_verb (first ∷ words) verb is other =
     let same : verb ≡ first = cc in
     let none : (text : List ℕ) → (verb ≡ text → ⊥) → bytes_eq first text ≡ false = λ text differ. fails first text (λ equal. differ (same ∙ equal)) in
+    let no_help : asks_help first ≡ false = or_from _ _ (or_from _ _ (none (codes "help") other.help) (none (codes "--help") other.long_help)) (none (codes "-h") other.short_help) in
+    let no_version : asks_version first ≡ false = or_from _ _ (none (codes "version") other.version) (none (codes "--version") other.long_version) in
     ap (λ v. of_model (of_verb v) (drop 1 (first ∷ words))) same
     ∙ ap (of_model (of_verb first)) (drop_first first words)
-    ∙ sym (cond_else _ _ _ (none (codes "simulate") simulate) ∙ cond_else _ _ _ (none (codes "replay") replay) ∙ cond_else _ _ _ (none (codes "edit") edit)
-    ∙ cond_else _ _ _ (none (codes "generate") generate) ∙ cond_else _ _ _ (none (codes "survey") survey))
+    ∙ sym (cond_else _ _ _ (none (codes "simulate") other.simulate) ∙ cond_else _ _ _ (none (codes "replay") other.replay)
+    ∙ cond_else _ _ _ (none (codes "edit") other.edit) ∙ cond_else _ _ _ (none (codes "generate") other.generate)
+    ∙ cond_else _ _ _ (none (codes "survey") other.survey) ∙ cond_else _ _ _ (none (codes "check") other.check)
+    ∙ cond_else _ _ _ no_help ∙ cond_else _ _ _ no_version)

@@ -1,5 +1,5 @@
 -- The shapes of words that are commands, and the files of each.
-use Rattle.std.specs.Prelude.{ℕ, List, [], ◌∷◌, Option, Some, None, ◌&&◌, nat_lt, nat_le, codes, decimal, if◌then◌else◌, slice_index_or}
+use Rattle.std.specs.Prelude.{ℕ, Bool, List, [], ◌∷◌, length, Option, Some, None, ◌&&◌, ◌||◌, ◌==◌, nat_lt, nat_le, codes, decimal, if◌then◌else◌, slice_index_or}
 use Rattle.std.specs.Option.{option_map}
 use Rattle.std.specs.Str.{bytes_eq}
 use Rattle.cl_text.specs.Decimal.{number_of}
@@ -31,10 +31,16 @@ abbrev pub simulate_of : List (List ℕ) → Option Command
 simulate_of (model ∷ ticks ∷ seed ∷ []) = simulation (number_upto MOST_RUN_TICKS ticks) (number_upto MOST_SEED seed)
 simulate_of _ = None
 
--- a model file and a second one
-abbrev pub of_two_files : Command → List (List ℕ) → Option Command
-of_two_files asked (model ∷ second ∷ []) = Some asked
-of_two_files asked _ = None
+-- so many words, the verb among them
+abbrev pub of_words : (count : ℕ) → Command → List (List ℕ) → Option Command
+of_words count asked words = if length words == count then Some asked else None
+
+-- the words that ask for help, and for the version
+abbrev pub asks_help : List ℕ → Bool
+asks_help verb = bytes_eq verb (codes "help") || bytes_eq verb (codes "--help") || bytes_eq verb (codes "-h")
+
+abbrev pub asks_version : List ℕ → Bool
+asks_version verb = bytes_eq verb (codes "version") || bytes_eq verb (codes "--version")
 
 -- a model that is to be generated, which has a task or more
 abbrev pub drawing : (seed tasks : Option ℕ) → Option Draw
@@ -55,10 +61,13 @@ abbrev pub command_of : List (List ℕ) → Option Command
 command_of [] = None
 command_of (verb ∷ words) =
     if bytes_eq verb (codes "simulate") then simulate_of words
-    else if bytes_eq verb (codes "replay") then of_two_files command.Replay words
-    else if bytes_eq verb (codes "edit") then of_two_files command.Edit words
+    else if bytes_eq verb (codes "replay") then of_words 3 command.Replay (verb ∷ words)
+    else if bytes_eq verb (codes "edit") then of_words 3 command.Edit (verb ∷ words)
     else if bytes_eq verb (codes "generate") then option_map (λ drawn. command.Generate drawn.seed drawn.tasks) (draw_of words)
     else if bytes_eq verb (codes "survey") then option_map (λ drawn. command.Survey drawn.seed drawn.tasks) (draw_of words)
+    else if bytes_eq verb (codes "check") then of_words 2 command.Check (verb ∷ words)
+    else if asks_help verb then of_words 1 command.Help (verb ∷ words)
+    else if asks_version verb then of_words 1 command.Version (verb ∷ words)
     else of_model (of_verb verb) words
 
 -- ---- the files of each
@@ -87,6 +96,9 @@ files_of (Some command.Replay) = model_file 1 ∷ trace_file 2 ∷ []
 files_of (Some command.Edit) = model_file 1 ∷ edits_file 2 ∷ []
 files_of (Some (command.Generate seed tasks)) = []
 files_of (Some (command.Survey seed tasks)) = []
+files_of (Some command.Check) = model_file 1 ∷ []
+files_of (Some command.Help) = []
+files_of (Some command.Version) = []
 
 -- the word at a place
 abbrev pub word : List (List ℕ) → (place : ℕ) → List ℕ

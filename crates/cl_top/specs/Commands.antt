@@ -2,3 +2,5 @@
 pub mod Simulate
 pub mod Replay
 pub mod Edit
+pub mod Check
+pub mod Help

@@ -12,7 +12,10 @@ use Rattle.cl_edit.specs.Reading.{AreEditsOf}
 use Rattle.cl_analyse.specs.declared.findings.Findings.{Findings}
 use Rattle.cl_analyse.specs.Findings.{AreFindings}
 use Rattle.cl_analyse.specs.Headline.{AreSafeFindings}
+use Rattle.cl_tight.specs.TightFindings.{tight_findings_of}
+use Rattle.cl_tight.specs.Promises.{AreSafeTightFindings, AreAsTight, IsInTime}
 use Rattle.cl_report.specs.Report.{report_text}
+use Rattle.cl_report.specs.Tight.{tight_text}
 use Rattle.cl_runs.specs.Run.{Run}
 use Rattle.cl_runs.specs.SystemOf.{system_of}
 use Rattle.cl_runs.specs.Legal.{IsLegal}
@@ -22,7 +25,7 @@ use Rattle.cl_cut.specs.CutAnswers.{AreSafeAnswers, AreNoWorseAnswers}
 use Rattle.cl_designs.specs.Cuts.{IsCutTextOf}
 use Rattle.cl_top.specs.declared.command.Command.{Command}
 use Rattle.cl_top.specs.declared.command.Command.TheVariants.{OfModel, Replay, Edit as EditFiles}
-use Rattle.cl_top.specs.declared.command.OfModel.TheVariants.{Analyse, Cut}
+use Rattle.cl_top.specs.declared.command.OfModel.TheVariants.{Analyse, Cut, Tighten, Verify}
 use Rattle.cl_top.specs.declared.opening.TheConstants.{FILE_LIMIT}
 use Rattle.cl_top.specs.Calls.{SinkCall}
 use Rattle.cl_top.specs.Commands.Edit.{HasWrittenPiece, AreAccepted}
@@ -72,6 +75,25 @@ pub record AreSafeCuts (bytes text : List ℕ) : Type 0 where
   pub safe : AreSafeAnswers model cuts.answers
   pub no_worse : AreNoWorseAnswers model cuts.answers
 
+-- The text is the report by tight bounds of the model that the bytes mean: each bound is at least the length of every
+-- complete job chain of its chain and kind in every legal run, of any length, none is greater than that of the report,
+-- and exact lengths are tight bounds; what is met is kept, and what is broken is broken in some legal run.
+pub record IsSafeTightReport (bytes text : List ℕ) : Type 0 where
+  pub model : SystemModel
+  pub means : model_of bytes ≡ Ok model
+  pub valid : IsValid model
+  pub printed : text ≡ tight_text model
+  pub safe : AreSafeTightFindings model (tight_findings_of model)
+  pub as_tight : (report : Findings) → AreFindings model report → AreAsTight model (tight_findings_of model) report
+
+-- The model that the bytes mean is in time: in every legal run, of any length, every job whose deadline lies within the
+-- run has finished by then, and no complete chain of a requirement's chain and kind is longer than it says.
+pub record ProvesInTime (bytes : List ℕ) : Type 0 where
+  pub model : SystemModel
+  pub means : model_of bytes ≡ Ok model
+  pub valid : IsValid model
+  pub in_time : IsInTime model
+
 -- The text is the replay of the legal run of the trace, by the model that the bytes mean: each length and its margin make
 -- the bound.
 pub record IsSafeReplay (bytes trace text : List ℕ) : Type 0 where
@@ -107,6 +129,8 @@ pub record AreSafeReports (bytes listed text : List ℕ) : Type 0 where
 abbrev pub IsSafeText : Command → (contents : ℕ → List ℕ) → (text : List ℕ) → Type 0
 IsSafeText (OfModel Analyse) contents text = IsSafeReport (contents 1) text
 IsSafeText (OfModel Cut) contents text = AreSafeCuts (contents 1) text
+IsSafeText (OfModel Tighten) contents text = IsSafeTightReport (contents 1) text
+IsSafeText (OfModel Verify) contents text = ProvesInTime (contents 1)
 IsSafeText Replay contents text = IsSafeReplay (contents 1) (contents 2) text
 IsSafeText EditFiles contents text = AreSafeReports (contents 1) (contents 2) text
 IsSafeText asked contents text = Unit {0}

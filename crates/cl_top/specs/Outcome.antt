@@ -4,7 +4,6 @@ use Rattle.cl_text.specs.Line.{line}
 use Rattle.cl_model.specs.declared.model.SystemModel.{SystemModel}
 use Rattle.cl_model.specs.declared.refusal.Refusal.{Refusal}
 use Rattle.cl_model.specs.Reading.{model_of}
-use Rattle.cl_model.specs.Refusal.{refusal_text}
 use Rattle.cl_model.specs.Validity.{refusal_of}
 use Rattle.cl_gen.specs.Generated.{generated}
 use Rattle.cl_report.specs.Survey.{IsSurveyOf}
@@ -14,6 +13,8 @@ use Rattle.cl_top.specs.declared.status.TheConstants.{WORDS_REFUSED, READ_FAULT,
 use Rattle.cl_top.specs.declared.command.Command.{Command}
 use Rattle.cl_top.specs.declared.command.Command.TheVariants as command
 use Rattle.cl_top.specs.Command.{File, model_file, trace_file, edits_file}
+use Rattle.cl_top.specs.Commands.Check.{refusal_line, IsChecked, ChecksTheSame}
+use Rattle.cl_top.specs.Commands.Help.{help_text, version_text}
 use Rattle.cl_top.specs.Commands.Simulate.{IsSimulated}
 use Rattle.cl_top.specs.Commands.Replay.{IsOfTrace}
 use Rattle.cl_top.specs.Commands.Edit.{IsOfEdits}
@@ -33,7 +34,7 @@ abbrev pub long_file : (place : ℕ) → Outcome
 long_file place = record { status = LONG_FILE; text = line (codes "long file " ++ decimal place) }
 
 abbrev pub model_refused : Refusal → Outcome
-model_refused refusal = record { status = MODEL_REFUSED; text = line (codes "model refused " ++ refusal_text refusal) }
+model_refused refusal = record { status = MODEL_REFUSED; text = refusal_line refusal }
 
 -- ---- the opening of a file
 
@@ -74,9 +75,14 @@ HasOutcome (Some command.Replay) gave found = OpensModel (model_file 1) gave (λ
 HasOutcome (Some command.Edit) gave found = OpensModel (model_file 1) gave (λ model. OpensFile (edits_file 2) gave (IsOfEdits model)) found
 HasOutcome (Some (command.Generate seed tasks)) gave found = IsDone (IsTextOf (generated seed tasks)) found
 HasOutcome (Some (command.Survey seed tasks)) gave found = IsDone (IsSurveyOf (generated seed tasks)) found
+HasOutcome (Some command.Check) gave found = OpensFile (model_file 1) gave IsChecked found
+HasOutcome (Some command.Help) gave found = IsDone (λ text. text ≡ help_text) found
+HasOutcome (Some command.Version) gave found = IsDone (λ text. text ≡ version_text) found
 
--- Two outcomes of the words say the same: they are equal, or texts of one model.
+-- Two outcomes of the words say the same: they are equal, or texts of one model, or what the parser says of bytes that are
+-- no document, which has no definition.
 abbrev pub SaysTheSame : Option Command → (one other : Outcome) → Type 0
 SaysTheSame (Some (command.OfModel asked)) one other = AnswersTheSame asked one other
 SaysTheSame (Some (command.Generate seed tasks)) one other = MigratesTheSame one other
+SaysTheSame (Some command.Check) one other = ChecksTheSame one other
 SaysTheSame asked one other = one ≡ other

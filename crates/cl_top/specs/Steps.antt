@@ -10,7 +10,7 @@ use Rattle.cl_gen.specs.Generated.{generated}
 use Rattle.cl_incr.specs.Changed.{AsksForChanges}
 use Rattle.cl_top.specs.declared.command.Command.{Command}
 use Rattle.cl_top.specs.declared.command.Command.TheVariants as command
-use Rattle.cl_top.specs.OfModel.{model_steps, most_steps}
+use Rattle.cl_top.specs.OfModel.{model_steps, task_steps, most_steps}
 
 -- at most so many, where there is a limit
 abbrev pub AreAtMost : Option ℕ → (before after : ℕ) → Type 0
@@ -56,3 +56,6 @@ AreFewSteps (Some command.Replay) contents before after = after ≤ before + mod
 AreFewSteps (Some command.Edit) contents before after = AreFewOfEdits (model_of (contents 1)) (contents 2) before after
 AreFewSteps (Some (command.Generate seed tasks)) contents before after = after ≤ before
 AreFewSteps (Some (command.Survey seed tasks)) contents before after = after ≤ before + model_steps (Ok (generated seed tasks))
+AreFewSteps (Some command.Check) contents before after = after ≤ before + task_steps (model_of (contents 1))
+AreFewSteps (Some command.Help) contents before after = after ≤ before
+AreFewSteps (Some command.Version) contents before after = after ≤ before

@@ -8,10 +8,13 @@ ghost use Rattle.cl_top.specs.Run.{ComesTo};
 use crate::Outcome;
 use crate::command::{Command, OfModel};
 use crate::commands::answered;
+use crate::commands::check::checked;
 use crate::commands::edit::edited;
 use crate::commands::replay::replayed;
 use crate::commands::simulate::simulated;
-use crate::opening::{FILE_LIMIT, Opened, OpenedTwo, TRACE_LIMIT, open_model, open_two};
+use crate::opening::{
+    FILE_LIMIT, FileFetch, Opened, OpenedTwo, TRACE_LIMIT, fetch_file, open_model, open_two,
+};
 use cl_io::{Shelf, Words};
 use cl_time::{NoMemory, Steps};
 use std::alloc::Global;
@@ -86,5 +89,23 @@ pub(crate) fn edit_files<S: Shelf, L: Ledger>(
     match opened {
         OpenedTwo::Both(model, text) => edited(alloc, model, text.as_slice(), steps),
         OpenedTwo::Stopped(outcome) => Ok(outcome),
+    }
+}
+
+/// The outcome of `check MODEL`.
+pub(crate) fn check_file<S: Shelf, L: Ledger>(
+    alloc: Global,
+    words: &Words,
+    shelf: &mut S,
+    steps: &mut Steps<L>,
+) -> Result<Outcome, NoMemory>
+    requires { command_of words.now ≡ Some Command.Check }
+    ensures comes { IfOk result (ComesTo words.now (shelf_call S.held S.faults S.longest shelf.old shelf.new)) }
+    ensures leaves { LeavesRest words.now (shelf_call S.held S.faults S.longest shelf.old shelf.new) steps.old steps.new }
+{
+    match fetch_file(alloc, words, 1, FILE_LIMIT, shelf)? {
+        FileFetch::Bytes(bytes) => checked(alloc, bytes.as_slice(), steps),
+        FileFetch::Fault => Outcome::read_fault(alloc, 1),
+        FileFetch::TooLong => Outcome::long_file(alloc, 1),
     }
 }

@@ -1,5 +1,5 @@
 ghost use Rattle.std.specs.Prelude.{◌≡◌, ◌<◌, ◌≤◌, drop, length};
-ghost use Rattle.cl_top.specs.Command.{of_model, of_two_files, number_upto, simulate_of, draw_of, word, command_of, MOST_SEED};
+ghost use Rattle.cl_top.specs.Command.{of_model, of_words, number_upto, simulate_of, draw_of, word, command_of, MOST_SEED};
 ghost use Rattle.cl_top.specs.OfModel.{of_verb};
 
 use crate::opening::word_at;
@@ -21,6 +21,12 @@ pub enum OfModel {
     Order,
     /// `headroom MODEL`: find how far the execution times of a model may grow.
     Headroom,
+    /// `tighten MODEL`: bound every chain of a model by how the arrivals of its tasks stand to each other.
+    Tighten,
+    /// `verify MODEL`: say by the status whether every deadline and every requirement of a model is kept.
+    Verify,
+    /// `explain MODEL`: say what the responses and the bounds of a model are the sums of.
+    Explain,
 }
 
 /// What the words ask for.
@@ -38,6 +44,12 @@ pub enum Command {
     Generate { seed: u64, tasks: u64 },
     /// `survey SEED TASKS`: analyse a generated model and sum up what was found.
     Survey { seed: u64, tasks: u64 },
+    /// `check MODEL`: say what to mend in a model, or what to know of it.
+    Check,
+    /// `help`: say what the commands are.
+    Help,
+    /// `version`: say which version of the program this is.
+    Version,
 }
 
 /// A model that is to be generated: by which seed, and of how many tasks.
@@ -53,8 +65,8 @@ pub(crate) fn read_command(words: &Words) -> Option<Command>
 {
     match words.at(0)? {
         "simulate" => read_simulate(words),
-        "replay" => read_two_files(words, Command::Replay),
-        "edit" => read_two_files(words, Command::Edit),
+        "replay" => read_words(words, 3, Command::Replay),
+        "edit" => read_words(words, 3, Command::Edit),
         "generate" => {
             let Draw { seed, tasks } = read_draw(words)?;
             Some(Command::Generate { seed, tasks })
@@ -63,6 +75,9 @@ pub(crate) fn read_command(words: &Words) -> Option<Command>
             let Draw { seed, tasks } = read_draw(words)?;
             Some(Command::Survey { seed, tasks })
         }
+        "check" => read_words(words, 2, Command::Check),
+        "help" | "--help" | "-h" => read_words(words, 1, Command::Help),
+        "version" | "--version" => read_words(words, 1, Command::Version),
         verb => read_of_model(words, verb),
     }
 }
@@ -78,6 +93,9 @@ fn read_verb(verb: &str) -> Option<OfModel>
         "cut" => Some(OfModel::Cut),
         "order" => Some(OfModel::Order),
         "headroom" => Some(OfModel::Headroom),
+        "tighten" => Some(OfModel::Tighten),
+        "verify" => Some(OfModel::Verify),
+        "explain" => Some(OfModel::Explain),
         _ => None,
     }
 }
@@ -105,13 +123,14 @@ fn read_simulate(words: &Words) -> Option<Command>
     Some(Command::Simulate { ticks, seed })
 }
 
-/// What the words after the verb of a command on a model file and a second one make of it.
-fn read_two_files(words: &Words, command: Command) -> Option<Command>
-    ensures { result ≡ of_two_files command (drop 1 words.now) }
+/// A command that has no more to say than how many words it has, its verb among them.
+fn read_words(words: &Words, count: usize, command: Command) -> Option<Command>
+    ensures { result ≡ of_words count command words.now }
 {
-    match words.len() {
-        3 => Some(command),
-        _ => None,
+    if words.len() == count {
+        Some(command)
+    } else {
+        None
     }
 }
 

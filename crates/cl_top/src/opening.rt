@@ -85,7 +85,7 @@ fn open_second<S: Shelf>(
 }
 
 /// Fetches the file that the word at a place names, of at most so many bytes.
-fn fetch_file<S: Shelf>(
+pub(crate) fn fetch_file<S: Shelf>(
     alloc: Global,
     words: &Words,
     place: usize,

@@ -13,9 +13,10 @@ ghost use Rattle.cl_top.specs.Outcome.{read_fault, long_file};
 ghost use Rattle.cl_top.specs.Run.{ComesTo, ComesToTold, IsWhole, IsCutShort, Ends, KeepsToTold, WritesOfFile};
 ghost use Rattle.cl_top.specs.Steps.{AreFewSteps};
 
-use crate::answering::{answer_model, edit_files, replay_files, simulate_file};
+use crate::answering::{answer_model, check_file, edit_files, replay_files, simulate_file};
 use crate::command::{Command, OfModel, read_command};
 use crate::commands::generate::generated;
+use crate::commands::help::{helped, named_version};
 use crate::commands::survey::surveyed;
 use crate::{Outcome, status};
 use cl_io::{Shelf, Sink, Words, WriteFault, write_all};
@@ -112,6 +113,9 @@ fn find_outcome<S: Shelf, L: Ledger>(
         Some(Command::Edit) => edit_files(alloc, words, shelf, steps),
         Some(Command::Generate { seed, tasks }) => generated(alloc, seed, tasks),
         Some(Command::Survey { seed, tasks }) => surveyed(alloc, seed, tasks, steps),
+        Some(Command::Check) => check_file(alloc, words, shelf, steps),
+        Some(Command::Help) => helped(alloc),
+        Some(Command::Version) => named_version(alloc),
     }
 }
 

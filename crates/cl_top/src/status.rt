@@ -32,3 +32,6 @@ pub const NO_MEMORY: u8 = 10;
 
 /// An argument of the program isn't text, so there are no words to run. `run` never answers it.
 pub const ARGUMENT_NOT_TEXT: u8 = 12;
+
+/// A task of the model isn't shown to be in time, or a requirement isn't met.
+pub const NOT_VERIFIED: u8 = 13;

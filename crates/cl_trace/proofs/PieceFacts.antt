@@ -6,6 +6,7 @@ use Rattle.std.proofs.lemmas.Bool.Decides.{nat_tests}
 use Rattle.std.proofs.lemmas.List.{append_cancel_left}
 use Rattle.std.proofs.lemmas.List.Sums.{AllPass-from_list_all}
 use Rattle.cl_model.specs.Name.{IsName, is_name_byte}
+use Rattle.cl_model.proofs.Names.{name_bytes}
 use Rattle.cl_text.specs.Line.{first_word, is_graphic}
 use Rattle.cl_text.proofs.LineLemmas.{first_word-ended, graphic_decimal}
 use Rattle.cl_text.proofs.DecimalLemmas.{grammar_of_decimal}
@@ -23,9 +24,6 @@ none_of (Some x) P Q h = tt
 -- a byte of a name is a byte of a word
 name_byte_graphic : (byte : ℕ) → is_name_byte byte ≡ true → is_graphic byte ≡ true
 name_byte_graphic byte is = grind (arith, nat_tests)
-
-name_bytes : (name : List ℕ) → IsName name → list_all is_name_byte name ≡ true
-name_bytes name is = grind (arith, nat_tests, is)
 
 name_some : (name : List ℕ) → IsName name → 0 < length name
 name_some name is = grind (arith, nat_tests, is)

@@ -79,7 +79,7 @@ module _ (entries : List (Option ℕ)) (ss : List Stretch) (are : AreStretchesOf
       ∙ items_push ss 0 one_more
       ∙ ap (λ n. stretch_items 0 ss ++ stretch_item who n (length entries + ticks)) length_is
 
--- ---- what is entries_appended for a run line: idle ticks up to it, and the ticks of the task
+-- ---- what is appended for a run line: idle ticks up to it, and the ticks of the task
 
 -- replicated entries end with themselves
 pub ends_replicate : (entries : List (Option ℕ)) (n : ℕ) (who other : Option ℕ) → 0 < n → who ≢ other → EndsOther (entries ++ replicate n who) other
@@ -140,7 +140,7 @@ module _ (entries : List (Option ℕ)) (from : ℕ) (busy : EndsOther entries No
     pub appended_busy : EndsOther (entries_appended entries task from to) None
     appended_busy = ends_replicate (idle_up_to entries from) (to - from) (Some task) None (omega arith) (some_none task)
 
--- what holds of each entry, and of what is entries_appended
+-- what holds of each entry, and of what is appended
 pub all_replicate : (P : Option ℕ → Type 0) (entries : List (Option ℕ)) (n : ℕ) (who : Option ℕ) → All P entries → P who → All P (entries ++ replicate n who)
 all_replicate P entries n who all one = All-append P entries (replicate n who) all (by_count n)
   where

@@ -1,4 +1,4 @@
--- The document of a model in range whose names_data are names_data is plain.
+-- The document of a model in range whose names are names is plain.
 use Rattle.std.proofs.Common.{◌≡◌, ℕ, ◌≤◌, Bool, true, false, cond, List, [], ◌∷◌, map, get_or, All, Option, Some, None, Ordering, Less, Equal, Greater, refl, sym, ap, ◌∙◌, zero, suc, arith}
 use Rattle.std.specs.Prelude.{IfSome, ◌==◌, nat_lt}
 use Rattle.std.specs.List.{AllByRecursion, list_all}

@@ -55,7 +55,7 @@ abbrev pub unless_empty : {X : Type 0} → (X → Data) → List X → Option Da
 unless_empty written [] = None
 unless_empty written (x ∷ xs) = Some (array (items_of (map written (x ∷ xs))))
 
--- the array of these names_data, if there is one
+-- the array of these names, if there is one
 abbrev pub names_data : List (List ℕ) → Option Data
 names_data words = unless_empty string words
 

@@ -1,13 +1,9 @@
 -- The sums of hops that the code keeps, one group after the other.
-use Rattle.std.specs.Prelude.{◌≡◌, ℕ, ◌^◌, ℤ, pos, ◌+ℤ◌, ◌-ℤ◌, ◌≤ℤ◌, ◌<ℤ◌, List}
+use Rattle.std.specs.Prelude.{◌≡◌, ◌^◌, ℤ, pos, ◌+ℤ◌, ◌-ℤ◌, ◌≤ℤ◌, ◌<ℤ◌, List}
 use Rattle.cl_bound.specs.declared.group_timing.GroupTiming.{GroupTiming}
 use Rattle.cl_bound.specs.declared.sums.Sums.{Sums}
 use Rattle.cl_bound.specs.Hops.{forward_hop, backward_hop, hops}
 use Rattle.cl_bound.specs.Bounds.{last_of, Lengths}
-
--- a signed number that is so great or so small at most
-abbrev pub IsIntegerWithin : (most : ℕ) → ℤ → Type 0
-IsIntegerWithin most z = (pos 0 ≤ℤ (z +ℤ pos most)) × (z ≤ℤ pos most)
 
 -- a bound: 1 tick or more, and within 64 bits
 abbrev pub IsBound : ℤ → Type 0

@@ -9,12 +9,13 @@ ghost use Rattle.cl_model.specs.declared.limits.TheConstants.{MOST_CORES, MOST_S
 ghost use Rattle.cl_model.specs.declared.limits.TheConstants.{MOST_RUNNABLES, MOST_RUNNABLES_OF_MODEL, MOST_ACCESSES};
 ghost use Rattle.cl_model.specs.declared.limits.TheConstants.{MOST_CHAINS, MOST_STEPS, MOST_HOPS, MOST_REQUIREMENTS};
 ghost use Rattle.cl_model.specs.declared.name.TheConstants.{LONGEST_NAME};
+ghost use Rattle.cl_phase.specs.declared.pace.TheConstants.{MOST_ARRIVALS};
 ghost use Rattle.cl_trace.specs.declared.limits.TheConstants.{MOST_TRACE_TICKS, MOST_TRACE_NUMBER};
 ghost use Rattle.cl_tune.specs.declared.percent.TheConstants.{MOST_PERCENT};
 
 use crate::status::{
-    ARGUMENT_NOT_TEXT, DONE, EDITS_REFUSED, LONG_FILE, MODEL_REFUSED, NO_MEMORY, READ_FAULT,
-    SIMULATION_REFUSED, TRACE_REFUSED, WORDS_REFUSED, WRITE_FAULT,
+    ARGUMENT_NOT_TEXT, DONE, EDITS_REFUSED, LONG_FILE, MODEL_REFUSED, NO_MEMORY, NOT_VERIFIED,
+    READ_FAULT, SIMULATION_REFUSED, TRACE_REFUSED, WORDS_REFUSED, WRITE_FAULT,
 };
 use crate::{FILE_LIMIT, TRACE_LIMIT};
 
@@ -31,6 +32,7 @@ pub fn statuses()
     ensures write_fault { WRITE_FAULT ≡ 9 }
     ensures no_memory { NO_MEMORY ≡ 10 }
     ensures argument_not_text { ARGUMENT_NOT_TEXT ≡ 12 }
+    ensures not_verified { NOT_VERIFIED ≡ 13 }
 {}
 
 /// The most bytes of a model file or a list of edits, and of a trace file.
@@ -66,7 +68,7 @@ pub fn limits_of_counts()
     ensures requirements { MOST_REQUIREMENTS ≡ 1024 }
 {}
 
-/// The limits of lists of edits, of simulations and traces, of exact lengths and of headroom.
+/// The limits of lists of edits, of simulations and traces, of exact lengths, of tight bounds and of headroom.
 pub fn limits_of_commands()
     ensures edits { MOST_EDITS ≡ 4096 }
     ensures reports { MOST_REPORTS ≡ 64 }
@@ -75,5 +77,6 @@ pub fn limits_of_commands()
     ensures trace_ticks { MOST_TRACE_TICKS ≡ 1000000000 }
     ensures trace_number { MOST_TRACE_NUMBER ≡ 2000000000000 }
     ensures first_jobs { MOST_FIRST_JOBS ≡ 1000000 }
+    ensures arrivals { MOST_ARRIVALS ≡ 1000000 }
     ensures percent { MOST_PERCENT ≡ 1000 }
 {}

@@ -1,12 +1,7 @@
-use Rattle.std.proofs.Common.{◌≡◌, drop, sym, ap, ◌∙◌, subst}
-use Rattle.std.specs.Prelude.{All}
 use Rattle.std.proofs.lemmas.List.Elements.{All-drop}
 use Rattle.cl_model.specs.Groups.{IsGroupOf, no_group}
 use Rattle.cl_runs.specs.SystemOf.{system_of}
 use Rattle.cl_runs.proofs.ModelSystem.{system_sound}
-use Rattle.cl_bound.specs.Answers.{NoneIsLate}
-use Rattle.cl_bound.specs.Bounds.{settled_timings}
-use Rattle.cl_bound.specs.Inner.Sums.{sums_of}
 use Rattle.cl_bound.proofs.BoundSums.{rest_is, is_settled, have_bounds, bounds_are}
 use Rattle.cl_bound.proofs.SettledChains.{only_bounds, settled_safe}
 use Rattle.cl_bound.proofs.bounding.bound_of_groups.Goals as goal
@@ -17,16 +12,16 @@ sums_along-requires-clause-of_tasks g c = rw (rest_is c.args.groups.now) (All-dr
 pub bounds-requires-clause-bounds : goal.bounds-requires-clause-bounds
 unfolding no_group
 bounds-requires-clause-bounds g c =
-    rw (c.sums_along.ensures.sums, rest_is c.args.groups.now, c.of-first.ensures.timing)
-    (have_bounds c.args.model.now c.of-first.ensures.valid c.args.groups.now c.requires.some c.requires.few c.requires.of_tasks
+    rw (c.sums_along.ensures.sums, rest_is c.args.groups.now, c.timing_of-first.ensures.timing)
+    (have_bounds c.args.model.now c.timing_of-first.ensures.valid c.args.groups.now c.requires.some c.requires.few c.requires.of_tasks
     (rw c.requires.answers at c.requires.not_late))
 
 pub returns-clause-sums : goal.returns-clause-sums
 unfolding no_group
 returns-clause-sums g c =
-    bounds_are c.args.model.now c.of-first.ensures.valid c.args.groups.now c.requires.some c.requires.few c.requires.of_tasks
+    bounds_are c.args.model.now c.timing_of-first.ensures.valid c.args.groups.now c.requires.some c.requires.few c.requires.of_tasks
     (rw c.requires.answers at c.requires.not_late) c.bounds.result
-    (rw (c.sums_along.ensures.sums, rest_is c.args.groups.now, c.of-first.ensures.timing) at c.bounds.ensures)
+    (rw (c.sums_along.ensures.sums, rest_is c.args.groups.now, c.timing_of-first.ensures.timing) at c.bounds.ensures)
 
 pub returns-clause-bounds : goal.returns-clause-bounds
 returns-clause-bounds g c = only_bounds (system_of c.args.model.now) c.args.groups.now c.bounds.result (returns-clause-sums g c)
@@ -34,6 +29,6 @@ returns-clause-bounds g c = only_bounds (system_of c.args.model.now) c.args.grou
 pub returns-clause-safe : goal.returns-clause-safe
 returns-clause-safe g c =
     rw (returns-clause-bounds g c)
-    (settled_safe (system_of c.args.model.now) (system_sound c.args.model.now c.of-first.ensures.valid) c.args.groups.now
-    (is_settled c.args.model.now c.of-first.ensures.valid c.args.groups.now c.requires.some c.requires.few c.requires.of_tasks
+    (settled_safe (system_of c.args.model.now) (system_sound c.args.model.now c.timing_of-first.ensures.valid) c.args.groups.now
+    (is_settled c.args.model.now c.timing_of-first.ensures.valid c.args.groups.now c.requires.some c.requires.few c.requires.of_tasks
     (rw c.requires.answers at c.requires.not_late)))

@@ -15,9 +15,9 @@ loop-group-preserved c =
     let groups = c.args.groups.now in
     let timing = settled_timing (system_of c.args.model.now) in
     let within : index < length (map timing groups) = omega (arith, c.loop-group-test.true, length-map groups timing) in
-    let next = c.of-next.ensures.timing ∙ sym (get_or-map timing groups index no_group c.of-next.result c.loop-group-test.true) in
+    let next = c.timing_of-next.ensures.timing ∙ sym (get_or-map timing groups index no_group c.timing_of-next.result c.loop-group-test.true) in
     record {
-      sums = more_sums c.args.first (map timing groups) index c.loop-group.sums c.with-sums.result c.of-next.result
+      sums = more_sums c.args.first (map timing groups) index c.loop-group.sums c.with-sums.result c.timing_of-next.result
           c.loop-group.invariant.sums within next c.with-sums.ensures.sums;
       forward = c.with-sums.ensures.forward_near index c.loop-group.invariant.forward;
       backward = c.with-sums.ensures.backward_near index c.loop-group.invariant.backward;

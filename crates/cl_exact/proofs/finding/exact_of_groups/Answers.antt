@@ -1,34 +1,9 @@
-use Rattle.std.proofs.Common.{◌≡◌, ◌≤◌, ◌<◌, sym, subst, List, ℕ, arith}
-use Rattle.cl_model.specs.declared.group.Group.{Group}
-use Rattle.cl_runs.specs.TaskTiming.{System}
+use Rattle.std.proofs.Common.{sym, subst, arith}
 use Rattle.cl_runs.specs.SystemOf.{system_of}
-use Rattle.cl_exact.specs.declared.beat.Beat.{Beat}
-use Rattle.cl_exact.specs.Hyperperiod.{hyper_limit, IsWithinLimit, IsPastLimit}
-use Rattle.cl_exact.specs.Inner.Beats.{AreBeatsOf}
 use Rattle.cl_exact.specs.Inner.Periods.{IsLeastMultiple}
-use Rattle.cl_exact.proofs.PeriodFacts.{is_hyperperiod}
+use Rattle.cl_exact.proofs.LimitFacts.{seen, is_within, is_past}
 use Rattle.cl_exact.proofs.RunExact.{groups_always_ideal, groups_exact_in_runs}
 use Rattle.cl_exact.proofs.finding.exact_of_groups.Goals as goal
-
--- the beats, as a slice
-seen : (system : System) (groups : List Group) (numbers beats : List Beat) → beats ≡ numbers → AreBeatsOf system groups numbers → AreBeatsOf system groups beats
-seen system groups numbers beats same of = subst (AreBeatsOf system groups) (sym same) of
-
-is_within : (system : System) (groups : List Group) (beats : List Beat) (ticks found limit : ℕ) → AreBeatsOf system groups beats
-    → IsLeastMultiple beats ticks → found ≡ ticks → ticks ≤ limit → limit ≡ hyper_limit system groups → IsWithinLimit system groups
-is_within system groups beats ticks found limit of least same within is = record {
-  hyperperiod = ticks;
-  is_hyperperiod = is_hyperperiod system groups beats ticks of least;
-  within = omega (arith, within, is);
-}
-
-is_past : (system : System) (groups : List Group) (beats : List Beat) (ticks limit : ℕ) → AreBeatsOf system groups beats
-    → IsLeastMultiple beats ticks → limit < ticks → limit ≡ hyper_limit system groups → IsPastLimit system groups
-is_past system groups beats ticks limit of least past is = record {
-  hyperperiod = ticks;
-  is_hyperperiod = is_hyperperiod system groups beats ticks of least;
-  past = omega (arith, past, is);
-}
 
 pub hyper_limit-limit-requires : goal.hyper_limit-limit-requires
 hyper_limit-limit-requires g c =

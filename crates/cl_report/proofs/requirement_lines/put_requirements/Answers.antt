@@ -1,8 +1,20 @@
-use Rattle.cl_report.specs.Report.{requirement_line}
+use Rattle.std.proofs.Common.{ℕ, ◌<◌, ◌++◌, length, get_or, ap, ◌∙◌, arith}
+use Rattle.cl_model.specs.declared.chain.RequirementDef.{RequirementDef}
+use Rattle.cl_analyse.specs.declared.findings.Verdict.{Verdict}
+use Rattle.cl_analyse.specs.declared.findings.Verdict.TheVariants.{Met}
+use Rattle.cl_analyse.specs.Verdicts.{requirement_at, verdict_at}
 use Rattle.cl_text.proofs.MoreLines.{line_more}
+use Rattle.cl_report.specs.Report.{verdict_line}
+use Rattle.cl_report.proofs.ReportLines.{requirement_found, verdict_found}
 use Rattle.cl_report.proofs.requirement_lines.put_requirements.Goals as goal
 
 pub loop-place-preserved : goal.loop-place-preserved
 loop-place-preserved c =
-    line_more (requirement_line c.args.model.now c.args.findings.now) c.args.text.now c.loop-place.text c.put_requirement.new.text c.loop-place.place c.loop-place.invariant
-    c.in_ok-put_requirement.ensures
+    let i = c.loop-place.place in
+    let within : i < length c.args.model.now.requirements = rw (c.as_slice-requirements.ensures, c.plain.ensures.plain) at c.loop-place-test.true in
+    let asked = requirement_found c.args.model.now i c.index-requirements-place.result within (rw (c.as_slice-requirements.ensures, c.plain.ensures.plain) at c.index-requirements-place.is) in
+    let judged = verdict_found c.args.verdicts.now c.as_slice.result.now i (omega (arith, within, c.requires)) c.as_slice.ensures in
+    line_more (λ (n : ℕ). verdict_line (requirement_at c.args.model.now n) (verdict_at c.args.verdicts.now n)) c.args.text.now c.loop-place.text c.put_requirement.new.text i c.loop-place.invariant
+    (c.in_ok-put_requirement.ensures
+    ∙ ap (λ (requirement : RequirementDef). c.loop-place.text ++ verdict_line requirement (get_or c.as_slice.result.now i (Met 0))) asked
+    ∙ ap (λ (verdict : Verdict). c.loop-place.text ++ verdict_line (requirement_at c.args.model.now i) verdict) judged)

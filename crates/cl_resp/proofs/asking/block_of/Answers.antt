@@ -2,7 +2,7 @@ use Rattle.std.proofs.Common.{◌≡◌, take, sym, ap, ◌∙◌, take_all, ari
 use Rattle.std.specs.Prelude.{filter}
 use Rattle.cl_model.specs.ByNumber.{tasks_of_core}
 use Rattle.cl_model.specs.Holds.{greatest_by}
-use Rattle.cl_resp.proofs.Questions.{hold_at, is_no_higher, block_is}
+use Rattle.cl_resp.proofs.Questions.{hold_at, may_hold, block_is}
 use Rattle.cl_resp.proofs.asking.block_of.Goals as goal
 
 pub returns : goal.returns
@@ -11,6 +11,6 @@ returns c =
     let others = c.tasks_of_core-other-items.result.now in
     let all : take c.loop-other.other-index others ≡ others = take_all c.loop-other.other-index others (omega (arith, c.loop-other-test.false)) in
     c.loop-other.invariant
-    ∙ ap (λ list. greatest_by (hold_at model) (filter (is_no_higher model c.args.task) list))
+    ∙ ap (λ list. greatest_by (hold_at model) (filter (may_hold model c.args.own c.args.task) list))
     (all ∙ c.tasks_of_core-other-items.ensures.tasks ∙ ap (tasks_of_core model) c.core_of.ensures.core)
-    ∙ sym (block_is model c.args.task)
+    ∙ sym (block_is model c.args.own c.args.task)

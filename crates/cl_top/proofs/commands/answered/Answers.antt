@@ -18,3 +18,12 @@ returns-in-Order-clause-outcome g c = subst (λ (asked : OfModel). IfOk c.ordere
 
 pub returns-in-Headroom-clause-outcome : goal.returns-in-Headroom-clause-outcome
 returns-in-Headroom-clause-outcome g c = subst (λ (asked : OfModel). IfOk c.headroom.result (IsAnswer asked c.args.model.now)) (sym c.in-Headroom.is) c.headroom.ensures
+
+pub returns-in-Tighten-clause-outcome : goal.returns-in-Tighten-clause-outcome
+returns-in-Tighten-clause-outcome g c = subst (λ (asked : OfModel). IfOk c.tightened.result (IsAnswer asked c.args.model.now)) (sym c.in-Tighten.is) c.tightened.ensures.outcome
+
+pub returns-in-Verify-clause-outcome : goal.returns-in-Verify-clause-outcome
+returns-in-Verify-clause-outcome g c = subst (λ (asked : OfModel). IfOk c.verified.result (IsAnswer asked c.args.model.now)) (sym c.in-Verify.is) c.verified.ensures.outcome
+
+pub returns-in-Explain-clause-outcome : goal.returns-in-Explain-clause-outcome
+returns-in-Explain-clause-outcome g c = subst (λ (asked : OfModel). IfOk c.explained.result (IsAnswer asked c.args.model.now)) (sym c.in-Explain.is) c.explained.ensures.outcome

@@ -1,0 +1,139 @@
+-- What an advice says to write is printable ASCII, and so is the whole.
+use Rattle.std.proofs.Common.{ℕ, Bool, ◌&&◌, ◌==◌, cond, List, ◌++◌, Option, Some, None, is_some, refl}
+use Rattle.std.proofs.lemmas.List.Sums.{AllPass-from_list_all}
+use Rattle.std.specs.Fmt.{decimal}
+use Rattle.std.specs.List.{AllPass}
+use Rattle.std.specs.Option.{option_map}
+use Rattle.std.specs.Prelude.{codes, IfSome}
+use Rattle.std.specs.Str.{bytes_eq}
+use Rattle.toml.specs.Data.{Members}
+use Rattle.cl_text.specs.Line.{line}
+use Rattle.cl_model.specs.declared.model.SystemModel.{SystemModel}
+use Rattle.cl_model.specs.declared.place.Key.{Key}
+use Rattle.cl_model.specs.declared.place.Key.TheVariants as key
+use Rattle.cl_model.specs.declared.place.Part.{Part}
+use Rattle.cl_model.specs.declared.place.Part.TheVariants as part
+use Rattle.cl_model.specs.declared.place.Place.{Place}
+use Rattle.cl_model.specs.declared.refusal.Code.{Code}
+use Rattle.cl_model.specs.declared.refusal.Code.TheVariants as code
+use Rattle.cl_model.specs.declared.refusal.Refusal.{Refusal}
+use Rattle.cl_model.specs.AreNamed.{AreNamed}
+use Rattle.cl_model.specs.Place.{part_text, key_text}
+use Rattle.cl_model.specs.Reading.{version_in}
+use Rattle.cl_model.specs.Reading.Checks.{keys_of}
+use Rattle.cl_model.specs.Reading.Tables.{task_fields, runnable_fields}
+use Rattle.cl_advice.specs.declared.want.Want.{Want}
+use Rattle.cl_advice.specs.declared.want.Want.TheVariants as want
+use Rattle.cl_advice.specs.Shown.{is_printed, shown}
+use Rattle.cl_advice.specs.Sites.{entry_in, runnable_around, value_in}
+use Rattle.cl_advice.specs.Keys.{is_among, unknown_key, refused_key, refused_value}
+use Rattle.cl_advice.specs.Entry.{entry_line, runnable_line}
+use Rattle.cl_advice.specs.Found.{key_line, found_line}
+use Rattle.cl_advice.specs.Wanted.{want_at, wanted_line}
+use Rattle.cl_advice.specs.With.{with_lines}
+use Rattle.cl_advice.specs.Mend.{runnable_key_mend, part_key_mend, unknown_mend, section_mend, array_mend, kind_mend, is_burst_word, word_mend, unread_mend, code_mend, mend_text, mended_line, mend_line}
+use Rattle.cl_advice.specs.Advice.{advice_text, at_line, message_line, unread_text}
+use Rattle.cl_advice.proofs.CleanWords.{Printed, printed_both, printed_chosen, printed_line, printed_shown, printed_decimal, printed_part}
+use Rattle.cl_advice.proofs.CleanLines.{printed_numbered_line, printed_key_line, printed_value_line, printed_want_line}
+use Rattle.cl_advice.proofs.CleanNames.{printed_with_lines}
+
+-- one of two fixed texts
+one_of_two : (t : Bool) (a b : List ℕ) → Printed a → Printed b → Printed (cond t a b)
+one_of_two = printed_chosen
+
+printed_part_key : (p : Part) (word : List ℕ) → Printed (part_key_mend p word)
+printed_part_key part.Top word = one_of_two (bytes_eq (key_text key.Runnable) word) _ _ refl refl
+printed_part_key part.Task word = one_of_two (is_among (keys_of runnable_fields) word) _ _ refl refl
+printed_part_key _ word = refl
+
+printed_unknown : (place : Place) (word : List ℕ) → Printed (unknown_mend place word)
+printed_unknown place word =
+    printed_chosen (is_some place.sub) (runnable_key_mend word) (part_key_mend place.part word)
+    (one_of_two (is_among (keys_of task_fields) word) _ _ refl refl) (printed_part_key place.part word)
+
+printed_section : (p : Part) → Printed (section_mend p)
+printed_section part.Top = refl
+printed_section _ = refl
+
+printed_array : (p : Part) (k : Option Key) → Printed (array_mend p k)
+printed_array p None = printed_section p
+printed_array p (Some key.Runnable) = refl
+printed_array p (Some _) = refl
+
+printed_kind : (place : Place) (w : Want) → Printed (kind_mend place w)
+printed_kind place (want.Array limit) = printed_array place.part place.key
+printed_kind place _ = refl
+
+printed_word : (ms : Members) (place : Place) (p : Part) → Printed (word_mend ms place p)
+printed_word ms place part.Stimulus = one_of_two (is_burst_word (value_in ms place) && (version_in ms == 1)) _ _ refl refl
+printed_word ms place _ = refl
+
+printed_unknown_if : (place : Place) (word : Option (List ℕ)) → IfSome (option_map (unknown_mend place) word) Printed
+printed_unknown_if place None = tt
+printed_unknown_if place (Some word) = printed_unknown place word
+
+printed_code : (c : Code) → IfSome (code_mend c) Printed
+printed_code code.E1 = tt
+printed_code code.E2 = tt
+printed_code code.E3 = tt
+printed_code code.M4 = tt
+printed_code code.M6 = tt
+printed_code code.M9 = tt
+printed_code _ = refl
+
+printed_mend : (ms : Members) (place : Place) (c : Code) → IfSome (mend_text ms place c) Printed
+printed_mend ms place code.M4 = printed_unknown_if place (unknown_key ms place)
+printed_mend ms place code.M6 = printed_kind place (want_at (version_in ms) place)
+printed_mend ms place code.M9 = printed_word ms place place.part
+printed_mend ms place other = printed_code other
+
+printed_mend_if : (words : Option (List ℕ)) → IfSome words Printed → Printed (mended_line words)
+printed_mend_if None h = refl
+printed_mend_if (Some words) h = printed_line (codes "mend " ++ words) (printed_both (codes "mend ") words refl h)
+
+-- ---- the whole
+
+seven : (a b c d e f g : List ℕ) → Printed a → Printed b → Printed c → Printed d → Printed e → Printed f → Printed g → Printed (a ++ b ++ c ++ d ++ e ++ f ++ g)
+seven a b c d e f g ha hb hc hd he hf hg =
+    let h2 = printed_both a b ha hb in
+    let h3 = printed_both (a ++ b) c h2 hc in
+    let h4 = printed_both (a ++ b ++ c) d h3 hd in
+    let h5 = printed_both (a ++ b ++ c ++ d) e h4 he in
+    let h6 = printed_both (a ++ b ++ c ++ d ++ e) f h5 hf in
+    printed_both (a ++ b ++ c ++ d ++ e ++ f) g h6 hg
+
+printed_advice : (ms : Members) (model : Option SystemModel) (refusal : Refusal) → IfSome model AreNamed → Printed (advice_text ms model refusal)
+unfolding advice_text
+printed_advice ms model refusal named =
+    let place = refusal.place in
+    seven (entry_line ms place) (runnable_line ms place) (key_line ms refusal) (found_line ms refusal) (wanted_line ms refusal) (with_lines model refusal) (mend_line ms refusal)
+    (printed_numbered_line (codes "entry " ++ part_text place.part) (entry_in ms place) place.item (printed_both (codes "entry ") (part_text place.part) refl (printed_part place.part)))
+    (printed_numbered_line (codes "runnable") (runnable_around ms place) place.sub refl)
+    (printed_key_line (refused_key ms place refusal.code))
+    (printed_value_line (refused_value ms place refusal.code))
+    (printed_want_line ms place refusal.code)
+    (printed_with_lines model refusal named)
+    (printed_mend_if (mend_text ms place refusal.code) (printed_mend ms place refusal.code))
+
+pub clean_advice : (ms : Members) (model : Option SystemModel) (refusal : Refusal) → IfSome model AreNamed → AllPass is_printed (advice_text ms model refusal)
+clean_advice ms model refusal named = AllPass-from_list_all is_printed (advice_text ms model refusal) (printed_advice ms model refusal named)
+
+-- ---- no document
+
+printed_at : (row column : ℕ) → Printed (at_line row column)
+printed_at row column =
+    let first = printed_both (codes "at ") (decimal row) refl (printed_decimal row) in
+    let next = printed_both (codes "at " ++ decimal row) (codes " ") first refl in
+    printed_line (codes "at " ++ decimal row ++ codes " " ++ decimal column) (printed_both (codes "at " ++ decimal row ++ codes " ") (decimal column) next (printed_decimal column))
+
+printed_message : (message : List ℕ) → Printed (message_line message)
+printed_message message = printed_line (codes "message " ++ shown message) (printed_both (codes "message ") (shown message) refl (printed_shown message))
+
+printed_unread : (row column : ℕ) (message : List ℕ) → Printed (unread_text row column message)
+unfolding unread_text
+printed_unread row column message =
+    printed_both (line (codes "mend " ++ unread_mend) ++ at_line row column) (message_line message)
+    (printed_both (line (codes "mend " ++ unread_mend)) (at_line row column) refl (printed_at row column)) (printed_message message)
+
+pub clean_unread : (row column : ℕ) (message : List ℕ) → AllPass is_printed (unread_text row column message)
+clean_unread row column message = AllPass-from_list_all is_printed (unread_text row column message) (printed_unread row column message)

@@ -1,0 +1,11 @@
+pub mod Pieces
+pub mod Documents
+pub mod Writers
+pub mod FieldWants
+pub mod CleanBytes
+pub mod CleanWords
+pub mod CleanLines
+pub mod CleanNames
+pub mod CleanMends
+pub mod Clashes
+pub mod UnknownKeys

@@ -1,0 +1,10 @@
+pub mod Shown
+pub mod Sites
+pub mod Keys
+pub mod Entry
+pub mod Found
+pub mod Wanted
+pub mod WantsOfFields
+pub mod With
+pub mod Mend
+pub mod Advice

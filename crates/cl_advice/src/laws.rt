@@ -1,0 +1,71 @@
+//! What holds of each advice.
+ghost use Rattle.std.specs.Prelude.{◌≡◌, ℕ, ◌+◌, ◌<◌, ◌≤◌, ◌==◌, true, false, List, ◌++◌, All, Contains, length, take, slice_index_or, flat_map, Option, IfSome, IsSome, IsSomeAnd};
+ghost use Rattle.std.specs.List.{AllPass, list_any};
+ghost use Rattle.toml.specs.Data.{Members, get_member};
+ghost use Rattle.cl_model.specs.declared.model.SystemModel.{SystemModel};
+ghost use Rattle.cl_model.specs.declared.place.Key.{Key};
+ghost use Rattle.cl_model.specs.declared.place.Part.TheVariants as part;
+ghost use Rattle.cl_model.specs.declared.refusal.Refusal.{Refusal};
+ghost use Rattle.cl_model.specs.declared.task.TaskDef.{TaskDef};
+ghost use Rattle.cl_model.specs.AreNamed.{AreNamed};
+ghost use Rattle.cl_model.specs.Named.{has_name, tasks_on, all_runnables, labels_written};
+ghost use Rattle.cl_model.specs.Reading.{sections};
+ghost use Rattle.cl_model.specs.Reading.Checks.{has_only};
+ghost use Rattle.cl_model.specs.Reading.Tables.{core_fields, stimulus_fields, periodic_form, sporadic_form, burst_form, label_fields, task_fields, runnable_fields, chain_fields, requirement_fields};
+ghost use Rattle.cl_advice.specs.declared.shown.TheConstants.{MOST_SHOWN};
+ghost use Rattle.cl_advice.specs.declared.want.Want.TheVariants as want;
+ghost use Rattle.cl_advice.specs.Shown.{is_printable, is_printed, shown_byte, shown, quoted};
+ghost use Rattle.cl_advice.specs.Keys.{is_among, unknown_among};
+ghost use Rattle.cl_advice.specs.Wanted.{section_want};
+ghost use Rattle.cl_advice.specs.WantsOfFields.{AsksByCheck};
+ghost use Rattle.cl_advice.specs.With.{rival_of, writer_of};
+ghost use Rattle.cl_advice.specs.Advice.{advice_text, unread_text};
+
+/// What is shown of the bytes of a file is printable ASCII and short, and it is all of them where it has room.
+pub fn bytes_are_shown_clean()
+    ensures printable { (bytes : List ℕ) → AllPass is_printable (shown bytes) }
+    ensures short { (bytes : List ℕ) → length (shown bytes) ≤ MOST_SHOWN + 2 }
+    ensures whole { (bytes : List ℕ) → length (flat_map shown_byte bytes) ≤ MOST_SHOWN → shown bytes ≡ flat_map shown_byte bytes }
+    ensures quoted_printable { (bytes : List ℕ) → AllPass is_printable (quoted bytes) }
+    ensures quoted_short { (bytes : List ℕ) → length (quoted bytes) ≤ MOST_SHOWN + 2 }
+{}
+
+/// No byte of an advice is anything but printable ASCII and ends of lines, whatever stands in the file.
+pub fn advice_is_clean()
+    ensures document { (ms : Members) (model : Option SystemModel) (refusal : Refusal) →
+        IfSome model AreNamed → AllPass is_printed (advice_text ms model refusal) }
+    ensures no_document { (row column : ℕ) (message : List ℕ) → AllPass is_printed (unread_text row column message) }
+{}
+
+/// Of a table that has a key which it may not have, such a key is found, and so is what stands there.
+pub fn unknown_keys_are_found()
+    ensures { (keys : List Key) (ms : Members) → has_only keys ms ≡ false →
+        IsSomeAnd (unknown_among keys ms) (λ word. (is_among keys word ≡ false) × IsSome (get_member word ms)) }
+{}
+
+/// Where M31 or M40 refuses, what the task or the runnable is said to clash with stands before it.
+pub fn clashes_are_with_earlier_ones()
+    ensures tasks { (model : SystemModel) (i : ℕ) (task : TaskDef) →
+        list_any (λ other. other.priority == task.priority) (tasks_on task.core (take i model.tasks)) ≡ true →
+        IsSomeAnd (rival_of model task) (Contains (take i model.tasks)) }
+    ensures runnables { (model : SystemModel) (i p : ℕ) (task : TaskDef) (label : List ℕ) →
+        i < length model.tasks → task ≡ slice_index_or model.tasks i task →
+        has_name label (labels_written (all_runnables (take i model.tasks)) ++ labels_written (take p task.runnables)) ≡ true →
+        IsSomeAnd (writer_of model label) (Contains (all_runnables (take i model.tasks) ++ take p task.runnables)) }
+{}
+
+/// What an advice says is wanted is what the reader checks there: the kinds, ranges, words and limits of all fields and
+/// sections.
+pub fn wants_are_those_of_the_reader()
+    ensures cores { (version : ℕ) → All (AsksByCheck version part.Core) core_fields }
+    ensures stimuli { (version : ℕ) → All (AsksByCheck version part.Stimulus) (stimulus_fields version) }
+    ensures periodic { (version : ℕ) → All (AsksByCheck version part.Stimulus) periodic_form.fields }
+    ensures sporadic { (version : ℕ) → All (AsksByCheck version part.Stimulus) sporadic_form.fields }
+    ensures bursts { (version : ℕ) → All (AsksByCheck version part.Stimulus) burst_form.fields }
+    ensures labels { (version : ℕ) → All (AsksByCheck version part.Label) label_fields }
+    ensures tasks { (version : ℕ) → All (AsksByCheck version part.Task) task_fields }
+    ensures runnables { (version : ℕ) → All (AsksByCheck version part.Task) runnable_fields }
+    ensures chains { (version : ℕ) → All (AsksByCheck version part.Chain) chain_fields }
+    ensures requirements { (version : ℕ) → All (AsksByCheck version part.Requirement) requirement_fields }
+    ensures sections { All (λ section. section_want section.part ≡ want.Array section.limit) sections }
+{}

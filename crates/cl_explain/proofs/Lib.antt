@@ -1,0 +1,12 @@
+pub mod FoundInLists
+pub mod LoadsByNumber
+pub mod TasksByNumber
+pub mod Blockers
+pub mod MarkedLabels
+pub mod SettledWindows
+pub mod TightTasks
+pub mod PartsOfTasks
+pub mod AddedUp
+pub mod LongestWalk
+pub mod LateChains
+pub mod WalksWithin

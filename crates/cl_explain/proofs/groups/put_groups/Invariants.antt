@@ -1,0 +1,7 @@
+use Rattle.std.proofs.Common.{◌≡◌, ◌+◌, ◌++◌}
+use Rattle.std.specs.List.{flat_map, range_with_len}
+use Rattle.cl_explain.specs.Explanation.{group_line, hop_line}
+use Rattle.cl_explain.proofs.groups.put_groups.Given as goal
+
+abbrev pub invariant-loop-place : goal.invariant-loop-place
+invariant-loop-place l = l.text ≡ l.initial.text ++ flat_map (λ place. hop_line l.model l.chain place ++ group_line l.model l.chain (place + 1)) (range_with_len 0 l.place)

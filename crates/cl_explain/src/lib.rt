@@ -1,0 +1,18 @@
+//! Why the responses and the bounds of a model are what they are, and what an engineer should know of one that is
+//! accepted.
+//!
+//! Times are in ticks.
+#![tactic(auto)]
+
+mod accepting;
+mod explaining;
+mod groups;
+mod labels;
+pub mod laws;
+mod loads;
+mod numbers;
+mod parts;
+mod tight;
+
+pub use accepting::accepted;
+pub use explaining::explain;

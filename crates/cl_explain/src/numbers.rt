@@ -1,0 +1,23 @@
+//! Numbers that may pass 64 bits, as decimals.
+ghost use Rattle.std.specs.Prelude.{◌≡◌, ◌++◌, OnOk, decimal};
+ghost use Rattle.std.specs.Fmt.{signed_decimal};
+
+use cl_text::Text;
+use cl_time::NoMemory;
+use itoa::Buffer;
+
+/// Puts a number behind a text.
+pub(crate) fn put_wide(text: &mut Text, number: u128) -> Result<(), NoMemory>
+    ensures { OnOk result (text.new ≡ text.old ++ decimal number) }
+{
+    let mut buffer = Buffer::new();
+    text.put(buffer.format(number).as_bytes())
+}
+
+/// Puts a signed number behind a text, with a minus sign where it is below 0.
+pub(crate) fn put_signed(text: &mut Text, number: i128) -> Result<(), NoMemory>
+    ensures { OnOk result (text.new ≡ text.old ++ signed_decimal number) }
+{
+    let mut buffer = Buffer::new();
+    text.put(buffer.format(number).as_bytes())
+}

@@ -1,0 +1,201 @@
+-- The groups of a chain, put together one after the other. Times are in ticks.
+use Rattle.std.proofs.Common.{◌≡◌, ℕ, suc, ◌+◌, ◌-◌, ◌<◌, ◌≤◌, ℤ, pos, ◌-ℤ◌, List, [], ◌∷◌, ◌++◌, map, min, length, take, drop, Option, refl, ap, sym, ◌∙◌, subst, arith, inl, inr, append_assoc, append-nil, length-append, drop-cons}
+use Rattle.std.specs.Prelude.{slice_index_or}
+use Rattle.std.proofs.lemmas.Bool.{cases_lt}
+use Rattle.std.proofs.lemmas.List.{drop_all, map-append}
+use Rattle.std.proofs.lemmas.List.{length-drop, take_all}
+use Rattle.std.proofs.lemmas.List.Elements.{All-nil}
+use Rattle.std.proofs.Math.ListN.{get_or-append}
+use Rattle.std.proofs.Math.Seq.{get_or-append_seam}
+use Rattle.cl_model.specs.declared.limits.TheConstants.{MOST_TICKS, MOST_STEPS}
+use Rattle.cl_model.specs.declared.group.Group.{Group}
+use Rattle.cl_model.specs.declared.stimulus.StimulusKind.{StimulusKind}
+use Rattle.cl_model.specs.Groups.{no_group, group_at}
+use Rattle.cl_model.specs.Timing.{greatest_distance}
+use Rattle.cl_runs.specs.TaskTiming.{System, timing_at}
+use Rattle.cl_bound.specs.declared.group_timing.GroupTiming.{GroupTiming}
+use Rattle.cl_bound.specs.Bounds.{last_of}
+use Rattle.cl_bound.specs.Hops.{delay, IsNear, IsIntegerWithin}
+use Rattle.cl_phase.specs.declared.pace.Phase.{Phase}
+use Rattle.cl_phase.specs.declared.pace.Pace.{Pace}
+use Rattle.cl_phase.specs.declared.stop.Stop.{Stop}
+use Rattle.cl_phase.specs.declared.keeping.Keeping.{Keeping}
+use Rattle.cl_phase.specs.Phase.{phase_of}
+use Rattle.cl_phase.specs.Kept.{phase_beside, kept_with, pace_with}
+use Rattle.cl_phase.specs.Walks.{no_stop}
+use Rattle.cl_phase.specs.TightAnswers.{tight_response}
+use Rattle.cl_phase.specs.TightBounds.{delay_to_next, stops_beside, stops_of, span_of}
+use Rattle.cl_phase.specs.Inner.Ranges.{IsPaceInRange, AreStopsInRange}
+use Rattle.cl_phase.specs.Inner.Keeping.{AreKept, AreKeptIn, IsBeside}
+use Rattle.cl_phase.specs.Inner.Course.{tight_timing, delay_from, next_from}
+use Rattle.cl_phase.proofs.Multiples.{HasPeriod, hyperperiod_positive}
+use Rattle.cl_phase.proofs.SlowestGroups.{pace_of}
+use Rattle.cl_phase.proofs.KeptAfter.{phase_in, kept_after, after_more, phase_of_pace, kept_in}
+
+-- a group on its walks whose numbers are those of a valid model
+pub record IsStopInRange (stop : Stop) : Type 0 where
+  pub pace : IsPaceInRange stop.pace
+  pub delay : IsIntegerWithin MOST_TICKS stop.delay
+
+-- the first groups of a chain are put together, and what is known then
+pub record IsCourseTo (system : System) (groups : List Group) (place : ℕ) (stops : List Stop) (keeping : Keeping) (timing : GroupTiming) : Type 0 where
+  pub as_many : length stops ≡ place
+  pub in_range : (here : ℕ) → here < place → IsStopInRange (slice_index_or stops here no_stop)
+  pub kept : AreKept (kept_after [] (map pace_of stops)) keeping
+  pub some : 1 ≤ keeping.hyperperiod
+  pub stops_are : stops_of system (tight_response system) groups
+      ≡ stops ++ stops_beside system (tight_response system) (kept_after [] (map pace_of stops)) (drop place groups)
+  pub timing_is : timing ≡ tight_timing system (group_at groups (min place (length groups - 1)))
+  pub near : IsNear timing
+
+delays_same : (system : System) (group : Group) (timing : GroupTiming) (later : List Group) → timing ≡ tight_timing system group
+    → delay_from system timing later ≡ delay_to_next system (tight_response system) group later
+delays_same system group timing [] is = refl
+delays_same system group timing (next ∷ later) is = ap (λ (t : GroupTiming). delay t (tight_timing system next)) is
+
+next_same : (system : System) (timing : GroupTiming) (groups : List Group) (place : ℕ) → place < length groups
+    → timing ≡ tight_timing system (group_at groups place)
+    → next_from system timing (drop (place + 1) groups) ≡ tight_timing system (group_at groups (min (place + 1) (length groups - 1)))
+next_same system timing groups place within is = elim (cases_lt (place + 1) (length groups)) [
+  | inl less ↦
+      let here : min (place + 1) (length groups - 1) ≡ place + 1 = omega (arith, less) in
+      ap (next_from system timing) (drop-cons groups (place + 1) no_group less) ∙ ap (λ n. tight_timing system (group_at groups n)) (sym here)
+  | inr not ↦
+      let here : min (place + 1) (length groups - 1) ≡ place = omega (arith, not, within) in
+      ap (next_from system timing) (drop_all (place + 1) groups not) ∙ is ∙ ap (λ n. tight_timing system (group_at groups n)) (sym here)
+]
+
+-- a group and those after it
+with_rest : (groups : List Group) (place : ℕ) → place < length groups → drop place groups ≡ group_at groups place ∷ drop (place + 1) groups
+with_rest groups place within =
+    let next : suc place ≡ place + 1 = omega arith in
+    drop-cons groups place no_group within ∙ ap (λ n. group_at groups place ∷ drop n groups) next
+
+-- stops with one more
+module _ (stops : List Stop) (stop : Stop) where
+  older : (here : ℕ) → here < length stops → slice_index_or (stops ++ stop ∷ []) here no_stop ≡ slice_index_or stops here no_stop
+  older here before = get_or-append stops (stop ∷ []) no_stop here before
+
+  newest : (here : ℕ) → length stops ≡ here → slice_index_or (stops ++ stop ∷ []) here no_stop ≡ stop
+  newest here at = ap (λ n. slice_index_or (stops ++ stop ∷ []) n no_stop) (sym at) ∙ get_or-append_seam stops stop [] no_stop
+
+  in_range_more : (place : ℕ) → length stops ≡ place → ((here : ℕ) → here < place → IsStopInRange (slice_index_or stops here no_stop)) → IsStopInRange stop
+      → (here : ℕ) → here < place + 1 → IsStopInRange (slice_index_or (stops ++ stop ∷ []) here no_stop)
+  in_range_more place as_many are is here below = elim (cases_lt here place) [
+    | inl before ↦ subst IsStopInRange (sym (older here (omega (arith, before, as_many)))) (are here before)
+    | inr last ↦ subst IsStopInRange (sym (newest here (omega (arith, last, below, as_many)))) is
+  ]
+
+  phases_more : kept_after [] (map pace_of (stops ++ stop ∷ [])) ≡ kept_with (kept_after [] (map pace_of stops)) (phase_in stop.pace)
+  phases_more = ap (kept_after []) (map-append pace_of stops (stop ∷ [])) ∙ after_more [] (map pace_of stops) stop.pace
+
+same_stop : (pace : Pace) (d : ℤ) (pace' : Pace) (d' : ℤ) → pace ≡ pace' → d ≡ d'
+    → ◌≡◌ {A = Stop} (record { pace = pace; delay = d }) (record { pace = pace'; delay = d' })
+same_stop pace d pace' d' e f = cc
+
+-- what is left with one group
+beside_more : (system : System) (kept : List Phase) (group : Group) (later : List Group) (kind : StimulusKind) (pace : Pace) (d : ℤ)
+    → kind ≡ (timing_at system group.task).pattern → pace ≡ pace_with (greatest_distance kind) (phase_beside kept (phase_of kind))
+    → d ≡ delay_to_next system (tight_response system) group later
+    → stops_beside system (tight_response system) kept (group ∷ later)
+    ≡ (record { pace = pace; delay = d }) ∷ stops_beside system (tight_response system) (kept_with kept (phase_in pace)) later
+unfolding stops_beside
+beside_more system kept group later kind pace d is pace_is delay_is =
+    let pattern = (timing_at system group.task).pattern in
+    let made : pace_with (greatest_distance pattern) (phase_beside kept (phase_of pattern)) ≡ pace =
+    ap (λ (k : StimulusKind). pace_with (greatest_distance k) (phase_beside kept (phase_of k))) (sym is) ∙ sym pace_is in
+    let phase : phase_beside kept (phase_of pattern) ≡ phase_in pace =
+    sym (phase_of_pace (greatest_distance pattern) (phase_beside kept (phase_of pattern))) ∙ ap phase_in made in
+    ap (λ (s : Stop). s ∷ stops_beside system (tight_response system) (kept_with kept (phase_beside kept (phase_of pattern))) later)
+    (same_stop _ _ _ _ made (sym delay_is))
+    ∙ ap (λ (o : Option Phase). (record { pace = pace; delay = d }) ∷ stops_beside system (tight_response system) (kept_with kept o) later) phase
+
+module _ (system : System) (groups : List Group) (some_groups : 0 < length groups) where
+  pub course_begins : (stops : List Stop) (keeping : Keeping) (timing : GroupTiming) → stops ≡ [] → AreKept [] keeping
+      → timing ≡ tight_timing system (group_at groups 0) → IsNear timing → IsCourseTo system groups 0 stops keeping timing
+  course_begins stops keeping timing none kept is near =
+      let first : min 0 (length groups - 1) ≡ 0 = omega arith in
+      subst (λ (s : List Stop). IsCourseTo system groups 0 s keeping timing) (sym none) (record {
+        as_many = refl;
+        in_range = λ here below. absurd (omega (arith, below));
+        kept = kept;
+        some = rw kept.hyperperiod (hyperperiod_positive [] (All-nil HasPeriod));
+        stops_are = refl;
+        timing_is = is ∙ ap (λ n. tight_timing system (group_at groups n)) (sym first);
+        near = near;
+      })
+
+  module _ (place : ℕ) (stops : List Stop) (keeping : Keeping) (timing : GroupTiming) (so_far : IsCourseTo system groups place stops keeping timing) where
+    pub course_goes_on : (within : place < length groups) (kind : StimulusKind) (pace : Pace) (more : Keeping) (d : ℤ) (next : GroupTiming)
+        → kind ≡ (timing_at system (group_at groups place).task).pattern → IsBeside kind (kept_after [] (map pace_of stops)) pace more → 1 ≤ more.hyperperiod
+        → d ≡ delay_from system timing (drop (place + 1) groups) → IsIntegerWithin MOST_TICKS d
+        → next ≡ next_from system timing (drop (place + 1) groups) → IsNear next
+        → IsCourseTo system groups (place + 1) (stops ++ (record { pace = pace; delay = d }) ∷ []) more next
+    course_goes_on within kind pace more d next is beside some delay_is small next_is near =
+        let stop : Stop = record { pace = pace; delay = d } in
+        let kept = kept_after [] (map pace_of stops) in
+        let here : min place (length groups - 1) ≡ place = omega (arith, within) in
+        let timing_is : timing ≡ tight_timing system (group_at groups place) = so_far.timing_is ∙ ap (λ n. tight_timing system (group_at groups n)) here in
+        let phase : phase_beside kept (phase_of kind) ≡ phase_in pace =
+        sym (phase_of_pace (greatest_distance kind) (phase_beside kept (phase_of kind))) ∙ ap phase_in (sym beside.pace_is) in
+        let phases = phases_more stops stop in
+        record {
+          as_many = length-append stops (stop ∷ []) ∙ omega (arith, so_far.as_many);
+          in_range = in_range_more stops stop place so_far.as_many so_far.in_range (record { pace = beside.in_range; delay = small });
+          kept = subst (λ (k : List Phase). AreKept k more) (ap (kept_with kept) phase ∙ sym phases) beside.are;
+          some = some;
+          stops_are = so_far.stops_are
+              ∙ ap (λ (left : List Group). stops ++ stops_beside system (tight_response system) kept left) (with_rest groups place within)
+              ∙ ap (λ (left : List Stop). stops ++ left)
+              (beside_more system kept (group_at groups place) (drop (place + 1) groups) kind pace d is beside.pace_is
+              (delay_is ∙ delays_same system (group_at groups place) timing (drop (place + 1) groups) timing_is))
+              ∙ sym (append_assoc stops (stop ∷ []) (stops_beside system (tight_response system) (kept_with kept (phase_in pace)) (drop (place + 1) groups)))
+              ∙ ap (λ (k : List Phase). (stops ++ stop ∷ []) ++ stops_beside system (tight_response system) k (drop (place + 1) groups)) (sym phases);
+          timing_is = next_is ∙ next_same system timing groups place within timing_is;
+          near = near;
+        }
+
+    -- all of them
+    module _ (few : length groups ≤ MOST_STEPS) (all : place ≡ length groups) where
+      pub course_stops : stops_of system (tight_response system) groups ≡ stops
+      unfolding stops_beside
+      course_stops =
+          so_far.stops_are
+          ∙ ap (λ (left : List Group). stops ++ stops_beside system (tight_response system) (kept_after [] (map pace_of stops)) left)
+          (drop_all place groups (omega (arith, all)))
+          ∙ append-nil stops
+
+      pub course_in_range : AreStopsInRange stops
+      course_in_range = record {
+        some = omega (arith, so_far.as_many, all, some_groups);
+        few = omega (arith, so_far.as_many, all, few);
+        paces = λ here below. (so_far.in_range here (omega (arith, below, so_far.as_many))).pace;
+        delays = λ here below. (so_far.in_range here (omega (arith, below, so_far.as_many))).delay;
+      }
+
+      pub course_kept : AreKeptIn stops keeping
+      course_kept = kept_in stops keeping so_far.kept
+
+      pub course_last : timing ≡ tight_timing system (group_at groups (length groups - 1))
+      course_last =
+          let last : min place (length groups - 1) ≡ length groups - 1 = omega (arith, all) in
+          so_far.timing_is ∙ ap (λ n. tight_timing system (group_at groups n)) last
+
+-- from the first read to the last write
+last_is : (timing : Group → GroupTiming) (first : Group) (later : List Group)
+    → last_of (timing first) (map timing later) ≡ timing (group_at (first ∷ later) (length later))
+last_is timing first [] = refl
+last_is timing first (next ∷ later) = last_is timing next later
+
+pub span_by : (system : System) (groups : List Group) → 0 < length groups
+    → (pos (tight_timing system (group_at groups (length groups - 1))).write -ℤ pos (tight_timing system (group_at groups 0)).read)
+    ≡ span_of system (tight_response system) groups
+span_by system [] some = absurd (omega (arith, some))
+span_by system (first ∷ later) some =
+    let last : suc (length later) - 1 ≡ length later = omega arith in
+    ap (λ n. pos (tight_timing system (group_at (first ∷ later) n)).write -ℤ pos (tight_timing system first).read) last
+    ∙ ap (λ (t : GroupTiming). pos t.write -ℤ pos (tight_timing system first).read) (sym (last_is (tight_timing system) first later))
+
+-- what stands past a group is all that is left
+pub rest_from : (groups : List Group) (from : ℕ) → take (length groups - from) (drop from groups) ≡ drop from groups
+rest_from groups from = take_all (length groups - from) (drop from groups) (omega (arith, length-drop from groups))

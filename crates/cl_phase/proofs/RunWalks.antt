@@ -1,0 +1,106 @@
+-- In a legal run, the bounds by walks are at least as long as from the first group's earlier job to the last group's
+-- later one, for any two jobs of each group, one after the other, that are linked by delays.
+use Rattle.std.proofs.Common.{◌≡◌, ℕ, ℤ, pos, suc, ◌-◌, ◌<◌, inl, inr, List, [], ◌∷◌, length, ap, ◌∙◌, arith}
+use Rattle.std.specs.Prelude.{◌+ℤ◌, ◌-ℤ◌, ◌≤ℤ◌, ◌⊎◌}
+use Rattle.std.proofs.lemmas.Int.{ints}
+use Rattle.cl_model.specs.declared.group.Group.{Group}
+use Rattle.cl_model.specs.Groups.{group_at}
+use Rattle.cl_runs.specs.TaskTiming.{System}
+use Rattle.cl_runs.specs.Table.{job_at}
+use Rattle.cl_runs.specs.Run.{Run, jobs_of}
+use Rattle.cl_runs.specs.Legal.{IsLegal}
+use Rattle.cl_runs.specs.Chains.{first_group, last_group}
+use Rattle.cl_bound.specs.Hops.{group_timing, delay}
+use Rattle.cl_bound.specs.declared.group_timing.GroupTiming.{GroupTiming}
+use Rattle.cl_bound.proofs.AlongChains.{last_timing}
+use Rattle.cl_phase.specs.declared.stop.Stop.{Stop}
+use Rattle.cl_phase.specs.Pace.{AreNeighbours}
+use Rattle.cl_phase.specs.Walks.{pace_at, delay_at, last_place}
+use Rattle.cl_phase.specs.TightBounds.{span_of, length_from, reduced_from, bounds_from}
+use Rattle.cl_phase.proofs.Walking.{KeepsPhase, AreLinkedJobs, length_covers, reduced_covers}
+use Rattle.cl_phase.proofs.WalkStarts.{AreStops, IsArrivalAt, after_arrives, length_bounded, age_bounded, reduced_bounded}
+
+-- when a job of the group of a place arrives
+abbrev pub arrival_in : Run → List Group → (place job : ℕ) → ℕ
+arrival_in run groups place job = (job_at (jobs_of run (group_at groups place).task) job).arrival
+
+-- the delay of the hop from the group of a place to the next
+abbrev pub delay_from : System → (responses : ℕ → ℕ) → List Group → (place : ℕ) → ℤ
+delay_from system responses groups place =
+    delay (group_timing system responses (group_at groups place)) (group_timing system responses (group_at groups (suc place)))
+
+-- stops are those of groups of a system: one a group, with the delays of their hops, and in each legal run neighbouring
+-- jobs of a group arrive as its pace says
+pub record AreStopsOf (system : System) (responses : ℕ → ℕ) (groups : List Group) (stops : List Stop) : Type 0 where
+  pub as_many : length stops ≡ length groups
+  pub delays : (place : ℕ) → suc place < length groups → delay_at stops place ≡ delay_from system responses groups place
+  pub neighbours : (run : Run) → IsLegal system run → (place job : ℕ) → place < length groups
+      → suc job < length (jobs_of run (group_at groups place).task)
+      → AreNeighbours (pace_at stops place) (pos (arrival_in run groups place job)) (pos (arrival_in run groups place (suc job)))
+
+-- the span of groups, by their first and last
+pub span_is : (system : System) (responses : ℕ → ℕ) (groups : List Group) → 0 < length groups
+    → span_of system responses groups
+    ≡ (pos (group_timing system responses (last_group groups)).write -ℤ pos (group_timing system responses (first_group groups)).read)
+span_is system responses [] some = absurd (omega (arith, some))
+span_is system responses (first ∷ later) some =
+    let place : length later ≡ length (first ∷ later) - 1 = omega arith in
+    ap (λ (timing : GroupTiming). pos timing.write -ℤ pos (group_timing system responses first).read)
+    (last_timing (group_timing system responses) first later
+    ∙ ap (λ n. group_timing system responses (group_at (first ∷ later) n)) place)
+
+through : (a b c : ℤ) → a ≤ℤ b → b ≤ℤ c → a ≤ℤ c
+through a b c h k = omega (arith, ints, h, k)
+
+follows : (before after delay other : ℤ) → other ≡ delay → (before +ℤ pos 1) ≤ℤ (after +ℤ delay) → (before +ℤ pos 1) ≤ℤ (after +ℤ other)
+follows before after delay other same h = omega (arith, ints, same, h)
+
+-- of each group a job of the run that isn't the last one, with its next job less than the delay before the next group's
+pub record AreMissedJobs (system : System) (responses : ℕ → ℕ) (groups : List Group) (run : Run) (jobs : ℕ → ℕ) : Type 0 where
+  pub in_table : (place : ℕ) → place < length groups → suc (jobs place) < length (jobs_of run (group_at groups place).task)
+  pub missed : (place : ℕ) → suc place < length groups
+      → (pos (arrival_in run groups (suc place) (jobs (suc place))) +ℤ pos 1)
+      ≤ℤ (pos (arrival_in run groups place (suc (jobs place))) +ℤ delay_from system responses groups place)
+
+module _ (system : System) (responses : ℕ → ℕ) (groups : List Group) (stops : List Stop) (of : AreStopsOf system responses groups stops)
+    (place : ℕ) (are : AreStops stops place) (span : ℤ) (run : Run) (legal : IsLegal system run) (jobs : ℕ → ℕ)
+    (missed : AreMissedJobs system responses groups run jobs) where
+  abbrev before : ℕ → ℤ
+  before other = pos (arrival_in run groups other (jobs other))
+
+  abbrev after : ℕ → ℤ
+  after other = pos (arrival_in run groups other (suc (jobs other)))
+
+  linked_jobs : AreLinkedJobs stops before after
+  linked_jobs = record {
+    neighbours = λ other h.
+        let within : other < length groups = omega (arith, h, of.as_many) in
+        of.neighbours run legal other (jobs other) within (missed.in_table other within);
+    linked = λ other h.
+        let within : suc other < length groups = omega (arith, h, of.as_many) in
+        follows (before (suc other)) (after other) _ (delay_at stops other) (of.delays other within) (missed.missed other within);
+  }
+
+  keeps_or_first : (KeepsPhase stops place) ⊎ (place ≡ 0)
+  keeps_or_first = elim are.start [
+    | inl kept ↦ inl kept
+    | inr none ↦ inr none.0
+  ]
+
+  arrives : IsArrivalAt (pace_at stops place) (after place)
+  arrives = after_arrives (pace_at stops place) (before place) (after place) (linked_jobs.neighbours place are.is_place)
+
+  -- to the later job
+  pub reaction_covers : ((after (last_place stops) -ℤ before 0) +ℤ span) ≤ℤ pos (bounds_from stops span place).reaction
+  reaction_covers = through _ (length_from stops span place (after place)) _
+      (length_covers stops are.stepped before after linked_jobs place are.is_place span) (length_bounded stops place are span (after place) arrives)
+
+  pub age_covers : ((after (last_place stops) -ℤ before 0) +ℤ span) ≤ℤ pos (bounds_from stops span place).age
+  age_covers = through _ (length_from stops span place (after place)) _
+      (length_covers stops are.stepped before after linked_jobs place are.is_place span) (age_bounded stops place are span (after place) arrives)
+
+  -- to the earlier job
+  pub reduced_covers_jobs : ((before (last_place stops) -ℤ before 0) +ℤ span) ≤ℤ pos (bounds_from stops span place).reduced
+  reduced_covers_jobs = through _ (reduced_from stops span place (after place)) _
+      (reduced_covers stops are.stepped before after linked_jobs place are.is_place span keeps_or_first)
+      (reduced_bounded stops place are span (after place) arrives)

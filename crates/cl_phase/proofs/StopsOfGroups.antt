@@ -1,0 +1,72 @@
+-- The stops of groups of a sound system are such as bounds by walks need.
+use Rattle.std.proofs.Common.{◌≡◌, ℕ, ◌<◌, ◌⊎◌, inl, inr, List, [], length, subst, arith}
+use Rattle.std.specs.Prelude.{All}
+use Rattle.cl_model.specs.Groups.{no_group, group_at}
+use Rattle.cl_model.specs.declared.group.Group.{Group}
+use Rattle.cl_runs.specs.TaskTiming.{System, IsSound}
+use Rattle.cl_bound.specs.Hops.{group_timing}
+use Rattle.cl_bound.specs.SettledChains.{IsGroupOfTask}
+use Rattle.cl_phase.specs.declared.stop.Stop.{Stop}
+use Rattle.cl_phase.specs.Walks.{pace_at}
+use Rattle.cl_phase.specs.TightBounds.{stops_of, hyperperiod_in, slowest}
+use Rattle.cl_phase.proofs.PaceSteps.{paces_step}
+use Rattle.cl_phase.proofs.RunPaces.{run_neighbours}
+use Rattle.cl_phase.proofs.SlowestFacts.{ArePaced, hyperperiod_comes_round, hyperperiod_is_some, slowest_within, slowest_keeps}
+use Rattle.cl_phase.specs.Pace.{IsPace}
+use Rattle.cl_phase.proofs.StartFacts.{start_within}
+use Rattle.cl_phase.proofs.StopFacts.{length_stops, stop_pace, stop_delay, stop_is_pace, stop_step}
+use Rattle.cl_phase.proofs.Walking.{KeepsPhase, IsFreeAt}
+use Rattle.cl_phase.proofs.WalkStarts.{AreStops}
+use Rattle.cl_phase.proofs.RunWalks.{AreStopsOf}
+use Rattle.cl_phase.proofs.NoGreaterSums.{AreStepsOf}
+
+-- all that they need
+pub record HaveStops (system : System) (responses : ℕ → ℕ) (groups : List Group) : Type 0 where
+  pub are : AreStops (stops_of system responses groups) (slowest (stops_of system responses groups))
+  pub of : AreStopsOf system responses groups (stops_of system responses groups)
+  pub steps : AreStepsOf system responses groups (stops_of system responses groups)
+
+-- walks start from a group that keeps its phase, or from the first where none does
+starts_from : (stops : List Stop)
+    → (KeepsPhase stops (slowest stops)) ⊎ ((slowest stops ≡ 0) × ((other : ℕ) → other < length stops → IsFreeAt stops other))
+starts_from stops = elim (slowest_keeps stops) [
+  | inl keeps ↦ inl (keeps.phase, keeps.keeps)
+  | inr none ↦ inr (none.first, none.none)
+]
+
+module _ (system : System) (sound : IsSound system) (responses : ℕ → ℕ) (groups : List Group) (all : All (IsGroupOfTask system) groups) where
+  abbrev stops : List Stop
+  stops = stops_of system responses groups
+
+  as_many : length stops ≡ length groups
+  as_many = length_stops system responses groups []
+
+  paced : ArePaced stops
+  paced place h = stop_is_pace system responses sound groups all [] place (omega (arith, h, as_many))
+
+  are_stops : 0 < length groups → AreStops stops (slowest stops)
+  are_stops some = record {
+    is_place = slowest_within stops (omega (arith, some, as_many));
+    stepped = λ place h. paces_step (pace_at stops place) (paced place h);
+    some_tick = hyperperiod_is_some stops paced;
+    round = hyperperiod_comes_round stops paced;
+    start = starts_from stops;
+    taken = λ phase is number moment below arrives.
+        start_within phase (subst IsPace is (paced (slowest stops) (slowest_within stops (omega (arith, some, as_many))))) (hyperperiod_in stops) number moment
+        (record { within = below; arrives = arrives });
+  }
+
+  are_stops_of : AreStopsOf system responses groups stops
+  are_stops_of = record {
+    as_many = as_many;
+    delays = stop_delay system responses groups [];
+    neighbours = λ run legal place job h below. run_neighbours system sound run legal (group_at groups place).task (all place no_group h).is_task
+        (pace_at stops place) (stop_pace system responses groups [] place h) job below;
+  }
+
+  are_steps_of : AreStepsOf system responses groups stops
+  unfolding group_timing
+  are_steps_of = record { steps = stop_step system responses sound groups all [] }
+
+  pub have_stops : 0 < length groups → HaveStops system responses groups
+  have_stops some = record { are = are_stops some; of = are_stops_of; steps = are_steps_of }

@@ -1,0 +1,12 @@
+use Rattle.std.proofs.Common.{◌≡◌, ◌+◌, ◌-◌, ◌*◌}
+use Rattle.cl_phase.specs.Walks.{onward}
+use Rattle.cl_bound.specs.Hops.{IsIntegerWithin}
+use Rattle.cl_phase.specs.Inner.Ranges.{FARTHEST_START}
+use Rattle.cl_phase.proofs.WalkRanges.{HOP}
+use Rattle.cl_phase.proofs.walk.arrival_onward.Given as goal
+
+abbrev pub invariant-loop-i : goal.invariant-loop-i
+invariant-loop-i l = record {
+  leads : l.moment ≡ onward l.stops l.place l.arrival (l.i - (l.place + 1));
+  near : IsIntegerWithin (FARTHEST_START + l.i * HOP) l.moment;
+}

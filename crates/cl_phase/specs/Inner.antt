@@ -1,0 +1,5 @@
+-- What only private clauses cite: a reader of the public contracts needs none of it.
+pub mod Ranges
+pub mod Longest
+pub mod Keeping
+pub mod Course

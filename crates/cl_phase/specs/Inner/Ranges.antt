@@ -1,0 +1,41 @@
+-- How far the moments of walks lie from 0, so that 64 signed bits hold them. Times are in ticks.
+use Rattle.std.specs.Prelude.{ℕ, ◌*◌, ◌<◌, ◌≤◌, ℤ, List, length}
+use Rattle.cl_model.specs.declared.limits.TheConstants.{MOST_TICKS, MOST_STEPS}
+use Rattle.cl_bound.specs.Hops.{IsIntegerWithin}
+use Rattle.cl_phase.specs.declared.pace.TheConstants.{MOST_ARRIVALS}
+use Rattle.cl_phase.specs.declared.pace.Pace.{Pace}
+use Rattle.cl_phase.specs.declared.pace.Pace.TheVariants.{Kept, Free}
+use Rattle.cl_phase.specs.declared.stop.Stop.{Stop}
+use Rattle.cl_phase.specs.Phase.{IsPhaseInRange}
+use Rattle.cl_phase.specs.Walks.{pace_at, delay_at}
+
+-- all moments of walks lie at most so far from 0
+abbrev pub FARTHEST : ℕ
+FARTHEST = 3000000000000000000
+
+abbrev pub IsMoment : ℤ → Type 0
+IsMoment moment = IsIntegerWithin FARTHEST moment
+
+-- and those from which walks start
+abbrev pub FARTHEST_START : ℕ
+FARTHEST_START = 2000000000000000000
+
+-- and those to which they lead
+abbrev pub FARTHEST_WALKED : ℕ
+FARTHEST_WALKED = 2500000000000000000
+
+-- the longest hyperperiod of phases that are kept
+abbrev pub MOST_HYPERPERIOD : ℕ
+MOST_HYPERPERIOD = MOST_ARRIVALS * MOST_TICKS
+
+-- a pace whose numbers are those of a valid model
+abbrev pub IsPaceInRange : Pace → Type 0
+IsPaceInRange (Kept phase) = IsPhaseInRange phase
+IsPaceInRange (Free greatest) = (1 ≤ greatest) × (greatest ≤ MOST_TICKS)
+
+-- the groups of a chain of a valid model, on its walks
+pub record AreStopsInRange (stops : List Stop) : Type 0 where
+  pub some : 0 < length stops
+  pub few : length stops ≤ MOST_STEPS
+  pub paces : (place : ℕ) → place < length stops → IsPaceInRange (pace_at stops place)
+  pub delays : (place : ℕ) → place < length stops → IsIntegerWithin MOST_TICKS (delay_at stops place)

@@ -1,0 +1,47 @@
+-- Which groups of a chain keep their phase: along the chain, those beside which the phases that are kept come round
+-- soon. Times are in ticks.
+use Rattle.std.specs.Prelude.{ℕ, Bool, ◌/◌, ◌*◌, ◌%◌, ◌==◌, ◌&&◌, nat_le, if◌then◌else◌, List, [], ◌∷◌, find, unwrap_or, Option, Some, None}
+use Rattle.std.specs.List.{list_any, range_with_len}
+use Rattle.cl_phase.specs.declared.pace.TheConstants.{MOST_ARRIVALS}
+use Rattle.cl_phase.specs.declared.pace.Phase.{Phase}
+use Rattle.cl_phase.specs.declared.pace.Pace.{Pace}
+use Rattle.cl_phase.specs.declared.pace.Pace.TheVariants.{Kept, Free}
+
+-- the least common multiple of two numbers: the first from 1 up that both divide, 0 where there is none
+unfoldable pub common_multiple : (m n : ℕ) → ℕ
+common_multiple m n = unwrap_or (find (λ ticks. (ticks % m == 0) && (ticks % n == 0)) (range_with_len 1 (m * n))) 0
+
+-- the hyperperiod of phases: the least common multiple of their periods
+unfoldable pub hyperperiod_of : List Phase → ℕ
+hyperperiod_of [] = 1
+hyperperiod_of (phase ∷ phases) = common_multiple phase.period (hyperperiod_of phases)
+
+-- how many jobs of a phase arrive in so many ticks, where its period divides them
+abbrev pub arrivals_in : (ticks : ℕ) → Phase → ℕ
+arrivals_in ticks phase = ticks / phase.period * phase.count
+
+-- phases come round soon where in their hyperperiod one of them has few arrivals
+abbrev pub come_round_soon : List Phase → Bool
+come_round_soon phases = list_any (λ (phase : Phase). nat_le (arrivals_in (hyperperiod_of phases) phase) MOST_ARRIVALS) phases
+
+-- the phase that a stimulus keeps beside those that are kept so far: its own, where it has one and with it they still
+-- come round soon
+abbrev pub phase_beside : List Phase → Option Phase → Option Phase
+phase_beside kept None = None
+phase_beside kept (Some phase) = if come_round_soon (phase ∷ kept) then Some phase else None
+
+-- the phases that are kept with one more
+abbrev pub kept_with : List Phase → Option Phase → List Phase
+kept_with kept None = kept
+kept_with kept (Some phase) = phase ∷ kept
+
+-- the pace of a group with this greatest distance between arrivals that keeps a phase, or none
+abbrev pub pace_with : (greatest : ℕ) → Option Phase → Pace
+pace_with greatest None = Free greatest
+pace_with greatest (Some phase) = Kept phase
+
+-- the phases that are kept, along the chain
+unfoldable pub phases_in : List Pace → List Phase
+phases_in [] = []
+phases_in (Kept phase ∷ paces) = phase ∷ phases_in paces
+phases_in (Free greatest ∷ paces) = phases_in paces

@@ -1,0 +1,9 @@
+pub mod Phase
+pub mod Pace
+pub mod Kept
+pub mod Walks
+pub mod TightBounds
+pub mod Walked
+pub mod TightAnswers
+pub mod Inner
+pub mod ExactBounds

@@ -1,0 +1,41 @@
+-- The steps of a group: from a moment to the first arrival that isn't before it, and to the last that isn't after it, as
+-- far as the bounds know. Times are in ticks.
+use Rattle.std.specs.Prelude.{◌≡◌, ℕ, ℤ, pos, ◌+ℤ◌, ◌-ℤ◌, ◌≤ℤ◌, ◌≤◌, ◌-◌, ◌*◌}
+use Rattle.std.specs.Int.{◌∣◌}
+use Rattle.cl_phase.specs.declared.pace.Pace.{Pace}
+use Rattle.cl_phase.specs.declared.pace.Pace.TheVariants.{Kept, Free}
+use Rattle.cl_phase.specs.Phase.{IsPhase, IsArrivalOf, first_arrival, last_arrival}
+
+-- the first arrival at or after a moment; without a phase the latest moment at which it may come
+unfoldable pub first_from : Pace → (moment : ℤ) → ℤ
+first_from (Kept phase) moment = first_arrival phase moment
+first_from (Free greatest) moment = moment +ℤ (pos greatest -ℤ pos 1)
+
+-- the last arrival at or before a moment; without a phase the earliest moment at which it may have come
+unfoldable pub last_by : Pace → (moment : ℤ) → ℤ
+last_by (Kept phase) moment = last_arrival phase moment
+last_by (Free greatest) moment = moment -ℤ (pos greatest -ℤ pos 1)
+
+-- the arrival before one
+abbrev pub previous : Pace → (arrival : ℤ) → ℤ
+previous pace arrival = last_by pace (arrival -ℤ pos 1)
+
+-- a pace that goes on
+abbrev pub IsPace : Pace → Type 0
+IsPace (Kept phase) = IsPhase phase
+IsPace (Free greatest) = 1 ≤ greatest
+
+-- two arrivals of a group, one after the other
+abbrev pub AreNeighbours : Pace → (before after : ℤ) → Type 0
+AreNeighbours (Kept phase) before after = IsArrivalOf phase after × (before ≡ last_arrival phase (after -ℤ pos 1))
+AreNeighbours (Free greatest) before after = after ≤ℤ (before +ℤ pos greatest)
+
+-- after so many ticks the arrivals are the same again
+abbrev pub ComesRound : (ticks : ℕ) → Pace → Type 0
+ComesRound ticks (Kept phase) = phase.period ∣ ticks
+ComesRound ticks (Free greatest) = Unit {0}
+
+-- the greatest distance between two arrivals
+abbrev pub greatest_step : Pace → ℕ
+greatest_step (Kept phase) = phase.period - (phase.count - 1) * phase.distance
+greatest_step (Free greatest) = greatest

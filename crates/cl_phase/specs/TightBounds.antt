@@ -1,0 +1,113 @@
+-- The tight bounds of a chain: the longest that its walks last. Times are in ticks.
+use Rattle.std.specs.Prelude.{ℕ, ℤ, pos, negsuc, ◌+ℤ◌, ◌-ℤ◌, Bool, true, false, ◌==◌, nat_le, List, [], ◌∷◌, map, filter, find, unwrap_or, length}
+use Rattle.std.specs.List.{list_all, range_with_len}
+use Rattle.cl_model.specs.Holds.{greatest_by}
+use Rattle.cl_model.specs.declared.group.Group.{Group}
+use Rattle.cl_model.specs.Timing.{greatest_distance}
+use Rattle.cl_runs.specs.TaskTiming.{System, timing_at}
+use Rattle.cl_bound.specs.Bounds.{Lengths, last_of}
+use Rattle.cl_bound.specs.Hops.{group_timing, delay}
+use Rattle.cl_phase.specs.declared.pace.Phase.{Phase}
+use Rattle.cl_phase.specs.declared.pace.Pace.{Pace}
+use Rattle.cl_phase.specs.declared.pace.Pace.TheVariants.{Kept, Free}
+use Rattle.cl_phase.specs.declared.stop.Stop.{Stop}
+use Rattle.cl_phase.specs.Phase.{phase_of, since_turn, last_in_turn}
+use Rattle.cl_phase.specs.Pace.{previous}
+use Rattle.cl_phase.specs.Kept.{hyperperiod_of, arrivals_in, phase_beside, kept_with, pace_with, phases_in}
+use Rattle.cl_phase.specs.Walks.{pace_at, last_place, arrival_at_last, arrival_at_first}
+
+-- ---- the groups of a chain
+
+-- the delay of the hop from a group to the one after it, where these are the responses of the tasks
+abbrev pub delay_to_next : System → (responses : ℕ → ℕ) → Group → (later : List Group) → ℤ
+delay_to_next system responses group [] = pos 0
+delay_to_next system responses group (next ∷ later) = delay (group_timing system responses group) (group_timing system responses next)
+
+-- groups with their paces, beside the phases that are kept so far, and the delays of their hops
+unfoldable pub stops_beside : System → (responses : ℕ → ℕ) → (kept : List Phase) → List Group → List Stop
+stops_beside system responses kept [] = []
+stops_beside system responses kept (group ∷ later) =
+    let kind = (timing_at system group.task).pattern in
+    let phase = phase_beside kept (phase_of kind) in
+    record { pace = pace_with (greatest_distance kind) phase; delay = delay_to_next system responses group later }
+    ∷ stops_beside system responses (kept_with kept phase) later
+
+-- the groups of a whole chain
+abbrev pub stops_of : System → (responses : ℕ → ℕ) → List Group → List Stop
+stops_of system responses groups = stops_beside system responses [] groups
+
+-- the hyperperiod of the phases that are kept
+abbrev pub hyperperiod_in : List Stop → ℕ
+hyperperiod_in stops = hyperperiod_of (phases_in (map (λ (stop : Stop). stop.pace) stops))
+
+-- ---- where walks start
+
+-- the fewest of the arrivals in so many ticks: a group keeps its phase, and no other that does has fewer
+abbrev pub has_no_fewer : (ticks : ℕ) → Phase → (other : Pace) → Bool
+has_no_fewer ticks phase (Kept other) = nat_le (arrivals_in ticks phase) (arrivals_in ticks other)
+has_no_fewer ticks phase (Free greatest) = true
+
+abbrev pub is_slowest : List Stop → (ticks : ℕ) → Pace → Bool
+is_slowest stops ticks (Kept phase) = list_all (λ (stop : Stop). has_no_fewer ticks phase stop.pace) stops
+is_slowest stops ticks (Free greatest) = false
+
+-- the first group with the fewest arrivals in the hyperperiod, of those that keep their phase; the first group of all
+-- where none does
+unfoldable pub slowest : List Stop → ℕ
+slowest stops =
+    unwrap_or (find (λ place. is_slowest stops (hyperperiod_in stops) (pace_at stops place)) (range_with_len 0 (length stops))) 0
+
+-- a job of the phase arrives at a moment
+abbrev pub arrives_at : Phase → (moment : ℤ) → Bool
+arrives_at phase moment = last_in_turn phase (since_turn phase moment) == since_turn phase moment
+
+-- where walks from a group start: at each of its arrivals in the first hyperperiod, or anywhere where none is fixed
+abbrev pub starts : Pace → (ticks : ℕ) → List ℕ
+starts (Kept phase) ticks = filter (λ moment. arrives_at phase (pos moment)) (range_with_len 0 ticks)
+starts (Free greatest) ticks = 0 ∷ []
+
+-- ---- lengths
+
+-- a number of ticks as it is, 0 where it would be below
+abbrev pub ticks_of : ℤ → ℕ
+ticks_of (pos ticks) = ticks
+ticks_of (negsuc lacking) = 0
+
+-- how long the walks from an arrival of the group of a place last: from the read of the first group's job that just
+-- misses, to the write of the last group's that takes. `span` is the latest write of the last group less the earliest
+-- read of the first, from their arrivals
+abbrev pub length_from : List Stop → (span : ℤ) → (place : ℕ) → (arrival : ℤ) → ℤ
+length_from stops span place arrival = (arrival_at_last stops place arrival -ℤ arrival_at_first stops place arrival) +ℤ span
+
+-- to the write of the job before
+abbrev pub reduced_from : List Stop → (span : ℤ) → (place : ℕ) → (arrival : ℤ) → ℤ
+reduced_from stops span place arrival =
+    (previous (pace_at stops (last_place stops)) (arrival_at_last stops place arrival) -ℤ arrival_at_first stops place arrival) +ℤ span
+
+-- the bounds by the walks from the group of a place: the longest
+unfoldable pub bounds_from : List Stop → (span : ℤ) → (place : ℕ) → Lengths
+bounds_from stops span place =
+    let from = starts (pace_at stops place) (hyperperiod_in stops) in
+    let longest = greatest_by (λ arrival. ticks_of (length_from stops span place (pos arrival))) from in
+    record {
+      reaction = longest;
+      age = longest;
+      reduced = greatest_by (λ arrival. ticks_of (reduced_from stops span place (pos arrival))) from;
+    }
+
+-- ---- the tight bounds
+
+-- the latest write of the last group less the earliest read of the first
+abbrev pub span_of : System → (responses : ℕ → ℕ) → List Group → ℤ
+span_of system responses [] = pos 0
+span_of system responses (first ∷ later) =
+    pos (last_of (group_timing system responses first) (map (group_timing system responses) later)).write
+    -ℤ pos (group_timing system responses first).read
+
+-- The tight bounds of groups of a system that follow each other, where these are the responses of the tasks: by the
+-- walks from the group that has the fewest to make. All groups that keep their phase give the same numbers, which is a
+-- law.
+unfoldable pub tight_bounds : System → (responses : ℕ → ℕ) → List Group → Lengths
+tight_bounds system responses groups =
+    let stops = stops_of system responses groups in
+    bounds_from stops (span_of system responses groups) (slowest stops)

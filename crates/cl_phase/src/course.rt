@@ -1,0 +1,102 @@
+//! The groups of a chain, put together for its walks. Times are in ticks.
+ghost use Rattle.std.specs.Prelude.{◌≡◌, ◌<◌, ◌≤◌, false, length, All};
+ghost use Rattle.cl_model.specs.declared.limits.TheConstants.{MOST_TICKS, MOST_STEPS};
+ghost use Rattle.cl_model.specs.Groups.{IsGroupOf};
+ghost use Rattle.cl_model.specs.Validity.{IsValid};
+ghost use Rattle.cl_runs.specs.SystemOf.{system_of};
+ghost use Rattle.cl_bound.specs.Answers.{answer_at, is_late, response_in, NoneIsLate};
+ghost use Rattle.cl_bound.specs.Hops.{IsNear, IsIntegerWithin};
+ghost use Rattle.cl_phase.specs.TightAnswers.{tight_answers_of};
+ghost use Rattle.cl_phase.specs.Inner.Course.{tight_timing, delay_from, next_from, IsCourseOf};
+
+use crate::keeping::Keeping;
+use crate::stop::Stop;
+use arrayvec::ArrayVec;
+use cl_bound::{GroupTiming, TaskAnswer};
+use cl_model::{Group, List, MOST_STEPS, ValidModel};
+
+/// The groups of a chain, which phases they keep, and how long it is from the earliest read of the first group to the
+/// latest write of the last, from their arrivals.
+#[derive(Drop)]
+pub(crate) struct Course {
+    pub(crate) stops: ArrayVec<Stop, MOST_STEPS>,
+    pub(crate) keeping: Keeping,
+    pub(crate) span: i64,
+}
+
+/// The response of a task in ticks, and 0 where it is late and has none.
+fn response_in(answer: &TaskAnswer) -> u64
+    ensures { result ≡ response_in answer.now }
+{
+    match answer {
+        TaskAnswer::Settled(settled) => settled.response(),
+        TaskAnswer::Late => 0,
+    }
+}
+
+/// What the bounds know of a group of a valid model whose tasks have these tight answers, where the group's task isn't
+/// late.
+fn timing_of(model: &ValidModel, group: Group, settled: &List<TaskAnswer>) -> GroupTiming
+    requires group { IsGroupOf model.now group }
+    requires answers { settled.now ≡ tight_answers_of (system_of model.now) }
+    requires not_late { is_late (answer_at settled.now group.task) ≡ false }
+    ensures timing { result ≡ tight_timing (system_of model.now) group }
+    ensures near { IsNear result }
+    ensures valid { IsValid model.now }
+{
+    let response = response_in(&settled.as_slice()[group.task as usize]);
+    GroupTiming::of(model, group, response)
+}
+
+/// The delay from a group to the first of those after it, and that one.
+fn hop_to_next(
+    model: &ValidModel,
+    timing: GroupTiming,
+    later: &[Group],
+    settled: &List<TaskAnswer>,
+) -> (i64, GroupTiming)
+    requires near { IsNear timing }
+    requires of_tasks { All (IsGroupOf model.now) later.now }
+    requires answers { settled.now ≡ tight_answers_of (system_of model.now) }
+    requires not_late { NoneIsLate settled.now later.now }
+    ensures delay { result.0 ≡ delay_from (system_of model.now) timing later.now }
+    ensures small { IsIntegerWithin MOST_TICKS result.0 }
+    ensures next { result.1 ≡ next_from (system_of model.now) timing later.now }
+    ensures near { IsNear result.1 }
+{
+    if later.is_empty() {
+        return (0, timing);
+    }
+    let next = timing_of(model, later[0], settled);
+    (timing.delay(&next) as i64, next)
+}
+
+/// Groups of a valid model that follow each other, from the tight answer for each of its tasks, put together for walks.
+///
+/// It looks at each group once, and takes no memory.
+pub(crate) fn course_of(model: &ValidModel, groups: &[Group], settled: &List<TaskAnswer>) -> Course
+    requires some { 0 < length groups.now }
+    requires few { length groups.now ≤ MOST_STEPS }
+    requires of_tasks { All (IsGroupOf model.now) groups.now }
+    requires answers { settled.now ≡ tight_answers_of (system_of model.now) }
+    requires not_late { NoneIsLate settled.now groups.now }
+    ensures course { IsCourseOf (system_of model.now) groups.now result }
+    ensures valid { IsValid model.now }
+{
+    let mut stops = ArrayVec::new();
+    let mut keeping = Keeping::new();
+    let mut timing = timing_of(model, groups[0], settled);
+    let read = timing.read();
+    for i in 0..groups.len() {
+        let (pace, with) = keeping.beside(model.stimulus_of(groups[i].task));
+        let (delay, next) = hop_to_next(model, timing, &groups[i + 1..], settled);
+        stops.push(Stop { pace, delay });
+        keeping = with;
+        timing = next;
+    }
+    Course {
+        stops,
+        keeping,
+        span: timing.write() as i64 - read as i64,
+    }
+}

@@ -1,0 +1,20 @@
+//! Tight bounds on the reaction, the age and the reduced age of a chain: bounds that know how the arrivals of its tasks
+//! stand to each other.
+//!
+//! Only the walk that is shown takes memory. Times are in ticks.
+#![tactic(auto)]
+
+mod bounding;
+mod course;
+mod keeping;
+pub mod laws;
+mod pace;
+mod scanning;
+mod stop;
+mod walk;
+mod walked;
+
+pub use bounding::{tight_bounds, tight_bounds_of_groups};
+pub use pace::{MOST_ARRIVALS, Pace, Phase};
+pub use stop::Stop;
+pub use walked::{Walked, walk_lasting};

@@ -1,0 +1,137 @@
+//! The walk of a chain that shows why its tight bound is what it is. Times are in ticks.
+ghost use Rattle.std.specs.Prelude.{◌≡◌, ◌<◌, ◌≤◌, pos, length, IfOk};
+ghost use Rattle.cl_bound.specs.Answers.{NoneIsLate};
+ghost use Rattle.cl_bound.specs.Hops.{IsIntegerWithin};
+ghost use Rattle.cl_model.specs.declared.limits.TheConstants.{MOST_TICKS};
+ghost use Rattle.cl_model.specs.Groups.{groups_at};
+ghost use Rattle.cl_runs.specs.SystemOf.{system_of};
+ghost use Rattle.cl_phase.specs.declared.pace.Pace.{Pace};
+ghost use Rattle.cl_phase.specs.TightAnswers.{tight_answers_of};
+ghost use Rattle.cl_phase.specs.TightBounds.{starts};
+ghost use Rattle.cl_phase.specs.Walks.{pace_at};
+ghost use Rattle.cl_phase.specs.Walked.{start_among, missed, taken, walked_of};
+ghost use Rattle.cl_phase.specs.Inner.Ranges.{FARTHEST_START, MOST_HYPERPERIOD, AreStopsInRange};
+
+use crate::course::course_of;
+use crate::pace::{Pace, Phase};
+use crate::stop::Stop;
+use crate::walk::{arrival_back, arrival_onward, lengths_at};
+use cl_bound::TaskAnswer;
+use cl_model::{List, ValidModel};
+use cl_time::NoMemory;
+use std::alloc::Global;
+
+/// The arrivals of a walk along the groups of a chain.
+#[derive(Debug, PartialEq, Eq, Drop)]
+pub struct Walked {
+    /// The group from which the walk starts.
+    pub place: usize,
+    /// Those of the jobs that just miss, from the first group to that one.
+    pub missed: List<i64>,
+    /// Those of the jobs that take, from that group to the last.
+    pub taken: List<i64>,
+}
+
+/// The first arrival of the group of a place, which keeps this phase, whose walks last this long, of those in the first
+/// so many ticks.
+fn start_of_phase(
+    stops: &[Stop],
+    span: i64,
+    place: usize,
+    phase: &Phase,
+    ticks: u64,
+    reaction: u64,
+) -> i64
+    requires stops { AreStopsInRange stops.now }
+    requires span { IsIntegerWithin MOST_TICKS span }
+    requires place { place < length stops.now }
+    requires phase { pace_at stops.now place ≡ Pace.Kept phase.now }
+    requires few { ticks ≤ MOST_HYPERPERIOD }
+    ensures start { result ≡ pos (start_among stops.now span place reaction (starts (Pace.Kept phase.now) ticks)) }
+    ensures near { IsIntegerWithin FARTHEST_START result }
+{
+    let mut arrival = phase.first_arrival(0);
+    while arrival < ticks as i64 {
+        if lengths_at(stops, span, place, arrival).length == reaction {
+            return arrival;
+        }
+        arrival = phase.first_arrival(arrival + 1);
+    }
+    0
+}
+
+/// The first of the starts from the group of a place in the first so many ticks whose walks last this long.
+fn start_of(stops: &[Stop], span: i64, place: usize, ticks: u64, reaction: u64) -> i64
+    requires stops { AreStopsInRange stops.now }
+    requires span { IsIntegerWithin MOST_TICKS span }
+    requires place { place < length stops.now }
+    requires few { ticks ≤ MOST_HYPERPERIOD }
+    ensures start { result ≡ pos (start_among stops.now span place reaction (starts (pace_at stops.now place) ticks)) }
+    ensures near { IsIntegerWithin FARTHEST_START result }
+{
+    match &stops[place].pace {
+        Pace::Kept(phase) => start_of_phase(stops, span, place, phase, ticks, reaction),
+        Pace::Free { .. } => 0,
+    }
+}
+
+/// The arrivals of the jobs that just miss, from the first group to that of a place.
+fn missed(alloc: Global, stops: &[Stop], place: usize, start: i64) -> Result<List<i64>, NoMemory>
+    requires stops { AreStopsInRange stops.now }
+    requires place { place < length stops.now }
+    requires start { IsIntegerWithin FARTHEST_START start }
+    ensures { IfOk result (λ arrivals. arrivals ≡ missed stops.now place start) }
+{
+    let mut arrivals = List::new(alloc);
+    for group in 0..place + 1 {
+        arrivals.push(arrival_back(stops, place, start, group))?;
+    }
+    Ok(arrivals)
+}
+
+/// The arrivals of the jobs that take, from the group of a place to the last.
+fn taken(alloc: Global, stops: &[Stop], place: usize, start: i64) -> Result<List<i64>, NoMemory>
+    requires stops { AreStopsInRange stops.now }
+    requires place { place < length stops.now }
+    requires start { IsIntegerWithin FARTHEST_START start }
+    ensures { IfOk result (λ arrivals. arrivals ≡ taken stops.now place start) }
+{
+    let mut arrivals = List::new(alloc);
+    for hops in 0..stops.len() - place {
+        arrivals.push(arrival_onward(stops, place, start, place + hops))?;
+    }
+    Ok(arrivals)
+}
+
+/// The walk of a chain of a valid model, given by its number, that lasts this long, from the tight answer for each task,
+/// where none of the chain's is late: the first one from the slowest group whose phase is kept.
+///
+/// `NoMemory` comes where there is no memory for the arrivals; it leaves nothing.
+pub fn walk_lasting(
+    alloc: Global,
+    model: &ValidModel,
+    chain: u32,
+    settled: &List<TaskAnswer>,
+    reaction: u64,
+) -> Result<Walked, NoMemory>
+    requires is_chain { chain < length model.now.chains }
+    requires answers { settled.now ≡ tight_answers_of (system_of model.now) }
+    requires not_late { NoneIsLate settled.now (groups_at model.now chain) }
+    ensures { IfOk result (λ walk. walk ≡ walked_of (system_of model.now) (groups_at model.now chain) reaction) }
+{
+    let course = course_of(model, model.groups(chain), settled);
+    let stops = course.stops.as_slice();
+    let place = course.keeping.slowest(stops);
+    let start = start_of(
+        stops,
+        course.span,
+        place,
+        course.keeping.hyperperiod,
+        reaction,
+    );
+    Ok(Walked {
+        place,
+        missed: missed(alloc, stops, place, start)?,
+        taken: taken(alloc, stops, place, start)?,
+    })
+}

@@ -1,0 +1,96 @@
+//! The texts of tight findings.
+ghost use Rattle.std.specs.Prelude.{◌≡◌, ◌<◌, ◌++◌, length, OnOk, IfOk};
+ghost use Rattle.cl_tight.specs.TightFindings.{tight_chain_answers_of, tight_findings_of};
+ghost use Rattle.cl_report.specs.Report.{bound_lines};
+ghost use Rattle.cl_report.specs.Tight.{tight_text, late_line, late_lines, verify_text};
+
+use crate::lines::{put_chain, put_task, put_tasks};
+use crate::requirement_lines::put_requirements;
+use cl_analyse::ChainAnswer;
+use cl_bound::TaskAnswer;
+use cl_model::{List, ValidModel};
+use cl_text::Text;
+use cl_tight::TightFindings;
+use cl_time::NoMemory;
+use std::alloc::Global;
+
+/// The report of a model by tight responses and tight bounds: a title, a line for each task, a line for each chain, and
+/// a line for each requirement, each in file order. Times are in ticks. The findings are those of the model.
+///
+/// `NoMemory` comes where there is no memory for the text; it leaves nothing.
+pub fn tight_report(
+    alloc: Global,
+    model: &ValidModel,
+    findings: &TightFindings,
+) -> Result<Text, NoMemory>
+    requires { findings.now ≡ tight_findings_of model.now }
+    ensures { IfOk result (λ text. text ≡ tight_text model.now) }
+{
+    let mut text = Text::new(alloc);
+    text.put(b"chainlat tight 1\n")?;
+    put_tasks(&mut text, model, &findings.tasks)?;
+    put_bounded(&mut text, model, &findings.chains)?;
+    put_requirements(&mut text, model, &findings.verdicts)?;
+    Ok(text)
+}
+
+/// What verifies a model or keeps it from that: a title, a line for each task that is late by tight responses, and a
+/// line for each requirement, each in file order. Times are in ticks. The findings are those of the model.
+///
+/// `NoMemory` comes where there is no memory for the text; it leaves nothing.
+pub fn verify_report(
+    alloc: Global,
+    model: &ValidModel,
+    findings: &TightFindings,
+) -> Result<Text, NoMemory>
+    requires { findings.now ≡ tight_findings_of model.now }
+    ensures { IfOk result (λ text. text ≡ verify_text model.now) }
+{
+    let mut text = Text::new(alloc);
+    text.put(b"chainlat verify 1\n")?;
+    put_late(&mut text, model, &findings.tasks)?;
+    put_requirements(&mut text, model, &findings.verdicts)?;
+    Ok(text)
+}
+
+/// Puts the lines of all chains. The answers are those of the model by tight bounds.
+fn put_bounded(
+    text: &mut Text,
+    model: &ValidModel,
+    chains: &List<ChainAnswer>,
+) -> Result<(), NoMemory>
+    requires { chains.now ≡ tight_chain_answers_of model.now }
+    ensures { OnOk result (text.new ≡ text.old ++ bound_lines model.now chains.now) }
+{
+    for chain in 0..model.chains() {
+        put_chain(text, model, &chains.as_slice()[chain as usize], chain)?;
+    }
+    Ok(())
+}
+
+/// Puts the lines of the tasks that are late, of one answer for each task.
+fn put_late(text: &mut Text, model: &ValidModel, tasks: &List<TaskAnswer>) -> Result<(), NoMemory>
+    requires { length tasks.now ≡ length model.now.tasks }
+    ensures { OnOk result (text.new ≡ text.old ++ late_lines model.now tasks.now) }
+{
+    for task in 0..model.tasks() {
+        put_if_late(text, model, &tasks.as_slice()[task as usize], task)?;
+    }
+    Ok(())
+}
+
+/// Puts the line of a task if it is late.
+fn put_if_late(
+    text: &mut Text,
+    model: &ValidModel,
+    answer: &TaskAnswer,
+    task: u32,
+) -> Result<(), NoMemory>
+    requires { task < length model.now.tasks }
+    ensures { OnOk result (text.new ≡ text.old ++ late_line model.now answer.now task) }
+{
+    match answer {
+        TaskAnswer::Settled(_) => Ok(()),
+        TaskAnswer::Late => put_task(text, model, answer, task),
+    }
+}

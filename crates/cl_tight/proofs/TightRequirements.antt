@@ -1,0 +1,141 @@
+-- Requirements by tight findings: what is met is kept, and what is broken is broken in some legal run.
+use Rattle.std.proofs.Common.{◌≡◌, ◌⊎◌, ℕ, ◌≤◌, ◌<◌, Bool, true, false, Option, Some, inl, inr, List, length, get_or, refl, sym, ap, ◌∙◌, arith}
+use Rattle.std.proofs.Math.ListN.{length-map}
+use Rattle.std.proofs.Math.Nat.{lt_of_not-le}
+use Rattle.std.proofs.lemmas.List.{get_or_past}
+use Rattle.cl_model.specs.declared.model.SystemModel.{SystemModel}
+use Rattle.cl_model.specs.declared.chain.LengthKind.{LengthKind}
+use Rattle.cl_model.specs.declared.chain.LengthKind.TheVariants.{Reaction, Age, Reduced}
+use Rattle.cl_model.specs.declared.chain.RequirementDef.{RequirementDef}
+use Rattle.cl_model.specs.declared.group.Group.{Group}
+use Rattle.cl_model.specs.Groups.{groups_at}
+use Rattle.cl_model.specs.Validity.{IsValid}
+use Rattle.cl_model.proofs.GroupFacts.{groups_at_are}
+use Rattle.cl_runs.specs.TaskTiming.{System}
+use Rattle.cl_runs.specs.SystemOf.{system_of}
+use Rattle.cl_runs.proofs.ModelSystem.{system_sound}
+use Rattle.cl_bound.specs.Answers.{NoneIsLate}
+use Rattle.cl_bound.specs.Bounds.{Lengths}
+use Rattle.cl_exact.specs.ExactLengths.{Witnesses, chain_of}
+use Rattle.cl_exact.specs.RunPromises.{HaveResponses, HasWitnessRun}
+use Rattle.cl_exact.proofs.ExactOnce.{within_or_past}
+use Rattle.cl_exact.proofs.RunExact.{witness_run}
+use Rattle.cl_exact.proofs.RunTasks.{settled_timed_groups}
+use Rattle.cl_exact.proofs.SomeExact.{exact_lengths_exist}
+use Rattle.cl_phase.specs.TightAnswers.{tight_answers_of, tight_response}
+use Rattle.cl_phase.specs.ExactBounds.{AreLengthsOf}
+use Rattle.cl_phase.proofs.ModelTight.{tight_of_chain}
+use Rattle.cl_analyse.specs.declared.findings.ChainAnswer.TheVariants.{Bounds, Late}
+use Rattle.cl_analyse.specs.declared.findings.Verdict.TheVariants.{Met, Broken}
+use Rattle.cl_analyse.specs.ChainAnswers.{chain_answer_at}
+use Rattle.cl_analyse.specs.Verdicts.{bound_of_kind, witness_of_kind, bound_value, required_chain}
+use Rattle.cl_analyse.specs.Headline.{IsKept, IsBroken}
+use Rattle.cl_analyse.proofs.KeptRequirements.{met_by, broken_by, bound_valued, kind_bound, HasChain}
+use Rattle.cl_tight.specs.TightFindings.{tight_chain_answer_of, tight_chain_answers_of, has_exact_bounds, exact_bound, tight_verdict_of}
+use Rattle.cl_tight.proofs.CommonPeriods.{exact_where}
+use Rattle.cl_tight.proofs.TightChains.{timely_task, own_bounds, tight_given, tight_bounds_hold}
+
+-- ---- kinds
+
+-- the bound of a kind that is exact is the length of its witness
+length_of_kind : (kind : LengthKind) (bounds : Lengths) (exact : Witnesses) → AreLengthsOf bounds exact → bound_of_kind kind bounds ≡ (witness_of_kind kind exact).length
+length_of_kind Reaction bounds exact are = are.reaction
+length_of_kind Age bounds exact are = are.age
+length_of_kind Reduced bounds exact are = are.reduced
+
+-- the run of the witnesses has a chain of each exact length
+kind_witness : (system : System) (groups : List Group) (kind : LengthKind) (exact : Witnesses) → (has : HasWitnessRun system groups exact)
+    → HasChain system groups has.run kind (witness_of_kind kind exact).length
+kind_witness system groups Reaction exact has = record { chain = chain_of exact.reaction; complete = has.reaction.is_chain; is_long = has.reaction.length }
+kind_witness system groups Age exact has = record { chain = chain_of exact.age; complete = has.age.is_chain; is_long = has.age.length }
+kind_witness system groups Reduced exact has = record { chain = chain_of exact.reduced; complete = has.reduced.is_chain; is_long = has.reduced.length }
+
+-- ---- exact bounds
+
+-- a bound that is said exact is so, and is the bound
+exact_bounded : (is_exact : Bool) (bound : Option ℕ) (value : ℕ) → exact_bound is_exact bound ≡ Some value → (is_exact ≡ true) × (bound ≡ Some value)
+exact_bounded true bound value is = (refl, is)
+exact_bounded false bound value is = absurd cc
+
+bound_of_either : (is_exact : Bool) (bound : Option ℕ) (value : ℕ) → (exact_bound is_exact bound ≡ Some value) ⊎ (bound ≡ Some value) → bound ≡ Some value
+bound_of_either is_exact bound value (inl exact) = (exact_bounded is_exact bound value exact).1
+bound_of_either is_exact bound value (inr is) = is
+
+module _ (model : SystemModel) (valid : IsValid model) where
+  abbrev system : System
+  system = system_of model
+
+  -- a chain that has tight bounds is a chain of the model
+  bounded_chain : (chain : ℕ) (bounds : Lengths) → chain_answer_at (tight_chain_answers_of model) chain ≡ Bounds bounds → chain < length model.chains
+  bounded_chain chain bounds is =
+      lt_of_not-le (λ past. not_late (sym (get_or_past (tight_chain_answers_of model) chain (Late 0) (omega (arith, past, length-map model.chains (tight_chain_answer_of model)))) ∙ is))
+    where
+      not_late : Late 0 ≡ Bounds bounds → ⊥
+      not_late e = cc
+
+  -- ---- tight bounds that are exact occur
+
+  module _ (chain : ℕ) (within : chain < length model.chains) where
+    abbrev groups : List Group
+    groups = groups_at model chain
+
+    responses : NoneIsLate (tight_answers_of system) groups → HaveResponses system groups
+    responses timely place d h = record {
+      response = tight_response system (get_or groups place d).task;
+      timely = timely_task model valid (get_or groups place d).task (groups_at_are model valid chain place d h).known (timely place d h);
+    }
+
+    -- in some legal run a complete chain of each kind is as long as the tight bound
+    bounds_occur : has_exact_bounds model chain ≡ true → NoneIsLate (tight_answers_of system) groups
+        → (exact : Witnesses) × HasWitnessRun system groups exact × AreLengthsOf (own_bounds model valid chain) exact
+    bounds_occur rule timely =
+        let (timed, limit) = exact_where model valid chain rule in
+        elim (exact_lengths_exist model valid chain within timed) [
+          | inl (exact, are, _) ↦ (
+            exact,
+            witness_run system (system_sound model valid) groups (settled_timed_groups model groups (groups_at_are model valid chain) timed (responses timely)) exact are,
+            tight_of_chain model valid (tight_response system) chain within timed limit exact are,
+          )
+          | inr past ↦ absurd (within_or_past system groups limit past)
+        ]
+
+  -- ---- verdicts
+
+  module _ (requirement : RequirementDef) where
+    abbrev chain : ℕ
+    chain = required_chain model requirement
+
+    abbrev bound : Option ℕ
+    bound = bound_value requirement.kind (chain_answer_at (tight_chain_answers_of model) chain)
+
+    kept_by : (value : ℕ) → value ≤ requirement.most → bound ≡ Some value → IsKept model requirement
+    kept_by value within is =
+        let (bounds, given, same) = bound_valued requirement.kind (chain_answer_at (tight_chain_answers_of model) chain) value is in
+        let safe = tight_bounds_hold model valid chain (bounded_chain chain bounds given) bounds given in
+        λ run legal job_chain complete.
+        let longest = kind_bound system (groups_at model chain) run job_chain requirement.kind bounds (safe run legal) complete in
+        omega (arith, longest, same, within)
+
+    pub met_kept : (value : ℕ) → tight_verdict_of model (tight_chain_answers_of model) requirement ≡ Met value → IsKept model requirement
+    unfolding tight_verdict_of
+    met_kept value is =
+        let (own, within, from) = met_by requirement.most value (exact_bound (has_exact_bounds model chain) bound) bound is in
+        kept_by own within (bound_of_either (has_exact_bounds model chain) bound own from)
+
+    broken_by_bound : (value : ℕ) → requirement.most < value → has_exact_bounds model chain ≡ true → bound ≡ Some value → IsBroken model requirement
+    broken_by_bound value past rule is =
+        let (bounds, given, same) = bound_valued requirement.kind (chain_answer_at (tight_chain_answers_of model) chain) value is in
+        let within = bounded_chain chain bounds given in
+        let (timely, own) = tight_given model valid chain within bounds given in
+        let (exact, has, are) = bounds_occur chain within rule timely in
+        let found = kind_witness system (groups_at model chain) requirement.kind exact has in
+        let long = length_of_kind requirement.kind (own_bounds model valid chain) exact are in
+        let as_long = ap (bound_of_kind requirement.kind) own in
+        record { run = has.run; legal = has.legal; chain = found.chain; complete = found.complete; longer = omega (arith, past, same, as_long, long, found.is_long) }
+
+    pub broken_is : (value : ℕ) → tight_verdict_of model (tight_chain_answers_of model) requirement ≡ Broken value → IsBroken model requirement
+    unfolding tight_verdict_of
+    broken_is value is =
+        let (exact, past) = broken_by requirement.most value (exact_bound (has_exact_bounds model chain) bound) bound is in
+        let (rule, own) = exact_bounded (has_exact_bounds model chain) bound value exact in
+        broken_by_bound value past rule own

@@ -1,0 +1,2 @@
+pub mod TightFindings
+pub mod Promises

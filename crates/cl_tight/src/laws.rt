@@ -1,0 +1,26 @@
+//! Tight findings of a valid model are safe, at least as tight as those of the report, and verify what they say.
+ghost use Rattle.std.specs.Prelude.{◌≡◌, true};
+ghost use Rattle.cl_model.specs.declared.model.SystemModel.{SystemModel};
+ghost use Rattle.cl_model.specs.Validity.{IsValid};
+ghost use Rattle.cl_analyse.specs.declared.findings.Findings.{Findings};
+ghost use Rattle.cl_analyse.specs.Findings.{AreFindings};
+ghost use Rattle.cl_tight.specs.TightFindings.{tight_findings_of, is_verified};
+ghost use Rattle.cl_tight.specs.Promises.{AreSafeTightFindings, AreAsTight, IsInTime};
+
+/// In every legal run of a valid model, of any length, each job of a settled task finishes within its tight response,
+/// and no complete chain is longer than its tight bound. What is met is kept, and what is broken is broken in some run.
+pub fn tight_findings_are_safe()
+    ensures { (model : SystemModel) → IsValid model → AreSafeTightFindings model (tight_findings_of model) }
+{}
+
+/// Tight responses are no later than the report's, tight bounds no greater, and where the report has exact lengths they
+/// are these.
+pub fn tight_findings_are_as_tight()
+    ensures { (model : SystemModel) → IsValid model → (report : Findings) → AreFindings model report
+        → AreAsTight model (tight_findings_of model) report }
+{}
+
+/// A model that is verified is in time.
+pub fn verified_models_are_in_time()
+    ensures { (model : SystemModel) → IsValid model → is_verified (tight_findings_of model) ≡ true → IsInTime model }
+{}

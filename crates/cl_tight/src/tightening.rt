@@ -1,0 +1,190 @@
+//! Tight findings. Times are in ticks.
+ghost use Rattle.std.specs.Prelude.{◌≡◌, ◌+◌, ◌<◌, ◌≤◌, not, length, map, IsTrue, IfOk};
+ghost use Rattle.std.specs.List.{list_all};
+ghost use Rattle.cl_model.specs.ByNumber.{chain_at};
+ghost use Rattle.cl_model.specs.Validity.{IsValid};
+ghost use Rattle.cl_runs.specs.SystemOf.{system_of};
+ghost use Rattle.cl_runs.specs.TaskTiming.{timing_at};
+ghost use Rattle.cl_bound.specs.Answers.{is_late};
+ghost use Rattle.cl_phase.specs.TightAnswers.{tight_answer_to, tight_answers_of};
+ghost use Rattle.cl_analyse.specs.Verdicts.{required_chain};
+ghost use Rattle.cl_tight.specs.TightFindings.{tight_chain_answer_of, tight_chain_answers_of, has_exact_bounds, tight_verdict_of, tight_findings_of, is_met, is_verified};
+ghost use Rattle.cl_tight.specs.Promises.{AreSafeTightFindings, IsInTime};
+
+use crate::findings::TightFindings;
+use cl_analyse::{ChainAnswer, Verdict, answer_question, bound_value, first_late, verdict_on};
+use cl_bound::TaskAnswer;
+use cl_exact::{is_timed_periodic, is_within_limit};
+use cl_model::{List, RequirementDef, ValidModel};
+use cl_phase::tight_bounds;
+use cl_resp::ask_tight;
+use cl_time::{NoMemory, Steps};
+use std::alloc::Global;
+use std::sync::ledger::Ledger;
+
+/// What is found of a model by tight responses and tight bounds: the tight response of each task, the tight bounds of
+/// each chain none of whose tasks is late by them, and the verdict on each requirement.
+///
+/// In each legal run, of any length, each job of a settled task finishes within its response of its arrival where the
+/// run lasts so long, and each bound is at least the length of each complete chain of its kind. A requirement that is
+/// met is kept by each complete chain, and one that is broken isn't by some chain of some legal run.
+///
+/// It counts a step for each task. `NoMemory` comes where there is no memory for the findings or for a question; it
+/// leaves nothing.
+pub fn tighten<L: Ledger>(
+    alloc: Global,
+    model: &ValidModel,
+    steps: &mut Steps<L>,
+) -> Result<TightFindings, NoMemory>
+    ensures findings { IfOk result (λ findings. findings ≡ tight_findings_of model.now) }
+    ensures safe { IfOk result (AreSafeTightFindings model.now) }
+    ensures steps { steps.new ≤ steps.old + length model.now.tasks }
+{
+    let tasks = answer_tasks(alloc, model, steps)?;
+    let chains = answer_chains(alloc, model, &tasks)?;
+    let verdicts = judge_all(alloc, model, &chains)?;
+    Ok(TightFindings {
+        tasks,
+        chains,
+        verdicts,
+    })
+}
+
+/// The answers to the tight questions of all tasks.
+fn answer_tasks<L: Ledger>(
+    alloc: Global,
+    model: &ValidModel,
+    steps: &mut Steps<L>,
+) -> Result<List<TaskAnswer>, NoMemory>
+    ensures answers { IfOk result (λ answers. answers ≡ tight_answers_of (system_of model.now)) }
+    ensures steps { steps.new ≤ steps.old + length model.now.tasks }
+    ensures valid { IsValid model.now }
+{
+    let mut answers = List::new(alloc);
+    for task in 0..model.tasks() {
+        answers.push(answer_task(alloc, model, task, steps)?)?;
+    }
+    Ok(answers)
+}
+
+/// The answer to the tight question of a task.
+fn answer_task<L: Ledger>(
+    alloc: Global,
+    model: &ValidModel,
+    task: u32,
+    steps: &mut Steps<L>,
+) -> Result<TaskAnswer, NoMemory>
+    requires { task < length model.now.tasks }
+    ensures answer { IfOk result (λ answer. answer ≡ tight_answer_to (system_of model.now) (timing_at (system_of model.now) task)) }
+    ensures steps { steps.new ≤ steps.old + 1 }
+{
+    let question = ask_tight(alloc, model, task)?;
+    Ok(answer_question(&question, steps))
+}
+
+/// The answers for all chains, from those for all tasks.
+fn answer_chains(
+    alloc: Global,
+    model: &ValidModel,
+    tasks: &List<TaskAnswer>,
+) -> Result<List<ChainAnswer>, NoMemory>
+    requires { tasks.now ≡ tight_answers_of (system_of model.now) }
+    ensures { IfOk result (λ answers. answers ≡ tight_chain_answers_of model.now) }
+{
+    let mut answers = List::new(alloc);
+    for chain in 0..model.chains() {
+        answers.push(answer_chain(model, chain, tasks))?;
+    }
+    Ok(answers)
+}
+
+/// The answer for a chain, from those for all tasks: its tight bounds, or the first of its tasks that is late.
+fn answer_chain(model: &ValidModel, chain: u32, tasks: &List<TaskAnswer>) -> ChainAnswer
+    requires chain { chain < length model.now.chains }
+    requires answers { tasks.now ≡ tight_answers_of (system_of model.now) }
+    ensures { result ≡ tight_chain_answer_of model.now (chain_at model.now chain) }
+{
+    match first_late(model, chain, tasks) {
+        Some(task) => ChainAnswer::Late { task },
+        None => ChainAnswer::Bounds(tight_bounds(model, chain, tasks)),
+    }
+}
+
+/// Whether the tight bounds of a chain are its exact lengths.
+fn has_exact_bounds(model: &ValidModel, chain: u32) -> bool
+    requires chain { chain < length model.now.chains }
+    requires valid { IsValid model.now }
+    ensures { result ≡ has_exact_bounds model.now chain }
+{
+    is_timed_periodic(model, chain) && is_within_limit(model, chain)
+}
+
+/// The verdicts on all requirements.
+fn judge_all(
+    alloc: Global,
+    model: &ValidModel,
+    chains: &List<ChainAnswer>,
+) -> Result<List<Verdict>, NoMemory>
+    ensures { IfOk result (λ verdicts. verdicts ≡ map (tight_verdict_of model.now chains.now) model.now.requirements) }
+{
+    let mut verdicts = List::new(alloc);
+    for requirement in model.plain().requirements.as_slice() {
+        verdicts.push(judge(model, chains, requirement))?;
+    }
+    Ok(verdicts)
+}
+
+/// The verdict on a requirement of the model.
+fn judge(model: &ValidModel, chains: &List<ChainAnswer>, requirement: &RequirementDef) -> Verdict
+    requires known { required_chain model.now requirement.now < length model.now.chains }
+    requires valid { IsValid model.now }
+    ensures { result ≡ tight_verdict_of model.now chains.now requirement.now }
+{
+    let chain = model.chain_named(&requirement.chain).unwrap_or(0);
+    let bound = bound_value(chains, chain, requirement.kind);
+    let exact = if has_exact_bounds(model, chain) {
+        bound
+    } else {
+        None
+    };
+    verdict_on(requirement.most, exact, bound)
+}
+
+/// Whether each task is settled and each requirement met. Then, in each legal run of any length, every job whose
+/// deadline lies within the run has finished by then, and every complete chain of each requirement's chain and kind
+/// is at most as long as it says. The findings are those of the model.
+pub fn is_verified(model: &ValidModel, findings: &TightFindings) -> bool
+    requires { findings.now ≡ tight_findings_of model.now }
+    ensures verified { result ≡ is_verified findings.now }
+    ensures in_time { IsTrue result → IsInTime model.now }
+{
+    are_in_time(model, findings.tasks.as_slice()) && are_met(findings.verdicts.as_slice())
+}
+
+/// Whether no task of the model is late, by the tight answers for all of them.
+fn are_in_time(model: &ValidModel, answers: &[TaskAnswer]) -> bool
+    requires { answers.now ≡ tight_answers_of (system_of model.now) }
+    ensures timely { result ≡ list_all (λ answer. not (is_late answer)) answers.now }
+    ensures valid { IsValid model.now }
+{
+    for task in 0..model.tasks() {
+        if answers[task as usize].is_late() {
+            return false;
+        }
+    }
+    true
+}
+
+/// Whether each requirement is met.
+fn are_met(verdicts: &[Verdict]) -> bool
+    ensures { result ≡ list_all is_met verdicts.now }
+{
+    verdicts.iter().all(|verdict| is_met(verdict))
+}
+
+/// Whether a requirement is met.
+fn is_met(verdict: &Verdict) -> bool
+    ensures { result ≡ is_met verdict.now }
+{
+    matches!(verdict, Verdict::Met { .. })
+}

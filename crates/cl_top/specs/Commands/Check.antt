@@ -1,0 +1,43 @@
+-- `check MODEL`: what to mend in a model file that is refused, or what to know of one that is accepted.
+use Rattle.std.specs.Prelude.{◌≡◌, ◌⊎◌, List, ℕ, ◌++◌, codes, Option, Some, None, Result, Ok, Err}
+use Rattle.toml.specs.Data.{Members}
+use Rattle.cl_text.specs.Line.{line}
+use Rattle.cl_model.specs.declared.model.SystemModel.{SystemModel}
+use Rattle.cl_model.specs.declared.refusal.Refusal.{Refusal}
+use Rattle.cl_model.specs.Reading.{document_of, model_of}
+use Rattle.cl_model.specs.Refusal.{refusal_text}
+use Rattle.cl_model.specs.Validity.{refusal_of}
+use Rattle.cl_advice.specs.Advice.{AddsUnread, AddsAdvice}
+use Rattle.cl_explain.specs.Accepted.{accepted_text}
+use Rattle.cl_top.specs.declared.outcome.Outcome.{Outcome}
+use Rattle.cl_top.specs.declared.status.TheConstants.{MODEL_REFUSED}
+use Rattle.cl_top.specs.Done.{HasStatusAndText, IsDone}
+
+-- the line of a refusal of a model, of every command
+abbrev pub refusal_line : Refusal → List ℕ
+refusal_line refusal = line (codes "model refused " ++ refusal_text refusal)
+
+-- the line of a refusal, and behind it what to mend in the document; of the model that it means, where it has one
+abbrev pub IsAdvised : Option Members → Option SystemModel → Refusal → Outcome → Type 0
+IsAdvised document model refusal found = HasStatusAndText MODEL_REFUSED (AddsAdvice document model refusal (refusal_line refusal)) found
+
+-- of a model: what to mend where it is refused, and else what to know of it
+abbrev pub ValidityChecks : Option Members → SystemModel → Option Refusal → Outcome → Type 0
+ValidityChecks document model None found = IsDone (λ text. text ≡ accepted_text model) found
+ValidityChecks document model (Some refusal) found = IsAdvised document (Some model) refusal found
+
+abbrev pub ReadingChecks : Option Members → Result SystemModel Refusal → Outcome → Type 0
+ReadingChecks document (Ok model) found = ValidityChecks document model (refusal_of model) found
+ReadingChecks document (Err refusal) found = IsAdvised document None refusal found
+
+-- the outcome of the bytes of a file
+abbrev pub IsChecked : (bytes : List ℕ) → Outcome → Type 0
+IsChecked bytes found = ReadingChecks (document_of bytes) (model_of bytes) found
+
+-- an outcome says of bytes that they are no document
+abbrev pub IsUnread : Refusal → Outcome → Type 0
+IsUnread refusal found = HasStatusAndText MODEL_REFUSED (AddsUnread (refusal_line refusal)) found
+
+-- two outcomes are equal, or both say that of bytes
+abbrev pub ChecksTheSame : (one other : Outcome) → Type 0
+ChecksTheSame one other = (one ≡ other) ⊎ ((refusal : Refusal) × IsUnread refusal one × IsUnread refusal other)

@@ -1,0 +1,97 @@
+ghost use Rattle.std.specs.Prelude.{◌≡◌, ◌+◌, ◌≤◌, length, Some, Ok, IfOk};
+ghost use Rattle.std.specs.Option.{option_copied};
+ghost use Rattle.cl_model.specs.Answers.{IsFaultOf};
+ghost use Rattle.cl_model.specs.Ranges.{IsInRange};
+ghost use Rattle.cl_model.specs.Reading.{document_of, model_of};
+ghost use Rattle.cl_model.specs.Validity.{refusals_of, refusal_of};
+ghost use Rattle.cl_explain.specs.Accepted.{accepted_text};
+ghost use Rattle.cl_top.specs.Commands.Check.{IsAdvised, ValidityChecks, IsChecked};
+ghost use Rattle.cl_top.specs.Done.{IsDone};
+ghost use Rattle.cl_top.specs.OfModel.{task_steps};
+
+use crate::Outcome;
+use cl_advice::put_advice;
+use cl_explain::accepted;
+use cl_model::{Refusal, SystemModel, ValidModel};
+use cl_read::{ReadFault, read_model};
+use cl_time::{NoMemory, Steps};
+use cl_valid::{ValidFault, validate};
+use std::alloc::Global;
+use std::sync::ledger::Ledger;
+
+/// The outcome of `check` of a model file of these bytes: what to mend where it is refused, and else what to know of the
+/// model. It counts at most one step for each task.
+pub(crate) fn checked<L: Ledger>(
+    alloc: Global,
+    bytes: &[u8],
+    steps: &mut Steps<L>,
+) -> Result<Outcome, NoMemory>
+    ensures outcome { IfOk result (IsChecked bytes.now) }
+    ensures steps { steps.new ≤ steps.old + task_steps (model_of bytes.now) }
+{
+    match read_model(alloc, bytes) {
+        Ok(model) => checked_model(alloc, bytes, model, steps),
+        Err(ReadFault::Refused(refusal)) => advised(alloc, bytes, None, refusal),
+        Err(ReadFault::NoMemory) => Err(NoMemory),
+    }
+}
+
+/// The outcome of a model that was read.
+fn checked_model<L: Ledger>(
+    alloc: Global,
+    bytes: &[u8],
+    model: SystemModel,
+    steps: &mut Steps<L>,
+) -> Result<Outcome, NoMemory>
+    requires { IsInRange model }
+    ensures outcome { IfOk result (ValidityChecks (document_of bytes.now) model (refusal_of model)) }
+    ensures steps { steps.new ≤ steps.old + length model.tasks }
+{
+    match validate(alloc, model) {
+        Ok(model) => accepted_model(alloc, &model, steps),
+        Err((model, fault)) => refused_model(alloc, bytes, &model, fault),
+    }
+}
+
+/// What to mend in a model that validity refuses.
+fn refused_model(
+    alloc: Global,
+    bytes: &[u8],
+    model: &SystemModel,
+    fault: ValidFault,
+) -> Result<Outcome, NoMemory>
+    requires { IsFaultOf (refusals_of model.now) fault }
+    ensures { IfOk result (ValidityChecks (document_of bytes.now) model.now (refusal_of model.now)) }
+{
+    match fault {
+        ValidFault::Refused(refusal) => advised(alloc, bytes, Some(model), refusal),
+        ValidFault::NoMemory => Err(NoMemory),
+    }
+}
+
+/// What to know of a valid model.
+fn accepted_model<L: Ledger>(
+    alloc: Global,
+    model: &ValidModel,
+    steps: &mut Steps<L>,
+) -> Result<Outcome, NoMemory>
+    ensures outcome { IfOk result (IsDone (λ text. text ≡ accepted_text model.now)) }
+    ensures steps { steps.new ≤ steps.old + length model.now.tasks }
+{
+    let text = accepted(alloc, model, steps)?;
+    Ok(Outcome::done(text))
+}
+
+/// The line of a refusal, and behind it what to mend.
+fn advised(
+    alloc: Global,
+    bytes: &[u8],
+    model: Option<&SystemModel>,
+    refusal: Refusal,
+) -> Result<Outcome, NoMemory>
+    ensures { IfOk result (IsAdvised (document_of bytes.now) (option_copied model.entry) refusal) }
+{
+    let mut outcome = Outcome::model_refused(alloc, refusal)?;
+    put_advice(&mut outcome.text, alloc, bytes, model, refusal)?;
+    Ok(outcome)
+}

@@ -1,0 +1,54 @@
+ghost use Rattle.std.specs.Prelude.{◌≡◌, IfOk};
+ghost use Rattle.cl_top.specs.Commands.Help.{help_text, version_text};
+ghost use Rattle.cl_top.specs.Done.{IsDone};
+
+use crate::Outcome;
+use cl_text::Text;
+use cl_time::NoMemory;
+use std::alloc::Global;
+
+/// The outcome of `help`: what the commands are.
+#[tactic(auto, unfolding(crate::specs::Commands::Help::help_text))]
+pub(crate) fn helped(alloc: Global) -> Result<Outcome, NoMemory>
+    ensures { IfOk result (IsDone (λ text. text ≡ help_text)) }
+{
+    let mut text = Text::new(alloc);
+    text.put(HELP.as_bytes())?;
+    Ok(Outcome::done(text))
+}
+
+/// The outcome of `version`.
+#[tactic(auto, unfolding(crate::specs::Commands::Help::version_text))]
+pub(crate) fn named_version(alloc: Global) -> Result<Outcome, NoMemory>
+    ensures { IfOk result (IsDone (λ text. text ≡ version_text)) }
+{
+    let mut text = Text::new(alloc);
+    text.put(b"chainlat 1.0.0\n")?;
+    Ok(Outcome::done(text))
+}
+
+/// What `help` writes.
+const HELP: &str = "usage: chainlat COMMAND ARGUMENTS\n\
+\n\
+analyse MODEL               the report: responses, bounds, exact lengths and verdicts\n\
+tighten MODEL               the report by bounds that know the phases of tasks\n\
+verify MODEL                status 0 where every task is in time and every requirement met, else 13\n\
+explain MODEL               what the responses and the bounds are the sums of\n\
+check MODEL                 what to mend in a model, or what to know of it\n\
+cut MODEL                   the best cuts of the chains\n\
+order MODEL                 the best priorities of every core\n\
+headroom MODEL              how far the greatest execution times may grow\n\
+migrate MODEL               the model as a file of version 2\n\
+edit MODEL EDITS            a report for each line `report` of a list of edits\n\
+simulate MODEL TICKS SEED   the trace of a run, drawn by a seed\n\
+replay MODEL TRACE          what is measured in the run of a trace\n\
+generate SEED TASKS         a model that is drawn by a seed\n\
+survey SEED TASKS           the sums of what is found of such a model\n\
+help, version               this text; the version of the program\n\
+\n\
+MODEL, EDITS and TRACE are names of files. MODEL and EDITS have at most 16777216 bytes, TRACE at most 268435456.\n\
+TICKS is at most 1000000000, SEED at most 18446744073709551615, and TASKS is from 1 to 1024.\n\
+The answer goes to the standard output. The status is 0 where the command did what it says, 2 where the words are no\n\
+command, 3 and 4 where a file can't be read or is too long, 5 where the model is refused, 6 where the trace is, 7 where\n\
+an edit is, 8 where a simulation is too large, 9 where the output failed, 10 where memory ran out, and 13 from `verify`.\n\
+README.md and the pages in docs/ say more.\n";

@@ -1,0 +1,42 @@
+ghost use Rattle.std.specs.Prelude.{◌≡◌, ◌+◌, ◌≤◌, length, IfOk};
+ghost use Rattle.cl_report.specs.Tight.{verify_text};
+ghost use Rattle.cl_tight.specs.TightFindings.{tight_findings_of};
+ghost use Rattle.cl_top.specs.Done.{HasStatusAndText};
+ghost use Rattle.cl_top.specs.OfModel.{verify_status};
+
+use crate::{Outcome, status};
+use cl_model::ValidModel;
+use cl_report::verify_report;
+use cl_tight::{TightFindings, is_verified, tighten};
+use cl_time::{NoMemory, Steps};
+use std::alloc::Global;
+use std::sync::ledger::Ledger;
+
+/// The outcome of `verify` of a valid model: the tasks that are late and the verdicts, and whether that verifies it. It
+/// counts at most one step for each task.
+pub(crate) fn verified<L: Ledger>(
+    alloc: Global,
+    model: &ValidModel,
+    steps: &mut Steps<L>,
+) -> Result<Outcome, NoMemory>
+    ensures outcome { IfOk result (HasStatusAndText (verify_status model.now) (λ text. text ≡ verify_text model.now)) }
+    ensures steps { steps.new ≤ steps.old + length model.now.tasks }
+{
+    let findings = tighten(alloc, model, steps)?;
+    Ok(Outcome {
+        status: status_of(model, &findings),
+        text: verify_report(alloc, model, &findings)?,
+    })
+}
+
+/// What `verify` ends with, by what is found of the model.
+fn status_of(model: &ValidModel, findings: &TightFindings) -> u8
+    requires { findings.now ≡ tight_findings_of model.now }
+    ensures { result ≡ verify_status model.now }
+{
+    if is_verified(model, findings) {
+        status::DONE
+    } else {
+        status::NOT_VERIFIED
+    }
+}
