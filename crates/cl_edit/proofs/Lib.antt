@@ -1,6 +1,7 @@
 pub mod FoundFacts
 pub mod StepFacts
 pub mod RangeFacts
+pub mod ReadLines
 pub mod PartFacts
 pub mod FieldFacts
 pub mod RunnableFacts

@@ -4,6 +4,7 @@
 mod apply;
 mod changes;
 mod edit;
+mod edit_lines;
 mod fault;
 mod fields;
 mod find;
@@ -19,6 +20,7 @@ mod words;
 pub use apply::apply_edit;
 use cl_model::ModelFault;
 pub use edit::Edit;
+pub use edit_lines::EditLines;
 pub use fault::EditsFault;
 pub use limits::{MOST_EDITS, MOST_REPORTS};
 pub use reading::read_edits;

@@ -17,7 +17,7 @@ use cl_text::next_line;
 use std::alloc::Global;
 
 /// The edit of the line that the text begins with, and what follows the line.
-fn edit_after(alloc: Global, text: &[u8]) -> Result<(Edit, &[u8]), Unread>
+pub(crate) fn edit_after(alloc: Global, text: &[u8]) -> Result<(Edit, &[u8]), Unread>
     ensures some { IfOk result (λ read. IsLineEdit read.0 × (text.now ≡ edit_line read.0 ++ read.1.now)) }
     ensures none { result ≡ Err Bad → NoneStands edit_line IsLineEdit text.now }
 {
@@ -28,7 +28,7 @@ fn edit_after(alloc: Global, text: &[u8]) -> Result<(Edit, &[u8]), Unread>
     Ok((edit, &text[end + 1..]))
 }
 
-fn is_report(edit: &Edit) -> bool
+pub(crate) fn is_report(edit: &Edit) -> bool
     ensures { result ≡ is_report edit.now }
 {
     matches!(edit, Edit::Report)
@@ -43,7 +43,7 @@ fn has_room(edits: usize, reports: usize, edit: &Edit) -> bool
 
 /// The same, as long as the list has room for that edit: so many edits are listed above it, and so many of them are
 /// reports.
-fn listed_after(
+pub(crate) fn listed_after(
     alloc: Global,
     text: &[u8],
     edits: usize,

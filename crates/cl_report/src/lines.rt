@@ -25,11 +25,25 @@ pub fn report(alloc: Global, model: &ValidModel, findings: &Findings) -> Result<
     ensures { IfOk result (λ text. text ≡ report_text model.now findings.now) }
 {
     let mut text = Text::new(alloc);
-    text.put(b"chainlat report 1\n")?;
-    put_tasks(&mut text, model, &findings.tasks)?;
-    put_chains(&mut text, model, findings)?;
-    put_requirements(&mut text, model, &findings.verdicts)?;
+    put_report(&mut text, model, findings)?;
     Ok(text)
+}
+
+/// Puts the report of a model behind a text. The findings are those of the model.
+///
+/// `NoMemory` comes where there is no memory for the longer text; it leaves the text as it was or longer.
+pub fn put_report(
+    text: &mut Text,
+    model: &ValidModel,
+    findings: &Findings,
+) -> Result<(), NoMemory>
+    requires { AreFindings model.now findings.now }
+    ensures { OnOk result (text.new ≡ text.old ++ report_text model.now findings.now) }
+{
+    text.put(b"chainlat report 1\n")?;
+    put_tasks(text, model, &findings.tasks)?;
+    put_chains(text, model, findings)?;
+    put_requirements(text, model, &findings.verdicts)
 }
 
 /// Puts the lines of all tasks, one for each answer.

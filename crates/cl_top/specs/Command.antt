@@ -63,6 +63,7 @@ command_of (verb ∷ words) =
     if bytes_eq verb (codes "simulate") then simulate_of words
     else if bytes_eq verb (codes "replay") then of_words 3 command.Replay (verb ∷ words)
     else if bytes_eq verb (codes "edit") then of_words 3 command.Edit (verb ∷ words)
+    else if bytes_eq verb (codes "apply") then of_words 3 command.Apply (verb ∷ words)
     else if bytes_eq verb (codes "generate") then option_map (λ drawn. command.Generate drawn.seed drawn.tasks) (draw_of words)
     else if bytes_eq verb (codes "survey") then option_map (λ drawn. command.Survey drawn.seed drawn.tasks) (draw_of words)
     else if bytes_eq verb (codes "check") then of_words 2 command.Check (verb ∷ words)
@@ -94,6 +95,7 @@ files_of (Some (command.OfModel asked)) = model_file 1 ∷ []
 files_of (Some (command.Simulate ticks seed)) = model_file 1 ∷ []
 files_of (Some command.Replay) = model_file 1 ∷ trace_file 2 ∷ []
 files_of (Some command.Edit) = model_file 1 ∷ edits_file 2 ∷ []
+files_of (Some command.Apply) = model_file 1 ∷ edits_file 2 ∷ []
 files_of (Some (command.Generate seed tasks)) = []
 files_of (Some (command.Survey seed tasks)) = []
 files_of (Some command.Check) = model_file 1 ∷ []

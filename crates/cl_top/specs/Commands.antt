@@ -2,5 +2,6 @@
 pub mod Simulate
 pub mod Replay
 pub mod Edit
+pub mod Apply
 pub mod Check
 pub mod Help

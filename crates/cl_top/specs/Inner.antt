@@ -2,5 +2,6 @@
 pub mod Opened
 pub mod Leaving
 pub mod Edits
+pub mod Applying
 pub mod Within
 pub mod Traced

@@ -18,6 +18,7 @@ use Rattle.cl_top.specs.Commands.Help.{help_text, version_text}
 use Rattle.cl_top.specs.Commands.Simulate.{IsSimulated}
 use Rattle.cl_top.specs.Commands.Replay.{IsOfTrace}
 use Rattle.cl_top.specs.Commands.Edit.{IsOfEdits}
+use Rattle.cl_top.specs.Commands.Apply.{IsOfApply}
 use Rattle.cl_top.specs.Done.{IsDone}
 use Rattle.cl_top.specs.Files.{Fetched, Unasked, Bytes, Fault, TooLong}
 use Rattle.cl_top.specs.OfModel.{IsAnswer, MigratesTheSame, AnswersTheSame}
@@ -73,6 +74,7 @@ HasOutcome (Some (command.OfModel asked)) gave found = OpensModel (model_file 1)
 HasOutcome (Some (command.Simulate ticks seed)) gave found = OpensModel (model_file 1) gave (IsSimulated ticks seed) found
 HasOutcome (Some command.Replay) gave found = OpensModel (model_file 1) gave (λ model. OpensFile (trace_file 2) gave (IsOfTrace model)) found
 HasOutcome (Some command.Edit) gave found = OpensModel (model_file 1) gave (λ model. OpensFile (edits_file 2) gave (IsOfEdits model)) found
+HasOutcome (Some command.Apply) gave found = OpensModel (model_file 1) gave (λ model. OpensFile (edits_file 2) gave (IsOfApply model)) found
 HasOutcome (Some (command.Generate seed tasks)) gave found = IsDone (IsTextOf (generated seed tasks)) found
 HasOutcome (Some (command.Survey seed tasks)) gave found = IsDone (IsSurveyOf (generated seed tasks)) found
 HasOutcome (Some command.Check) gave found = OpensFile (model_file 1) gave IsChecked found
@@ -84,5 +86,6 @@ HasOutcome (Some command.Version) gave found = IsDone (λ text. text ≡ version
 abbrev pub SaysTheSame : Option Command → (one other : Outcome) → Type 0
 SaysTheSame (Some (command.OfModel asked)) one other = AnswersTheSame asked one other
 SaysTheSame (Some (command.Generate seed tasks)) one other = MigratesTheSame one other
+SaysTheSame (Some command.Apply) one other = MigratesTheSame one other
 SaysTheSame (Some command.Check) one other = ChecksTheSame one other
 SaysTheSame asked one other = one ≡ other

@@ -54,6 +54,7 @@ AreFewSteps (Some (command.OfModel asked)) contents before after = AreAtMost (mo
 AreFewSteps (Some (command.Simulate ticks seed)) contents before after = after ≤ before
 AreFewSteps (Some command.Replay) contents before after = after ≤ before + model_steps (model_of (contents 1))
 AreFewSteps (Some command.Edit) contents before after = AreFewOfEdits (model_of (contents 1)) (contents 2) before after
+AreFewSteps (Some command.Apply) contents before after = after ≤ before
 AreFewSteps (Some (command.Generate seed tasks)) contents before after = after ≤ before
 AreFewSteps (Some (command.Survey seed tasks)) contents before after = after ≤ before + model_steps (Ok (generated seed tasks))
 AreFewSteps (Some command.Check) contents before after = after ≤ before + task_steps (model_of (contents 1))

@@ -8,6 +8,7 @@ ghost use Rattle.cl_top.specs.Run.{ComesTo};
 use crate::Outcome;
 use crate::command::{Command, OfModel};
 use crate::commands::answered;
+use crate::commands::apply::applied;
 use crate::commands::check::checked;
 use crate::commands::edit::edited;
 use crate::commands::replay::replayed;
@@ -88,6 +89,23 @@ pub(crate) fn edit_files<S: Shelf, L: Ledger>(
     let opened = open_two(alloc, words, FILE_LIMIT, shelf)?;
     match opened {
         OpenedTwo::Both(model, text) => edited(alloc, model, text.as_slice(), steps),
+        OpenedTwo::Stopped(outcome) => Ok(outcome),
+    }
+}
+
+/// The outcome of `apply MODEL EDITS`. It counts no step, whatever the counter stands at.
+pub(crate) fn apply_files<S: Shelf>(
+    alloc: Global,
+    words: &Words,
+    shelf: &mut S,
+) -> Result<Outcome, NoMemory>
+    requires { command_of words.now ≡ Some Command.Apply }
+    ensures comes { IfOk result (ComesTo words.now (shelf_call S.held S.faults S.longest shelf.old shelf.new)) }
+    ensures leaves { (steps : ℕ) → LeavesRest words.now (shelf_call S.held S.faults S.longest shelf.old shelf.new) steps steps }
+{
+    let opened = open_two(alloc, words, FILE_LIMIT, shelf)?;
+    match opened {
+        OpenedTwo::Both(model, text) => applied(alloc, model, text.as_slice()),
         OpenedTwo::Stopped(outcome) => Ok(outcome),
     }
 }

@@ -40,6 +40,8 @@ pub enum Command {
     Replay,
     /// `edit MODEL EDITS`: report a model as it is edited.
     Edit,
+    /// `apply MODEL EDITS`: write a model as it is after all edits, as a file of version 2.
+    Apply,
     /// `generate SEED TASKS`: write a generated model.
     Generate { seed: u64, tasks: u64 },
     /// `survey SEED TASKS`: analyse a generated model and sum up what was found.
@@ -67,6 +69,7 @@ pub(crate) fn read_command(words: &Words) -> Option<Command>
         "simulate" => read_simulate(words),
         "replay" => read_words(words, 3, Command::Replay),
         "edit" => read_words(words, 3, Command::Edit),
+        "apply" => read_words(words, 3, Command::Apply),
         "generate" => {
             let Draw { seed, tasks } = read_draw(words)?;
             Some(Command::Generate { seed, tasks })

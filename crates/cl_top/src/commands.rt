@@ -4,6 +4,7 @@ ghost use Rattle.cl_top.specs.OfModel.{IsAnswer, most_steps};
 ghost use Rattle.cl_top.specs.Steps.{AreAtMost};
 
 mod analyse;
+pub(crate) mod apply;
 pub(crate) mod check;
 mod cut;
 pub(crate) mod edit;

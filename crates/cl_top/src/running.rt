@@ -13,7 +13,7 @@ ghost use Rattle.cl_top.specs.Outcome.{read_fault, long_file};
 ghost use Rattle.cl_top.specs.Run.{ComesTo, ComesToTold, IsWhole, IsCutShort, Ends, KeepsToTold, WritesOfFile};
 ghost use Rattle.cl_top.specs.Steps.{AreFewSteps};
 
-use crate::answering::{answer_model, check_file, edit_files, replay_files, simulate_file};
+use crate::answering::{answer_model, apply_files, check_file, edit_files, replay_files, simulate_file};
 use crate::command::{Command, OfModel, read_command};
 use crate::commands::generate::generated;
 use crate::commands::help::{helped, named_version};
@@ -111,6 +111,7 @@ fn find_outcome<S: Shelf, L: Ledger>(
         Some(Command::Simulate { ticks, seed }) => simulate_file(alloc, words, ticks, seed, shelf),
         Some(Command::Replay) => replay_files(alloc, words, shelf, steps),
         Some(Command::Edit) => edit_files(alloc, words, shelf, steps),
+        Some(Command::Apply) => apply_files(alloc, words, shelf),
         Some(Command::Generate { seed, tasks }) => generated(alloc, seed, tasks),
         Some(Command::Survey { seed, tasks }) => surveyed(alloc, seed, tasks, steps),
         Some(Command::Check) => check_file(alloc, words, shelf, steps),

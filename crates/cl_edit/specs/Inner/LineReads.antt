@@ -1,5 +1,5 @@
 -- What the words of a line are read as.
-use Rattle.std.specs.Prelude.{◌≡◌, ℕ, zero, suc, ◌<◌, true, false, if◌then◌else◌, Option, Some, None, List, [], ◌∷◌, codes}
+use Rattle.std.specs.Prelude.{◌≡◌, ℕ, zero, suc, ◌<◌, Bool, true, false, if◌then◌else◌, Option, Some, None, List, [], ◌∷◌, ◌++◌, codes}
 use Rattle.std.specs.Option.{option_map, option_and_then}
 use Rattle.std.specs.Str.{bytes_eq}
 use Rattle.cl_model.specs.declared.limits.TheConstants.{MOST_TICKS, MOST_PRIORITY, MOST_RUNNABLES, MOST_ACCESSES, MOST_STEPS, MOST_HOPS, LEAST_JOBS_OF_BURST, MOST_JOBS_OF_BURST}
@@ -8,6 +8,7 @@ use Rattle.cl_model.specs.declared.task.TaskDef.{TaskDef}
 use Rattle.cl_edit.specs.declared.edit.Edit.{Edit}
 use Rattle.cl_edit.specs.declared.edit.Edit.TheVariants.{Range, Whole, Period, Offset, Jitter, Distances, Burst, Deadline, Swap, Move, Kind, AddTask, DropTask, AddChain, DropChain, Report}
 use Rattle.cl_edit.specs.declared.limits.TheConstants.{MOST_EDITS, MOST_REPORTS}
+use Rattle.cl_edit.specs.Lines.{edit_line}
 use Rattle.cl_edit.specs.Reading.{IsLineEdit, is_report}
 use Rattle.cl_edit.specs.Inner.Parts.{parts, first_read, then_read, with_left, if_done}
 use Rattle.cl_edit.specs.Inner.Fields.{name_in, number_in, time_in, flag_in, access_in, deadline_in, names_in}
@@ -153,3 +154,11 @@ pub record HasRoom (edits reports : ℕ) (edit : Edit) : Type 0 where
 pub record MayFollow (edits reports : ℕ) (edit : Edit) : Type 0 where
   pub line : IsLineEdit edit
   pub room : HasRoom edits reports edit
+
+-- the text begins with the line of an edit that may be listed below so many, and goes on with this rest; and whether the
+-- edit is a report
+pub record StandsNext (edits reports : ℕ) (text : List ℕ) (report : Bool) (rest : List ℕ) : Type 0 where
+  pub edit : Edit
+  pub may : MayFollow edits reports edit
+  pub stands : text ≡ edit_line edit ++ rest
+  pub is : report ≡ is_report edit

@@ -17,6 +17,7 @@ help_text =
     ++ line (codes "headroom MODEL              how far the greatest execution times may grow")
     ++ line (codes "migrate MODEL               the model as a file of version 2")
     ++ line (codes "edit MODEL EDITS            a report for each line `report` of a list of edits")
+    ++ line (codes "apply MODEL EDITS           the model after a list of edits, as a file of version 2")
     ++ line (codes "simulate MODEL TICKS SEED   the trace of a run, drawn by a seed")
     ++ line (codes "replay MODEL TRACE          what is measured in the run of a trace")
     ++ line (codes "generate SEED TASKS         a model that is drawn by a seed")

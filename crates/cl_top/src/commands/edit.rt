@@ -122,7 +122,7 @@ fn stopped(alloc: Global, text: Text, number: u64, fault: ModelFault) -> Result<
 }
 
 /// A text, and behind it the refusal of the line of a number.
-fn refused(alloc: Global, text: Text, number: u64, refusal: Refusal) -> Result<Outcome, NoMemory>
+pub(crate) fn refused(alloc: Global, text: Text, number: u64, refusal: Refusal) -> Result<Outcome, NoMemory>
     ensures { IfOk result (λ outcome. outcome ≡ behind text (edits_refused number refusal)) }
 {
     let mut text = text;
@@ -138,7 +138,7 @@ fn refused(alloc: Global, text: Text, number: u64, refusal: Refusal) -> Result<O
 }
 
 /// The first line that is no edit.
-fn bad_line(alloc: Global, number: u64) -> Result<Outcome, NoMemory>
+pub(crate) fn bad_line(alloc: Global, number: u64) -> Result<Outcome, NoMemory>
     ensures { IfOk result (λ outcome. outcome ≡ edits_refused number (record { code = Code.E1; place = top })) }
 {
     let refusal = Refusal {

@@ -40,6 +40,7 @@ order MODEL                 the best priorities of every core\n\
 headroom MODEL              how far the greatest execution times may grow\n\
 migrate MODEL               the model as a file of version 2\n\
 edit MODEL EDITS            a report for each line `report` of a list of edits\n\
+apply MODEL EDITS           the model after a list of edits, as a file of version 2\n\
 simulate MODEL TICKS SEED   the trace of a run, drawn by a seed\n\
 replay MODEL TRACE          what is measured in the run of a trace\n\
 generate SEED TASKS         a model that is drawn by a seed\n\

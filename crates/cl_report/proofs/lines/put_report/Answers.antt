@@ -2,7 +2,7 @@ use Rattle.std.proofs.Common.{rules}
 use Rattle.std.proofs.lemmas.List.{append_assoc}
 use Rattle.cl_report.specs.Report.{report_text}
 use Rattle.cl_report.proofs.ReportLines.{tasks_found, verdicts_found}
-use Rattle.cl_report.proofs.lines.report.Goals as goal
+use Rattle.cl_report.proofs.lines.put_report.Goals as goal
 
 pub put_tasks-requires : goal.put_tasks-requires
 put_tasks-requires c = tasks_found c.args.model.now c.args.findings.now c.requires

@@ -1,0 +1,26 @@
+-- What edits come to that are applied one after the other.
+use Rattle.std.specs.Prelude.{◌≡◌, ℕ, ◌+◌, List, [], ◌∷◌, All, Result, Ok, Err}
+use Rattle.cl_model.specs.declared.model.SystemModel.{SystemModel}
+use Rattle.cl_model.specs.declared.refusal.Refusal.{Refusal}
+use Rattle.cl_edit.specs.declared.edit.Edit.{Edit}
+use Rattle.cl_edit.specs.Edited.{edited}
+use Rattle.cl_edit.specs.Lines.{edit_lines}
+use Rattle.cl_edit.specs.Reading.{IsLineEdit}
+use Rattle.cl_write.specs.Texts.{IsTextOf}
+use Rattle.cl_top.specs.declared.outcome.Outcome.{Outcome}
+use Rattle.cl_top.specs.Commands.Edit.{edits_refused}
+use Rattle.cl_top.specs.Done.{IsDone}
+
+-- an edit is refused in the line of this number, or the others follow
+abbrev pub OrRefused : (number : ℕ) → Result SystemModel Refusal → (next : SystemModel → Type 0) → Outcome → Type 0
+OrRefused number (Ok changed) next found = next changed
+OrRefused number (Err refusal) next found = found ≡ edits_refused number refusal
+
+-- these edits, of which the first stands in the line of this number, come to this
+abbrev pub ApplyTo : (number : ℕ) → SystemModel → List Edit → Outcome → Type 0
+ApplyTo number model [] found = IsDone (IsTextOf model) found
+ApplyTo number model (edit ∷ edits) found = OrRefused number (edited model edit) (λ changed. ApplyTo (number + 1) changed edits found) found
+
+-- so do the edits of these lines
+abbrev pub LinesApplyTo : (number : ℕ) → SystemModel → (lines : List ℕ) → Outcome → Type 0
+LinesApplyTo number model lines found = (edits : List Edit) → All IsLineEdit edits → lines ≡ edit_lines edits → ApplyTo number model edits found
