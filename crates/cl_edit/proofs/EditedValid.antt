@@ -32,6 +32,11 @@ edited_valid model edit changed valid in_range is =
     let none = first_none (edit_checks model edit) (refusals_of (with_edit model edit)) answered.0 in
     subst IsValid answered.1 (record { in_range = edits_keep_range model edit valid.in_range in_range none.0; accepted = none.1 })
 
+-- an edit that is made has made its change
+pub made_is : (model : SystemModel) (edit : Edit) (changed : SystemModel) → edited model edit ≡ Ok changed → with_edit model edit ≡ changed
+unfolding edited
+made_is model edit changed is = (none_of_answer (with_edit model edit) changed (edit_checks model edit ++ refusals_of (with_edit model edit)) is).1
+
 -- a report keeps a valid model
 pub report_keeps : (model : SystemModel) → IsValid model → edited model Report ≡ Ok model
 unfolding edited edit_checks with_edit

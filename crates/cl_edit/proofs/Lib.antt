@@ -19,3 +19,4 @@ pub mod BadEdits
 pub mod OneAnswer
 pub mod SomeAnswer
 pub mod EditedValid
+pub mod NamedEdits

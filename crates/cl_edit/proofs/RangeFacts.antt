@@ -29,12 +29,12 @@ use Rattle.cl_edit.specs.Edited.{edit_checks, with_edit, task_number, chain_numb
 -- ---- lists
 
 -- what holds of each item holds after one is changed in a way that keeps it
-changed_all : {X : Type 0} (P : X → Type 0) (f : X → X) → ((x : X) → P x → P (f x)) → (xs : List X) (i : ℕ) (d : X) → All P xs → All P (set xs i (f (get_or xs i d)))
+pub changed_all : {X : Type 0} (P : X → Type 0) (f : X → X) → ((x : X) → P x → P (f x)) → (xs : List X) (i : ℕ) (d : X) → All P xs → All P (set xs i (f (get_or xs i d)))
 changed_all P f keep [] i d h = h
 changed_all P f keep (x ∷ xs) zero d h = All-cons P (f x) xs (keep x (h zero x (omega arith))) (All-tail P x xs h)
 changed_all P f keep (x ∷ xs) (suc i) d h = All-cons P x (set xs i (f (get_or xs i d))) (h zero x (omega arith)) (changed_all P f keep xs i d (All-tail P x xs h))
 
-removed_all : {X : Type 0} (P : X → Type 0) (xs : List X) (i : ℕ) → All P xs → All P (remove xs i)
+pub removed_all : {X : Type 0} (P : X → Type 0) (xs : List X) (i : ℕ) → All P xs → All P (remove xs i)
 removed_all P [] zero h = h
 removed_all P [] (suc i) h = h
 removed_all P (x ∷ xs) zero h = All-tail P x xs h

@@ -2,11 +2,12 @@
 //! valid.
 ghost use Rattle.std.specs.Prelude.{◌≡◌, ◌⊎◌, ℕ, List, Ok, All};
 ghost use Rattle.cl_model.specs.declared.model.SystemModel.{SystemModel};
+ghost use Rattle.cl_model.specs.AreNamed.{AreNamed};
 ghost use Rattle.cl_model.specs.Validity.{IsValid};
 ghost use Rattle.cl_edit.specs.declared.edit.Edit.{Edit};
 ghost use Rattle.cl_edit.specs.Edited.{edited};
 ghost use Rattle.cl_edit.specs.Ranges.{IsEditInRange};
-ghost use Rattle.cl_edit.specs.Reading.{AreEditsOf, IsBadEditLine};
+ghost use Rattle.cl_edit.specs.Reading.{AreEditsOf, IsBadEditLine, IsEditNamed};
 
 /// A text lists edits, or it has a first bad line.
 pub fn texts_have_an_answer()
@@ -29,4 +30,10 @@ pub fn listed_edits_are_in_range()
 pub fn edited_models_are_valid()
     ensures { (model : SystemModel) (edit : Edit) (changed : SystemModel) → IsValid model → IsEditInRange edit
         → edited model edit ≡ Ok changed → IsValid changed }
+{}
+
+/// And an edit whose names are of the name grammar keeps the names of a model so.
+pub fn edited_models_are_named()
+    ensures { (model : SystemModel) (edit : Edit) (changed : SystemModel) → AreNamed model → IsEditNamed edit
+        → edited model edit ≡ Ok changed → AreNamed changed }
 {}

@@ -8,6 +8,7 @@ use Rattle.cl_top.specs.declared.opening.TheConstants.{FILE_LIMIT, TRACE_LIMIT}
 use Rattle.cl_top.specs.declared.status.TheConstants.{WORDS_REFUSED, READ_FAULT, LONG_FILE, MODEL_REFUSED, WRITE_FAULT, NO_MEMORY, ARGUMENT_NOT_TEXT}
 use Rattle.cl_top.specs.Calls.{ShelfCall, SinkCall}
 use Rattle.cl_top.specs.Command.{command_of}
+use Rattle.cl_top.specs.Commands.Apply.{IsOfApply}
 use Rattle.cl_top.specs.Commands.Edit.{IsOfEdits}
 use Rattle.cl_top.specs.Commands.Replay.{IsOfTrace}
 use Rattle.cl_top.specs.Commands.Simulate.{IsSimulated}
@@ -17,6 +18,7 @@ use Rattle.cl_top.specs.Outcome.{words_refused, read_fault, long_file}
 use Rattle.cl_top.specs.Run.{ComesAs, ComesTo, IsWhole, IsCutShort, WritesOfFile}
 use Rattle.cl_top.proofs.Comings.{Cause, NoCommand, OfFault, OfLength, OfRefusal, OfContent, IsOfContent, comes_as}
 use Rattle.cl_top.proofs.Checks.{check_cause}
+use Rattle.cl_top.proofs.OfApply.{of_apply}
 use Rattle.cl_top.proofs.OfEdit.{of_edit}
 use Rattle.cl_top.proofs.OfReplay.{of_replay}
 use Rattle.cl_top.proofs.OneFile.{model_cause, of_answer, of_simulate}
@@ -39,6 +41,7 @@ module _ (words : List (List ℕ)) (shelf : ShelfCall) where
       model_cause (command.Simulate ticks seed) (IsSimulated ticks seed) (of_simulate ticks seed) words shelf found comes
   cause (Some command.Replay) found comes = two_cause command.Replay TRACE_LIMIT IsOfTrace of_replay words shelf found comes
   cause (Some command.Edit) found comes = two_cause command.Edit FILE_LIMIT IsOfEdits of_edit words shelf found comes
+  cause (Some command.Apply) found comes = two_cause command.Apply FILE_LIMIT IsOfApply of_apply words shelf found comes
   cause (Some (command.Generate seed tasks)) found comes = OfContent (inl comes.follows.status_is)
   cause (Some (command.Survey seed tasks)) found comes = OfContent (inl comes.follows.status_is)
   cause (Some command.Check) found comes = check_cause words shelf found comes

@@ -28,6 +28,7 @@ AsksForFew (command.OfModel asked) = Unit {0}
 AsksForFew (command.Simulate ticks seed) = ticks ≤ MOST_RUN_TICKS
 AsksForFew command.Replay = Unit {0}
 AsksForFew command.Edit = Unit {0}
+AsksForFew command.Apply = Unit {0}
 AsksForFew (command.Generate seed tasks) = (1 ≤ tasks) × (tasks ≤ MOST_TASKS)
 AsksForFew (command.Survey seed tasks) = (1 ≤ tasks) × (tasks ≤ MOST_TASKS)
 AsksForFew command.Check = Unit {0}
@@ -99,12 +100,13 @@ few_of_words (verb ∷ words) =
     cond_both (bytes_eq verb (codes "simulate")) (simulate_of words) _ FewIf (λ _. few_of_simulate words) (λ _.
     cond_both (bytes_eq verb (codes "replay")) (of_words 3 command.Replay (verb ∷ words)) _ FewIf (λ _. few_of_counted 3 command.Replay tt (verb ∷ words)) (λ _.
     cond_both (bytes_eq verb (codes "edit")) (of_words 3 command.Edit (verb ∷ words)) _ FewIf (λ _. few_of_counted 3 command.Edit tt (verb ∷ words)) (λ _.
+    cond_both (bytes_eq verb (codes "apply")) (of_words 3 command.Apply (verb ∷ words)) _ FewIf (λ _. few_of_counted 3 command.Apply tt (verb ∷ words)) (λ _.
     cond_both (bytes_eq verb (codes "generate")) (option_map generate_drawn (draw_of words)) _ FewIf (λ _. few_of_draws generate_drawn (λ drawn some few. (some, few)) words) (λ _.
     cond_both (bytes_eq verb (codes "survey")) (option_map survey_drawn (draw_of words)) _ FewIf (λ _. few_of_draws survey_drawn (λ drawn some few. (some, few)) words) (λ _.
     cond_both (bytes_eq verb (codes "check")) (of_words 2 command.Check (verb ∷ words)) _ FewIf (λ _. few_of_counted 2 command.Check tt (verb ∷ words)) (λ _.
     cond_both (asks_help verb) (of_words 1 command.Help (verb ∷ words)) _ FewIf (λ _. few_of_counted 1 command.Help tt (verb ∷ words)) (λ _.
     cond_both (asks_version verb) (of_words 1 command.Version (verb ∷ words)) (of_model (of_verb verb) words) FewIf (λ _. few_of_counted 1 command.Version tt (verb ∷ words))
-    (λ _. few_of_model (of_verb verb) words))))))))
+    (λ _. few_of_model (of_verb verb) words)))))))))
 
 pub asks_for_few : (words : List (List ℕ)) (asked : Command) → command_of words ≡ Some asked → AsksForFew asked
 asks_for_few words asked is = subst FewIf is (few_of_words words)

@@ -17,6 +17,8 @@ pub mod TwoCalls
 pub mod TwoFiles
 pub mod OfReplay
 pub mod OfEdit
+pub mod OfApply
+pub mod Applied
 pub mod EditsOnce
 pub mod EditSteps
 pub mod ReportLines

@@ -10,7 +10,7 @@ use Rattle.cl_top.specs.Steps.{AreFewOfEdits, AreFewSteps}
 use Rattle.cl_top.proofs.Comings.{IsOfContent}
 use Rattle.cl_top.proofs.TwoFiles.{IsOfTwo}
 
-seven_content : (found : Outcome) → found.status ≡ 7 → IsOfContent found.status
+pub seven_content : (found : Outcome) → found.status ≡ 7 → IsOfContent found.status
 seven_content found seven = inr (inl (omega (arith, seven), omega (arith, seven)))
 
 -- the reports of edits, and a refusal behind them, are of content

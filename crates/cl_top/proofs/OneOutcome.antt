@@ -31,18 +31,21 @@ use Rattle.cl_top.specs.declared.opening.TheConstants.{FILE_LIMIT, TRACE_LIMIT}
 use Rattle.cl_top.specs.declared.outcome.Outcome.{Outcome}
 use Rattle.cl_top.specs.declared.status.TheConstants.{DONE}
 use Rattle.cl_top.specs.Command.{File, model_file, command_of}
+use Rattle.cl_top.specs.Commands.Apply.{IsOfApply}
 use Rattle.cl_top.specs.Commands.Edit.{IsOfEdits}
 use Rattle.cl_top.specs.Commands.Help.{help_text, version_text}
 use Rattle.cl_top.specs.Commands.Replay.{trace_refused, trace_illegal, IsOfRun, IsOfTrace}
 use Rattle.cl_top.specs.Commands.Simulate.{IsSimulated}
 use Rattle.cl_top.specs.Done.{IsDone}
 use Rattle.cl_top.specs.Files.{Fetched, Unasked, Bytes, Fault, TooLong, EachFile, WasFetched}
-use Rattle.cl_top.specs.OfModel.{IsAnswer, AnswersTheSame}
+use Rattle.cl_top.specs.OfModel.{IsAnswer, MigratesTheSame, AnswersTheSame}
 use Rattle.cl_top.specs.Outcome.{words_refused, read_fault, long_file, model_refused, ValidatesTo, ReadsTo, OpensTo, HasOutcome, SaysTheSame}
+use Rattle.cl_top.proofs.Applied.{some_applied, applied_alike}
 use Rattle.cl_top.proofs.CheckedOnce.{check_some, check_same}
 use Rattle.cl_top.proofs.EditsOnce.{some_edits, one_edited}
 use Rattle.cl_top.proofs.Generations.{asks_for_few}
 use Rattle.cl_top.proofs.LegalOrBroken.{IsBroken, legal_or_broken}
+use Rattle.cl_top.proofs.OfApply.{of_apply}
 use Rattle.cl_top.proofs.OfEdit.{of_edit}
 use Rattle.cl_top.proofs.ModelAnswers.{HasAnswers, has_answers, done_some, done_once}
 use Rattle.cl_top.proofs.OfReplay.{of_replay}
@@ -131,6 +134,7 @@ has_outcome words (Some (command.Simulate ticks seed)) is gave fetched =
     opened_some (IsSimulated ticks seed) (λ bytes model means none. simulated_some ticks seed model (valid_read bytes model means none)) 1 (gave (model_file 1)) fetched.0
 has_outcome words (Some command.Replay) is gave fetched = two_some command.Replay TRACE_LIMIT IsOfTrace of_replay trace_some gave fetched
 has_outcome words (Some command.Edit) is gave fetched = two_some command.Edit FILE_LIMIT IsOfEdits of_edit some_edits gave fetched
+has_outcome words (Some command.Apply) is gave fetched = two_some command.Apply FILE_LIMIT IsOfApply of_apply some_applied gave fetched
 has_outcome words (Some (command.Generate seed tasks)) is gave fetched = generated_some seed tasks (asks_for_few words (command.Generate seed tasks) is).1
 has_outcome words (Some (command.Survey seed tasks)) is gave fetched = surveyed_some seed tasks (asks_for_few words (command.Survey seed tasks) is).1
 has_outcome words (Some command.Check) is gave fetched = check_some (gave (model_file 1)) fetched.0
@@ -168,18 +172,19 @@ one_traced model valid named text one other (inr first) (inl second) = absurd (n
 one_traced model valid named text one other (inr first) (inr second) =
     first.printed ∙ ap trace_refused (bad_once model valid named text first.number second.number first.bad second.bad) ∙ sym second.printed
 
--- the text of a second file has but one outcome
+-- two outcomes of the text of a second file say the same
 module _ (asked : Command) (limit : ℕ) (OfText : SystemModel → (text : List ℕ) → Outcome → Type 0) (of : IsOfTwo asked limit OfText)
-    (once : (model : SystemModel) → IsValid model → AreNamed model → (text : List ℕ) (one other : Outcome) → OfText model text one → OfText model text other → one ≡ other) where
-  same_text : (model : SystemModel) → IsValid model → AreNamed model → (one other : Outcome) (fetch : Fetched) → OpensTo 2 fetch (OfText model) one → OpensTo 2 fetch (OfText model) other → one ≡ other
+    (Same : Outcome → Outcome → Type 0) (equal : (one other : Outcome) → one ≡ other → Same one other)
+    (same : (model : SystemModel) → IsValid model → AreNamed model → (text : List ℕ) (one other : Outcome) → OfText model text one → OfText model text other → Same one other) where
+  same_text : (model : SystemModel) → IsValid model → AreNamed model → (one other : Outcome) (fetch : Fetched) → OpensTo 2 fetch (OfText model) one → OpensTo 2 fetch (OfText model) other → Same one other
   same_text model valid named one other Unasked h k = absurd h
-  same_text model valid named one other Fault h k = h ∙ sym k
-  same_text model valid named one other TooLong h k = h ∙ sym k
-  same_text model valid named one other (Bytes text) h k = once model valid named text one other h k
+  same_text model valid named one other Fault h k = equal one other (h ∙ sym k)
+  same_text model valid named one other TooLong h k = equal one other (h ∙ sym k)
+  same_text model valid named one other (Bytes text) h k = same model valid named text one other h k
 
-  two_same : (gave : File → Fetched) (one other : Outcome) → HasOutcome (Some asked) gave one → HasOutcome (Some asked) gave other → one ≡ other
+  two_same : (gave : File → Fetched) (one other : Outcome) → HasOutcome (Some asked) gave one → HasOutcome (Some asked) gave other → Same one other
   two_same gave one other h k =
-      opened_same (OfSecond limit OfText gave) (λ a b. a ≡ b) one other (λ is. is)
+      opened_same (OfSecond limit OfText gave) Same one other (equal one other)
       (λ bytes model means none m n. same_text model (valid_read bytes model means none) (read_named bytes model means) one other (gave (second_file limit)) m n)
       1 (gave (model_file 1)) (of.opens gave one h) (of.opens gave other k)
 
@@ -191,8 +196,9 @@ says_the_same (Some (command.OfModel asked)) gave one other h k =
 says_the_same (Some (command.Simulate ticks seed)) gave one other h k =
     opened_same (IsSimulated ticks seed) (λ a b. a ≡ b) one other (λ is. is)
     (λ bytes model means none m n. simulated_once ticks seed model (valid_read bytes model means none) one other m n) 1 (gave (model_file 1)) h k
-says_the_same (Some command.Replay) gave one other h k = two_same command.Replay TRACE_LIMIT IsOfTrace of_replay one_traced gave one other h k
-says_the_same (Some command.Edit) gave one other h k = two_same command.Edit FILE_LIMIT IsOfEdits of_edit one_edited gave one other h k
+says_the_same (Some command.Replay) gave one other h k = two_same command.Replay TRACE_LIMIT IsOfTrace of_replay (λ a b. a ≡ b) (λ a b is. is) one_traced gave one other h k
+says_the_same (Some command.Edit) gave one other h k = two_same command.Edit FILE_LIMIT IsOfEdits of_edit (λ a b. a ≡ b) (λ a b is. is) one_edited gave one other h k
+says_the_same (Some command.Apply) gave one other h k = two_same command.Apply FILE_LIMIT IsOfApply of_apply MigratesTheSame (λ a b is. inl is) applied_alike gave one other h k
 says_the_same (Some (command.Generate seed tasks)) gave one other h k = inr (generated seed tasks, h, k)
 says_the_same (Some (command.Survey seed tasks)) gave one other h k =
     done_once (IsSurveyOf (generated seed tasks)) (one_survey (generated seed tasks)) one other h k

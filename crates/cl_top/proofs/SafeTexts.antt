@@ -2,6 +2,7 @@
 use Rattle.std.proofs.Common.{◌≡◌, ℕ, ◌+◌, ◌<◌, Bool, true, false, inl, inr, List, [], Option, Some, None, Result, Ok, refl, sym, ap, subst, ◌∙◌, get_or, length, arith}
 use Rattle.std.specs.Prelude.{All, nat_lt, if◌then◌else◌}
 use Rattle.std.specs.List.{concat}
+use Rattle.std.proofs.lemmas.List.{take_all}
 use Rattle.cl_io.specs.Sink.{appended}
 use Rattle.cl_designs.specs.Cuts.{IsCutTextOf}
 use Rattle.cl_edit.specs.Reading.{AreEditsOf}
@@ -16,6 +17,7 @@ use Rattle.cl_tight.proofs.TightLaws.{tight_findings_safe, tight_findings_as_tig
 use Rattle.cl_cut.proofs.OneCutAnswer.{all_safe, all_no_worse}
 use Rattle.cl_edit.specs.declared.edit.Edit.{Edit}
 use Rattle.cl_edit.specs.declared.edit.Edit.TheVariants.{Report}
+use Rattle.cl_edit.specs.Edited.{after}
 use Rattle.cl_edit.specs.Ranges.{IsEditInRange}
 use Rattle.cl_trace.specs.Rules.{IsTraceOf}
 use Rattle.cl_replay.proofs.SafeMargins.{with_margins}
@@ -28,10 +30,11 @@ use Rattle.cl_top.specs.declared.outcome.Outcome.{Outcome}
 use Rattle.cl_top.specs.declared.status.TheConstants.{DONE, NOT_VERIFIED}
 use Rattle.cl_top.specs.Calls.{ShelfCall, SinkCall}
 use Rattle.cl_top.specs.Command.{File, model_file, command_of}
+use Rattle.cl_top.specs.Commands.Apply.{IsOfApply}
 use Rattle.cl_top.specs.Commands.Edit.{edits_refused, behind, IsWrittenBy, AreAccepted, IsOfEdits}
 use Rattle.cl_top.specs.Commands.Replay.{trace_refused, trace_illegal, IsOfTrace}
 use Rattle.cl_top.specs.Files.{Fetched, Unasked, Bytes, Fault, TooLong, TellsFiles, told_fetch}
-use Rattle.cl_top.specs.Headline.{IsSafePiece, IsSafeReplay, AreSafeReports, AreSafeCuts, IsSafeTightReport, ProvesInTime, IsSafeText, HasPrintedSafe}
+use Rattle.cl_top.specs.Headline.{IsSafePiece, IsSafeReplay, AreSafeReports, HoldsEdited, AreSafeCuts, IsSafeTightReport, ProvesInTime, IsSafeText, HasPrintedSafe}
 use Rattle.cl_top.specs.OfModel.{verify_status, IsAnswer}
 use Rattle.cl_top.specs.Outcome.{read_fault, long_file, model_refused, OpensTo, OpensModel, HasOutcome}
 use Rattle.cl_top.specs.Run.{ComesTo}
@@ -192,6 +195,29 @@ module _ (contents : ℕ → List ℕ) (found : Outcome) (done : found.status �
       of_text : (text : List ℕ) × (told_fetch contents (second_file FILE_LIMIT) ≡ Bytes text) × IsOfEdits has.model text found → AreSafeReports (contents 1) (contents 2) found.text
       of_text (text, is, comes) = of_edits text (told_is FILE_LIMIT (contents 2) text is) comes
 
+  holds_edited : HasDone (OfSecond FILE_LIMIT IsOfApply (told_fetch contents)) (contents 1) found → HoldsEdited (contents 1) (contents 2) found.text
+  holds_edited has = of_text (opened_text (IsOfApply has.model) found done (told_fetch contents (second_file FILE_LIMIT)) has.comes_next)
+    where
+      of_applied : (text : List ℕ) → text ≡ contents 2 → IsOfApply has.model text found → HoldsEdited (contents 1) (contents 2) found.text
+      of_applied text same (inl listed) = elim listed.applied_to [
+        | inl all ↦ record {
+          model = has.model;
+          means = has.means;
+          edits = listed.edits;
+          are = subst (λ (t : List ℕ). AreEditsOf t listed.edits) same listed.are;
+          made = all.made;
+          applied = all.applied;
+          valid = valid_after listed.edits (length listed.edits) has.model all.made has.valid (listed_in_range text listed.edits listed.are)
+              (ap (after has.model) (take_all (length listed.edits) listed.edits (omega arith)) ∙ all.applied);
+          is_text = all.is_text.text_is;
+        }
+        | inr refused ↦ absurd (omega (arith, done, status_of found (edits_refused (refused.count + 2) refused.refusal) refused.printed))
+      ]
+      of_applied text same (inr bad) = absurd (omega (arith, done, status_of found (edits_refused bad.number (record { code = E1; place = top })) bad.printed))
+
+      of_text : (text : List ℕ) × (told_fetch contents (second_file FILE_LIMIT) ≡ Bytes text) × IsOfApply has.model text found → HoldsEdited (contents 1) (contents 2) found.text
+      of_text (text, is, comes) = of_applied text (told_is FILE_LIMIT (contents 2) text is) comes
+
   -- what a command has printed of told files
   safe_text : (asked : Command) → HasOutcome (Some asked) (told_fetch contents) found → IsSafeText asked contents found.text
   safe_text (command.OfModel Analyse) comes = let has = opened_model (IsAnswer Analyse) comes in
@@ -201,6 +227,7 @@ module _ (contents : ℕ → List ℕ) (found : Outcome) (done : found.status �
   safe_text (command.OfModel Verify) comes = proves_in_time (opened_model (IsAnswer Verify) comes)
   safe_text command.Replay comes = safe_replay (opened_model (OfSecond TRACE_LIMIT IsOfTrace (told_fetch contents)) comes)
   safe_text command.Edit comes = safe_reports (opened_model (OfSecond FILE_LIMIT IsOfEdits (told_fetch contents)) comes)
+  safe_text command.Apply comes = holds_edited (opened_model (OfSecond FILE_LIMIT IsOfApply (told_fetch contents)) comes)
   safe_text asked comes = tt
 
 pub printed_safe : (words : List (List ℕ)) (shelf : ShelfCall) (contents : ℕ → List ℕ) {K : Type 0} (sink : SinkCall K) (found : Outcome) (status : ℕ)

@@ -19,6 +19,7 @@ use Rattle.cl_top.specs.declared.status.TheConstants.{DONE}
 use Rattle.cl_top.specs.Calls.{ShelfCall, SinkCall}
 use Rattle.cl_top.specs.Command.{File, model_file, command_of, files_of, word}
 use Rattle.cl_top.specs.Commands.Check.{IsChecked}
+use Rattle.cl_top.specs.Commands.Apply.{IsOfApply}
 use Rattle.cl_top.specs.Commands.Edit.{IsOfEdits}
 use Rattle.cl_top.specs.Commands.Replay.{IsOfTrace}
 use Rattle.cl_top.specs.Commands.Simulate.{IsSimulated}
@@ -28,6 +29,7 @@ use Rattle.cl_top.specs.Outcome.{ValidatesTo, ReadsTo, OpensTo, OpensFile, HasOu
 use Rattle.cl_top.specs.Run.{ComesAs, ComesTo, ComesToTold, IsFileFault, IsWhole, IsCarriedOut}
 use Rattle.cl_top.proofs.Endings.{Carried, counted_rose}
 use Rattle.cl_top.proofs.FileAlone.{has_model, of_each as of_model}
+use Rattle.cl_top.proofs.OfApply.{of_apply}
 use Rattle.cl_top.proofs.OfEdit.{of_edit}
 use Rattle.cl_top.proofs.OfReplay.{of_replay}
 use Rattle.cl_top.proofs.OneFile.{IsOfModel, of_answer, of_simulate}
@@ -120,6 +122,7 @@ module _ (words : List (List ℕ)) (shelf : ShelfCall) (contents : ℕ → List 
       told_of_model (command.Simulate ticks seed) (IsSimulated ticks seed) (of_simulate ticks seed) found tells comes
   told_comes (Some command.Replay) found tells comes = told_of_two command.Replay TRACE_LIMIT IsOfTrace of_replay found tells comes
   told_comes (Some command.Edit) found tells comes = told_of_two command.Edit FILE_LIMIT IsOfEdits of_edit found tells comes
+  told_comes (Some command.Apply) found tells comes = told_of_two command.Apply FILE_LIMIT IsOfApply of_apply found tells comes
   told_comes (Some (command.Generate seed tasks)) found tells comes = inl comes.follows
   told_comes (Some (command.Survey seed tasks)) found tells comes = inl comes.follows
   told_comes (Some command.Check) found tells comes =

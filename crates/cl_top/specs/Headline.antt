@@ -8,6 +8,7 @@ use Rattle.cl_model.specs.Reading.{model_of}
 use Rattle.cl_model.specs.Validity.{IsValid}
 use Rattle.cl_edit.specs.declared.edit.Edit.{Edit}
 use Rattle.cl_edit.specs.declared.edit.Edit.TheVariants.{Report}
+use Rattle.cl_edit.specs.Edited.{after}
 use Rattle.cl_edit.specs.Reading.{AreEditsOf}
 use Rattle.cl_analyse.specs.declared.findings.Findings.{Findings}
 use Rattle.cl_analyse.specs.Findings.{AreFindings}
@@ -21,10 +22,11 @@ use Rattle.cl_runs.specs.SystemOf.{system_of}
 use Rattle.cl_runs.specs.Legal.{IsLegal}
 use Rattle.cl_trace.specs.Rules.{IsTraceOf}
 use Rattle.cl_replay.specs.Margins.{IsReplayWithMargins}
+use Rattle.cl_write.specs.Texts.{IsTextOf}
 use Rattle.cl_cut.specs.CutAnswers.{AreSafeAnswers, AreNoWorseAnswers}
 use Rattle.cl_designs.specs.Cuts.{IsCutTextOf}
 use Rattle.cl_top.specs.declared.command.Command.{Command}
-use Rattle.cl_top.specs.declared.command.Command.TheVariants.{OfModel, Replay, Edit as EditFiles}
+use Rattle.cl_top.specs.declared.command.Command.TheVariants.{OfModel, Replay, Edit as EditFiles, Apply}
 use Rattle.cl_top.specs.declared.command.OfModel.TheVariants.{Analyse, Cut, Tighten, Verify}
 use Rattle.cl_top.specs.declared.opening.TheConstants.{FILE_LIMIT}
 use Rattle.cl_top.specs.Calls.{SinkCall}
@@ -125,6 +127,17 @@ pub record AreSafeReports (bytes listed text : List ℕ) : Type 0 where
   pub printed : text ≡ concat pieces
   pub safe : (place : ℕ) → place < count → slice_index_or edits place Report ≡ Report → IsSafePiece model edits place (slice_index_or pieces place [])
 
+-- The text is read as the model after the edits, of the model that the bytes mean; it is of version 2, and its model is valid.
+pub record HoldsEdited (bytes listed text : List ℕ) : Type 0 where
+  pub model : SystemModel
+  pub means : model_of bytes ≡ Ok model
+  pub edits : List Edit
+  pub are : AreEditsOf listed edits
+  pub made : SystemModel
+  pub applied : after model edits ≡ Ok made
+  pub valid : IsValid made
+  pub is_text : IsTextOf made text
+
 -- What a command prints that did what it says, of files of these bytes, is safe.
 abbrev pub IsSafeText : Command → (contents : ℕ → List ℕ) → (text : List ℕ) → Type 0
 IsSafeText (OfModel Analyse) contents text = IsSafeReport (contents 1) text
@@ -133,6 +146,7 @@ IsSafeText (OfModel Tighten) contents text = IsSafeTightReport (contents 1) text
 IsSafeText (OfModel Verify) contents text = ProvesInTime (contents 1)
 IsSafeText Replay contents text = IsSafeReplay (contents 1) (contents 2) text
 IsSafeText EditFiles contents text = AreSafeReports (contents 1) (contents 2) text
+IsSafeText Apply contents text = HoldsEdited (contents 1) (contents 2) text
 IsSafeText asked contents text = Unit {0}
 
 -- a safe text was written, and nothing else

@@ -9,6 +9,7 @@ returns-in_default c =
       simulate = c.in_default.not-simulate;
       replay = c.in_default.not-replay;
       edit = c.in_default.not-edit;
+      apply = c.in_default.not-apply;
       generate = c.in_default.not-generate;
       survey = c.in_default.not-survey;
       check = c.in_default.not-check;

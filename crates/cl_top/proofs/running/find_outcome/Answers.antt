@@ -31,6 +31,9 @@ returns-in-Some-Version-clause-comes g c =
 pub returns-in-Some-Simulate-clause-leaves : goal.returns-in-Some-Simulate-clause-leaves
 returns-in-Some-Simulate-clause-leaves g c = c.simulate_file.ensures.leaves c.args.steps.now
 
+pub returns-in-Some-Apply-clause-leaves : goal.returns-in-Some-Apply-clause-leaves
+returns-in-Some-Apply-clause-leaves g c = c.apply_files.ensures.leaves c.args.steps.now
+
 pub generated-requires-clause-some : goal.generated-requires-clause-some
 generated-requires-clause-some g c =
     (asks_for_few c.args.words.now (command.Generate c.in-Some-Generate.seed c.in-Some-Generate.tasks) (sym c.in-Some-Generate.ensures ∙ ap Some c.in-Some-Generate.field-0-is)).0

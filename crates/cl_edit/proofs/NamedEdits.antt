@@ -1,0 +1,101 @@
+-- Edits whose names are of the name grammar keep the names of a model so.
+use Rattle.std.proofs.Common.{◌≡◌, ℕ, List, [], ◌∷◌, ◌++◌, subst, get_or, set}
+use Rattle.std.specs.Prelude.{All, remove, Ok}
+use Rattle.std.proofs.lemmas.List.Elements.{All-nil, All-cons, All-append}
+use Rattle.cl_model.specs.declared.model.SystemModel.{SystemModel}
+use Rattle.cl_model.specs.declared.stimulus.StimulusDef.{StimulusDef}
+use Rattle.cl_model.specs.declared.stimulus.StimulusKind.{StimulusKind}
+use Rattle.cl_model.specs.declared.task.RunnableDef.{RunnableDef}
+use Rattle.cl_model.specs.declared.task.TaskDef.{TaskDef}
+use Rattle.cl_model.specs.declared.chain.ChainDef.{ChainDef}
+use Rattle.cl_model.specs.AreNamed.{IsRunnableNamed, IsTaskNamed, IsChainNamed, AreNamed}
+use Rattle.cl_model.specs.ByNumber.{no_task, no_runnable}
+use Rattle.cl_model.specs.Groups.{step_named}
+use Rattle.cl_model.specs.Name.{IsName}
+use Rattle.cl_edit.specs.declared.edit.Edit.{Edit}
+use Rattle.cl_edit.specs.declared.edit.Edit.TheVariants.{Range, Whole, Period, Offset, Jitter, Distances, Burst, Deadline, Swap, Move, Kind, AddTask, DropTask, AddChain, DropChain, Report}
+use Rattle.cl_edit.specs.Changes.{no_stimulus_def, with_period, with_offset, with_jitter, with_distances, with_burst}
+use Rattle.cl_edit.specs.Edited.{with_edit, edited, task_number, chain_number, stimulus_number}
+use Rattle.cl_edit.specs.Reading.{IsEditNamed}
+use Rattle.cl_edit.proofs.EditedValid.{made_is}
+use Rattle.cl_edit.proofs.RangeFacts.{changed_all, removed_all}
+
+-- ---- sections
+
+-- other tasks, stimuli and chains
+other_tasks : (model : SystemModel) (tasks : List TaskDef) → All IsTaskNamed tasks → AreNamed model → AreNamed (record model { tasks = tasks })
+other_tasks model tasks all h = record { cores = h.cores; stimuli = h.stimuli; labels = h.labels; tasks = all; chains = h.chains; requirements = h.requirements }
+
+other_chains : (model : SystemModel) (chains : List ChainDef) → All IsChainNamed chains → AreNamed model → AreNamed (record model { chains = chains })
+other_chains model chains all h = record { cores = h.cores; stimuli = h.stimuli; labels = h.labels; tasks = h.tasks; chains = all; requirements = h.requirements }
+
+-- a stimulus of another kind
+other_kind : (model : SystemModel) (s : ℕ) (f : StimulusKind → StimulusKind) → AreNamed model
+    → AreNamed (record model { stimuli = set model.stimuli s (record (get_or model.stimuli s no_stimulus_def) { kind = f (get_or model.stimuli s no_stimulus_def).kind }) })
+other_kind model s f h = record {
+  cores = h.cores;
+  stimuli = changed_all (λ (stimulus : StimulusDef). IsName stimulus.name) (λ stimulus. record stimulus { kind = f stimulus.kind }) (λ stimulus k. k) model.stimuli s no_stimulus_def h.stimuli;
+  labels = h.labels;
+  tasks = h.tasks;
+  chains = h.chains;
+  requirements = h.requirements;
+}
+
+-- a task that is changed and keeps its names
+other_task : (model : SystemModel) (i : ℕ) (f : TaskDef → TaskDef) → ((t : TaskDef) → IsTaskNamed t → IsTaskNamed (f t)) → AreNamed model
+    → AreNamed (record model { tasks = set model.tasks i (f (get_or model.tasks i no_task)) })
+other_task model i f keep h =
+    other_tasks model (set model.tasks i (f (get_or model.tasks i no_task))) (changed_all IsTaskNamed f keep model.tasks i no_task h.tasks) h
+
+other_runnable : (p : ℕ) (f : RunnableDef → RunnableDef) → ((r : RunnableDef) → IsRunnableNamed r → IsRunnableNamed (f r)) → (t : TaskDef) → IsTaskNamed t
+    → IsTaskNamed (record t { runnables = set t.runnables p (f (get_or t.runnables p no_runnable)) })
+other_runnable p f keep t h = record {
+  name = h.name;
+  core = h.core;
+  stimulus = h.stimulus;
+  runnables = changed_all IsRunnableNamed f keep t.runnables p no_runnable h.runnables;
+}
+
+other_priority : (priority : ℕ) (t : TaskDef) → IsTaskNamed t → IsTaskNamed (record t { priority = priority })
+other_priority priority t h = record { name = h.name; core = h.core; stimulus = h.stimulus; runnables = h.runnables }
+
+-- ---- edits
+
+edits_keep_names : (model : SystemModel) (edit : Edit) → AreNamed model → IsEditNamed edit → AreNamed (with_edit model edit)
+unfolding with_edit
+edits_keep_names model (Range runnable least greatest) h good =
+    other_task model (step_named model runnable).task _ (other_runnable (step_named model runnable).place (λ r. record r { least = least; greatest = greatest })
+    (λ r k. record { name = k.name; reads = k.reads; writes = k.writes })) h
+edits_keep_names model (Whole runnable whole) h good =
+    other_task model (step_named model runnable).task _ (other_runnable (step_named model runnable).place (λ r. record r { whole = whole })
+    (λ r k. record { name = k.name; reads = k.reads; writes = k.writes })) h
+edits_keep_names model (Period stimulus period) h good = other_kind model (stimulus_number model stimulus) (with_period period) h
+edits_keep_names model (Offset stimulus offset) h good = other_kind model (stimulus_number model stimulus) (with_offset offset) h
+edits_keep_names model (Jitter stimulus jitter) h good = other_kind model (stimulus_number model stimulus) (with_jitter jitter) h
+edits_keep_names model (Distances stimulus least greatest) h good = other_kind model (stimulus_number model stimulus) (with_distances least greatest) h
+edits_keep_names model (Burst stimulus period count distance) h good = other_kind model (stimulus_number model stimulus) (with_burst period count distance) h
+edits_keep_names model (Deadline task deadline) h good =
+    other_task model (task_number model task) (λ t. record t { deadline = deadline })
+    (λ t k. record { name = k.name; core = k.core; stimulus = k.stimulus; runnables = k.runnables }) h
+edits_keep_names model (Swap one other) h good =
+    let i : ℕ = task_number model one in
+    let b : ℕ = (get_or model.tasks (task_number model other) no_task).priority in
+    let a : ℕ = (get_or model.tasks i no_task).priority in
+    other_task (record model { tasks = set model.tasks i (record (get_or model.tasks i no_task) { priority = b }) }) (task_number model other)
+    (λ t. record t { priority = a }) (other_priority a) (other_task model i (λ t. record t { priority = b }) (other_priority b) h)
+edits_keep_names model (Move task core priority) h good =
+    other_task model (task_number model task) (λ t. record t { core = core; priority = priority })
+    (λ t k. record { name = k.name; core = good.1; stimulus = k.stimulus; runnables = k.runnables }) h
+edits_keep_names model (Kind task access) h good =
+    other_task model (task_number model task) (λ t. record t { access = access })
+    (λ t k. record { name = k.name; core = k.core; stimulus = k.stimulus; runnables = k.runnables }) h
+edits_keep_names model (AddTask task) h good = other_tasks model (model.tasks ++ task ∷ [])
+    (All-append IsTaskNamed model.tasks (task ∷ []) h.tasks (All-cons IsTaskNamed task [] good (All-nil IsTaskNamed))) h
+edits_keep_names model (DropTask task) h good = other_tasks model (remove model.tasks (task_number model task)) (removed_all IsTaskNamed model.tasks (task_number model task) h.tasks) h
+edits_keep_names model (AddChain chain) h good = other_chains model (model.chains ++ chain ∷ [])
+    (All-append IsChainNamed model.chains (chain ∷ []) h.chains (All-cons IsChainNamed chain [] good (All-nil IsChainNamed))) h
+edits_keep_names model (DropChain chain) h good = other_chains model (remove model.chains (chain_number model chain)) (removed_all IsChainNamed model.chains (chain_number model chain) h.chains) h
+edits_keep_names model Report h good = h
+
+pub edited_named : (model : SystemModel) (edit : Edit) (changed : SystemModel) → AreNamed model → IsEditNamed edit → edited model edit ≡ Ok changed → AreNamed changed
+edited_named model edit changed named good is = subst AreNamed (made_is model edit changed is) (edits_keep_names model edit named good)

@@ -1,0 +1,24 @@
+use Rattle.std.proofs.Common.{ℕ, ap, ◌∙◌, inl, inr}
+use Rattle.std.proofs.lemmas.Result.{IfOk-weaker}
+use Rattle.std.specs.Prelude.{Err}
+use Rattle.cl_model.specs.declared.refusal.Code.TheVariants.{E1}
+use Rattle.cl_model.specs.Place.{top}
+use Rattle.cl_top.specs.Commands.Edit.{edits_refused}
+use Rattle.cl_top.proofs.Applied.{applied_of}
+use Rattle.cl_top.proofs.commands.apply.applied.Goals as goal
+
+pub returns-in-Ok : goal.returns-in-Ok
+returns-in-Ok c = IfOk-weaker c.apply_lines.result _ _ (λ outcome is.
+    let listed = c.in-Ok.ensures.lines in
+    inl (record {
+      edits = listed.0;
+      are = listed.1;
+      applied_to = applied_of c.args.model listed.0 outcome (is listed.0 listed.1.listed.lines listed.2);
+    })) c.apply_lines.ensures
+
+pub returns-in-Err-BadLine : goal.returns-in-Err-BadLine
+returns-in-Err-BadLine c = IfOk-weaker c.bad_line.result _ _ (λ outcome is. inr (record {
+  number = c.in-Err-BadLine.line;
+  bad = c.in-Err-BadLine.ensures.bad_line c.in-Err-BadLine.line (ap Err c.in-Err-BadLine.field-0-is);
+  printed = is ∙ ap (λ (number : ℕ). edits_refused number (record { code = E1; place = top })) c.in-Err-BadLine.line-is;
+})) c.bad_line.ensures
