@@ -5,6 +5,7 @@ use Rattle.std.proofs.lemmas.List.{append-nil, append_cancel_left}
 use Rattle.std.proofs.lemmas.List.Elements.{All-head, All-tail}
 use Rattle.cl_text.specs.Standing.{NoneStands}
 use Rattle.cl_edit.specs.declared.edit.Edit.{Edit}
+use Rattle.cl_edit.specs.declared.limits.TheConstants.{MOST_EDITS}
 use Rattle.cl_edit.specs.Lines.{edit_line, title_line, edit_lines}
 use Rattle.cl_edit.specs.Listed.{ListsSome, IsFirstOf, GivesNext}
 use Rattle.cl_edit.specs.Reading.{IsLineEdit, is_report, MayBeListed, AreEditsOf, IsBadEditLine}
@@ -61,7 +62,7 @@ pub lines_of : (text lines : List ℕ) (edits : List Edit) → text ≡ title_li
 lines_of text lines edits whole are = append_cancel_left title_line lines (edit_lines edits) (sym whole ∙ are.written)
 
 pub lists_some : (text lines : List ℕ) (edits : List Edit) → text ≡ title_line ++ lines → AreEditsOf text edits → ListsSome lines
-lists_some text lines edits whole are = record { edits = edits; are = are.listed.lines; written = lines_of text lines edits whole are }
+lists_some text lines edits whole are = record { edits = edits; are = are.listed.lines; few = are.listed.few; written = lines_of text lines edits whole are }
 
 -- ---- the next line
 
@@ -83,13 +84,14 @@ gives_next lines rest edit good stands (first ∷ others) all are =
 
 -- and the others are left
 pub lists_rest : (lines rest : List ℕ) (edit : Edit) → ListsSome lines → IsLineEdit edit → lines ≡ edit_line edit ++ rest → ListsSome rest
-lists_rest lines rest edit some good stands = by_edits some.edits some.are some.written
+lists_rest lines rest edit some good stands = by_edits some.edits some.are some.few some.written
   where
-    by_edits : (edits : List Edit) → All IsLineEdit edits → lines ≡ edit_lines edits → ListsSome rest
-    by_edits [] all are = absurd (omega (arith, ap length are, line_shortens lines rest edit stands))
-    by_edits (first ∷ others) all are = record {
+    by_edits : (edits : List Edit) → All IsLineEdit edits → length edits ≤ MOST_EDITS → lines ≡ edit_lines edits → ListsSome rest
+    by_edits [] all few are = absurd (omega (arith, ap length are, line_shortens lines rest edit stands))
+    by_edits (first ∷ others) all few are = record {
       edits = others;
       are = All-tail IsLineEdit first others all;
+      few = omega (arith, few);
       written = (one_edit edit first rest (edit_lines others) good (All-head IsLineEdit first others all) (sym stands ∙ are)).1;
     }
 

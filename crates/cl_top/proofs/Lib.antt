@@ -19,6 +19,8 @@ pub mod OfReplay
 pub mod OfEdit
 pub mod OfApply
 pub mod Applied
+pub mod LinesLeft
+pub mod EditedSoFar
 pub mod EditsOnce
 pub mod EditSteps
 pub mod ReportLines

@@ -1,11 +1,10 @@
 -- What edits come to that are applied one after the other.
-use Rattle.std.specs.Prelude.{◌≡◌, ℕ, ◌+◌, List, [], ◌∷◌, All, Result, Ok, Err}
+use Rattle.std.specs.Prelude.{◌≡◌, ℕ, ◌+◌, List, [], ◌∷◌, Result, Ok, Err}
 use Rattle.cl_model.specs.declared.model.SystemModel.{SystemModel}
 use Rattle.cl_model.specs.declared.refusal.Refusal.{Refusal}
 use Rattle.cl_edit.specs.declared.edit.Edit.{Edit}
 use Rattle.cl_edit.specs.Edited.{edited}
-use Rattle.cl_edit.specs.Lines.{edit_lines}
-use Rattle.cl_edit.specs.Reading.{IsLineEdit}
+use Rattle.cl_edit.specs.Listed.{OfLines}
 use Rattle.cl_write.specs.Texts.{IsTextOf}
 use Rattle.cl_top.specs.declared.outcome.Outcome.{Outcome}
 use Rattle.cl_top.specs.Commands.Edit.{edits_refused}
@@ -23,4 +22,4 @@ ApplyTo number model (edit ∷ edits) found = OrRefused number (edited model edi
 
 -- so do the edits of these lines
 abbrev pub LinesApplyTo : (number : ℕ) → SystemModel → (lines : List ℕ) → Outcome → Type 0
-LinesApplyTo number model lines found = (edits : List Edit) → All IsLineEdit edits → lines ≡ edit_lines edits → ApplyTo number model edits found
+LinesApplyTo number model lines found = OfLines lines (λ edits. ApplyTo number model edits found)

@@ -1,4 +1,5 @@
 ghost use Rattle.std.specs.Prelude.{IfOk};
+ghost use Rattle.cl_edit.specs.Listed.{ListsSome};
 ghost use Rattle.cl_top.specs.Commands.Apply.{IsOfApply};
 ghost use Rattle.cl_top.specs.Inner.Applying.{LinesApplyTo};
 
@@ -29,6 +30,7 @@ fn apply_lines(
     model: ValidModel,
     lines: EditLines<'_>,
 ) -> Result<Outcome, NoMemory>
+    requires { ListsSome lines }
     ensures { IfOk result (LinesApplyTo 2 model lines) }
 {
     let mut model = model;

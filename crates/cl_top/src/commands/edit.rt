@@ -1,17 +1,18 @@
-ghost use Rattle.std.specs.Prelude.{◌≡◌, ℕ, ◌++◌, List, Ok, Err, All, IfOk, OnOk};
+ghost use Rattle.std.specs.Prelude.{◌≡◌, ℕ, ◌++◌, List, Ok, Err, IfOk, OnOk};
 ghost use Rattle.cl_model.specs.Place.{top};
 ghost use Rattle.cl_model.specs.declared.refusal.Refusal.{Refusal};
 ghost use Rattle.cl_edit.specs.Edited.{edited};
+ghost use Rattle.cl_edit.specs.Listed.{ListsSome, OfLines};
 ghost use Rattle.cl_edit.specs.Ranges.{IsEditInRange};
 ghost use Rattle.cl_top.specs.Commands.Edit.{edits_refused, behind, IsWrittenBy, AreEditedTo, IsOfEdits};
 ghost use Rattle.cl_top.specs.Inner.Edits.{IsMade, HasAsked, HaveAsked};
 ghost use Rattle.cl_top.specs.Steps.{AskForChanges, AreFewOfEdits};
 
 use crate::{Outcome, status};
-use cl_edit::{Edit, EditsFault, read_edits};
+use cl_edit::{Edit, EditLines, EditsFault};
 use cl_incr::Session;
 use cl_model::{Code, ModelFault, Place, Refusal, ValidModel};
-use cl_report::report;
+use cl_report::put_report;
 use cl_text::Text;
 use cl_time::{NoMemory, Steps};
 use std::alloc::Global;
@@ -30,52 +31,54 @@ pub(crate) fn edited<L: Ledger>(
     ensures outcome { IfOk result (IsOfEdits model text.now) }
     ensures steps { AreFewOfEdits (Ok model) text.now steps.old steps.new }
 {
-    match read_edits(alloc, text) {
-        Ok(edits) => report_edited(alloc, model, edits.as_slice(), steps),
+    match EditLines::of(alloc, text) {
+        Ok(lines) => report_edited(alloc, model, lines, steps),
         Err(EditsFault::BadLine { line }) => bad_line(alloc, line),
         Err(EditsFault::NoMemory) => Err(NoMemory),
     }
 }
 
-/// The reports of a model as it is edited.
+/// The reports of a model as it is edited, one line after the other.
 fn report_edited<L: Ledger>(
     alloc: Global,
     model: ValidModel,
-    edits: &[Edit],
+    lines: EditLines<'_>,
     steps: &mut Steps<L>,
 ) -> Result<Outcome, NoMemory>
-    requires { All IsEditInRange edits.now }
-    ensures outcome { IfOk result (AreEditedTo model edits.now) }
-    ensures steps { HaveAsked edits.now model steps.old steps.new }
+    requires { ListsSome lines }
+    ensures outcome { IfOk result (λ found. OfLines lines (λ edits. AreEditedTo model edits found)) }
+    ensures steps { OfLines lines (λ edits. HaveAsked edits model steps.old steps.new) }
 {
     let session = Session::start(alloc, model, steps)?;
-    report_on(alloc, session, edits, steps)
+    report_on(alloc, session, lines, steps)
 }
 
-/// The reports of a session's model as it is edited.
+/// The reports of a session's model as it is edited, one line after the other, of which the first is line 2 of its text.
 fn report_on<L: Ledger>(
     alloc: Global,
     session: Session,
-    edits: &[Edit],
+    lines: EditLines<'_>,
     steps: &mut Steps<L>,
 ) -> Result<Outcome, NoMemory>
-    requires { All IsEditInRange edits.now }
-    ensures outcome { IfOk result (AreEditedTo session.model edits.now) }
-    ensures steps { AskForChanges edits.now session.model steps.old steps.new }
+    requires { ListsSome lines }
+    ensures outcome { IfOk result (λ found. OfLines lines (λ edits. AreEditedTo session.model edits found)) }
+    ensures steps { OfLines lines (λ edits. AskForChanges edits session.model steps.old steps.new) }
 {
     let mut session = session;
+    let mut lines = lines;
     let mut text = Text::new(alloc);
-    for (place, edit) in edits.iter().enumerate() {
-        if let Err(fault) = make_edit(alloc, &mut session, edit, &mut text, steps) {
-            return stopped(alloc, text, place as u64 + 2, fault);
+    let mut number = 2;
+    while let Some(edit) = lines.next(alloc)? {
+        if let Err(fault) = make_edit(&mut session, &edit, &mut text, steps) {
+            return stopped(alloc, text, number, fault);
         }
+        number += 1;
     }
     Ok(Outcome::done(text))
 }
 
 /// Makes an edit of the session's model, and puts its report for a report line.
 fn make_edit<L: Ledger>(
-    alloc: Global,
     session: &mut Session,
     edit: &Edit,
     text: &mut Text,
@@ -88,24 +91,16 @@ fn make_edit<L: Ledger>(
     ensures steps { HasAsked session.old.model (edited session.old.model edit.now) steps.old steps.new }
 {
     session.apply(edit, steps)?;
-    put_reported(alloc, session, edit, text)?;
+    put_reported(session, edit, text)?;
     Ok(())
 }
 
 /// Puts the report of the session's model for a report line, and nothing for any other edit.
-fn put_reported(
-    alloc: Global,
-    session: &Session,
-    edit: &Edit,
-    text: &mut Text,
-) -> Result<(), NoMemory>
+fn put_reported(session: &Session, edit: &Edit, text: &mut Text) -> Result<(), NoMemory>
     ensures { OnOk result ((written : List ℕ) × IsWrittenBy session.now.model edit.now written × (text.new ≡ text.old ++ written)) }
 {
     match edit {
-        Edit::Report => {
-            let report = report(alloc, session.model(), session.findings())?;
-            text.put(report.as_slice())
-        }
+        Edit::Report => put_report(text, session.model(), session.findings()),
         _ => Ok(()),
     }
 }
