@@ -1,5 +1,5 @@
 use Rattle.cl_resp.proofs.Questions.{is_question, is_in_range}
-use Rattle.cl_resp.proofs.asking.asked.Goals as goal
+use Rattle.cl_resp.proofs.asking.ask_either.Goals as goal
 
 pub returns-clause-question : goal.returns-clause-question
 returns-clause-question c =
