@@ -2,6 +2,7 @@
 ghost use Rattle.std.specs.Prelude.{◌≡◌, ◌+◌, ◌*◌, ◌<◌, ◌≤◌, length, slice_index_or, IfOk};
 ghost use Rattle.cl_model.specs.Groups.{steps_of};
 ghost use Rattle.cl_model.specs.ByNumber.{chain_at};
+ghost use Rattle.cl_model.specs.Validity.{IsValid};
 ghost use Rattle.cl_runs.specs.SystemOf.{system_of};
 ghost use Rattle.cl_bound.specs.Answers.{answers_of, answer_at, is_late};
 ghost use Rattle.cl_analyse.specs.ChainAnswers.{first_late, chain_answer_of, chain_answers_of, OnLate};
@@ -37,8 +38,7 @@ pub fn analyse<L: Ledger>(
     ensures safe { IfOk result (AreSafeFindings model.now) }
     ensures steps { steps.new ≤ steps.old + (length model.now.tasks + 2 * length model.now.chains) }
 {
-    let with_own = true;
-    let tasks = answer_tasks(alloc, model, with_own, steps)?;
+    let tasks = answer_plainly(alloc, model, steps)?;
     let chains = answer_chains(alloc, model, &tasks, steps)?;
     let exacts = answer_exacts(alloc, model, &chains, steps)?;
     let verdicts = judge_all(alloc, model, &chains, &exacts)?;
@@ -48,6 +48,20 @@ pub fn analyse<L: Ledger>(
         exacts,
         verdicts,
     })
+}
+
+/// The answers to the questions of all tasks.
+fn answer_plainly<L: Ledger>(
+    alloc: Global,
+    model: &ValidModel,
+    steps: &mut Steps<L>,
+) -> Result<List<TaskAnswer>, NoMemory>
+    ensures answers { IfOk result (λ answers. answers ≡ answers_of (system_of model.now)) }
+    ensures steps { steps.new ≤ steps.old + length model.now.tasks }
+    ensures valid { IsValid model.now }
+{
+    let with_own = true;
+    answer_tasks(alloc, model, with_own, steps)
 }
 
 /// The answers for all chains, from those for all tasks.

@@ -3,4 +3,4 @@ use Rattle.cl_tight.proofs.tightening.answer_tightly.Goals as goal
 
 pub returns-clause-answers : goal.returns-clause-answers
 unfolding tight_answers_of
-returns-clause-answers g c = search rules
+returns-clause-answers g c = c.answer_tasks.ensures.answers
