@@ -21,7 +21,7 @@ use crate::beats::beats_of;
 use crate::exact_lengths::ExactLengths;
 use crate::hyperperiod::{hyper_limit, hyperperiod};
 use crate::limit::HyperLimit;
-use crate::scan::{first_with, greatest_reaction};
+use crate::meeting::{first_with, greatest_reaction};
 use crate::start_up::{first_steady_job, last_steady_job};
 use crate::walk::{backward_jobs, forward_jobs};
 use crate::witness::Witness;
