@@ -128,8 +128,8 @@ fn exact_lengths(beats: &[Beat], hyperperiod: u64) -> ExactLengths
 /// longer, and each witness is a complete chain of each run that lasts to its end.
 ///
 /// `HyperLimit` comes exactly where the hyperperiod of the groups exceeds the limit, which it carries. It counts one
-/// step and takes no memory. Its time grows with the number of first jobs in the hyperperiod, at most a million, times
-/// the number of groups.
+/// step and takes no memory. Its time grows with the number of groups, times that of the first jobs in the hyperperiod,
+/// at most a million, or, where a group is much slower than the first, times that of the jobs of the slowest group.
 pub fn exact_of_groups<L: Ledger>(
     model: &ValidModel,
     groups: &[Group],
