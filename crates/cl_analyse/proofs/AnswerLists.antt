@@ -33,6 +33,16 @@ more_mapped f xs n d old new next lt was is pushed =
 all_mapped : {X Y : Type 0} (f : X → Y) (xs : List X) (n : ℕ) → length xs ≤ n → take n (map f xs) ≡ map f xs
 all_mapped f xs n whole = take_all n (map f xs) (rw (length-map xs f) whole)
 
+pub more_tasks : (model : SystemModel) (n : ℕ) (old new : List TaskAnswer) (next : TaskAnswer) → n < length model.tasks → old ≡ take n (answers_of (system_of model))
+    → next ≡ answer_to (system_of model) (timing_at (system_of model) n) → new ≡ old ++ next ∷ [] → new ≡ take (n + 1) (answers_of (system_of model))
+unfolding answers_of
+more_tasks model n old new next lt was is pushed =
+    more_mapped (answer_to (system_of model)) (system_of model).tasks n no_timing old new next (omega (arith, lt, count_is model)) was is pushed
+
+pub all_tasks : (model : SystemModel) (n : ℕ) → length model.tasks ≤ n → take n (answers_of (system_of model)) ≡ answers_of (system_of model)
+unfolding answers_of
+all_tasks model n whole = all_mapped (answer_to (system_of model)) (system_of model).tasks n (omega (arith, whole, count_is model))
+
 pub more_chains : (model : SystemModel) (n : ℕ) (old new : List ChainAnswer) (next : ChainAnswer) → n < length model.chains → old ≡ take n (map (chain_answer_of model) model.chains)
     → next ≡ chain_answer_of model (get_or model.chains n no_chain) → new ≡ old ++ next ∷ [] → new ≡ take (n + 1) (map (chain_answer_of model) model.chains)
 more_chains model n = more_mapped (chain_answer_of model) model.chains n no_chain
