@@ -1,5 +1,6 @@
 pub mod FirstLate
 pub mod AnswerLists
+pub mod TaskAnswers
 pub mod LateTasks
 pub mod ExactAnswers
 pub mod KeptRequirements

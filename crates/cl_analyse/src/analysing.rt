@@ -4,10 +4,7 @@ ghost use Rattle.cl_model.specs.Groups.{steps_of};
 ghost use Rattle.cl_model.specs.ByNumber.{chain_at};
 ghost use Rattle.cl_model.specs.Validity.{IsValid};
 ghost use Rattle.cl_runs.specs.SystemOf.{system_of};
-ghost use Rattle.cl_runs.specs.TaskTiming.{timing_at};
-ghost use Rattle.cl_resp.specs.Question.{IsQuestionInRange};
-ghost use Rattle.cl_resp.specs.Response.{response_to};
-ghost use Rattle.cl_bound.specs.Answers.{answer_with, answer_to, answers_of, answer_at, is_late};
+ghost use Rattle.cl_bound.specs.Answers.{answers_of, answer_at, is_late};
 ghost use Rattle.cl_analyse.specs.ChainAnswers.{first_late, chain_answer_of, chain_answers_of, OnLate};
 ghost use Rattle.cl_analyse.specs.Findings.{AreFindings};
 ghost use Rattle.cl_analyse.specs.Headline.{AreSafeFindings};
@@ -15,9 +12,9 @@ ghost use Rattle.cl_analyse.specs.Headline.{AreSafeFindings};
 use crate::exact_answers::answer_exacts;
 use crate::findings::{ChainAnswer, Findings};
 use crate::judging::judge_all;
+use crate::task_answers::answer_tasks;
 use cl_bound::{TaskAnswer, bound};
 use cl_model::{List, ValidModel};
-use cl_resp::{Late, Question, ask, respond};
 use cl_time::{NoMemory, Steps};
 use std::alloc::Global;
 use std::sync::ledger::Ledger;
@@ -41,7 +38,7 @@ pub fn analyse<L: Ledger>(
     ensures safe { IfOk result (AreSafeFindings model.now) }
     ensures steps { steps.new ≤ steps.old + (length model.now.tasks + 2 * length model.now.chains) }
 {
-    let tasks = answer_tasks(alloc, model, steps)?;
+    let tasks = answer_plainly(alloc, model, steps)?;
     let chains = answer_chains(alloc, model, &tasks, steps)?;
     let exacts = answer_exacts(alloc, model, &chains, steps)?;
     let verdicts = judge_all(alloc, model, &chains, &exacts)?;
@@ -54,7 +51,7 @@ pub fn analyse<L: Ledger>(
 }
 
 /// The answers to the questions of all tasks.
-fn answer_tasks<L: Ledger>(
+fn answer_plainly<L: Ledger>(
     alloc: Global,
     model: &ValidModel,
     steps: &mut Steps<L>,
@@ -63,39 +60,8 @@ fn answer_tasks<L: Ledger>(
     ensures steps { steps.new ≤ steps.old + length model.now.tasks }
     ensures valid { IsValid model.now }
 {
-    let mut answers = List::new(alloc);
-    for task in 0..model.tasks() {
-        answers.push(answer_task(alloc, model, task, steps)?)?;
-    }
-    Ok(answers)
-}
-
-/// The answer to the question of a task.
-fn answer_task<L: Ledger>(
-    alloc: Global,
-    model: &ValidModel,
-    task: u32,
-    steps: &mut Steps<L>,
-) -> Result<TaskAnswer, NoMemory>
-    requires { task < length model.now.tasks }
-    ensures answer { IfOk result (λ answer. answer ≡ answer_to (system_of model.now) (timing_at (system_of model.now) task)) }
-    ensures steps { steps.new ≤ steps.old + 1 }
-{
-    let question = ask(alloc, model, task)?;
-    Ok(answer_question(&question, steps))
-}
-
-/// The answer to the question of a task: its window and its response, in ticks, or that it is late. It counts one step
-/// and takes no memory.
-pub fn answer_question<L: Ledger>(question: &Question, steps: &mut Steps<L>) -> TaskAnswer
-    requires { IsQuestionInRange question.now }
-    ensures answer { result ≡ answer_with (response_to question.now) }
-    ensures steps { steps.new ≡ steps.old + 1 }
-{
-    match respond(question, steps) {
-        Ok(settled) => TaskAnswer::Settled(settled),
-        Err(Late) => TaskAnswer::Late,
-    }
+    let with_own = true;
+    answer_tasks(alloc, model, with_own, steps)
 }
 
 /// The answers for all chains, from those for all tasks.

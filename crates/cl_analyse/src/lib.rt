@@ -7,8 +7,10 @@ mod exact_answers;
 mod findings;
 mod judging;
 pub mod laws;
+mod task_answers;
 
-pub use analysing::{analyse, answer_chain, answer_question, first_late};
+pub use analysing::{analyse, answer_chain, first_late};
 pub use exact_answers::answer_exact;
 pub use findings::{ChainAnswer, ExactAnswer, Findings, Verdict};
 pub use judging::{bound_value, judge_all, verdict_on};
+pub use task_answers::{answer_below, answer_question, answer_tasks};

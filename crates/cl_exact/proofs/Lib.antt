@@ -3,6 +3,7 @@ pub mod ForwardJobs
 pub mod BlockFacts
 pub mod ScanFacts
 pub mod WalkFacts
+pub mod Meetings
 pub mod ModelBeats
 pub mod PeriodFacts
 pub mod FixedMoments

@@ -21,7 +21,7 @@ use crate::beats::beats_of;
 use crate::exact_lengths::ExactLengths;
 use crate::hyperperiod::{hyper_limit, hyperperiod};
 use crate::limit::HyperLimit;
-use crate::scan::{first_with, greatest_reaction};
+use crate::meeting::{first_with, greatest_reaction};
 use crate::start_up::{first_steady_job, last_steady_job};
 use crate::walk::{backward_jobs, forward_jobs};
 use crate::witness::Witness;
@@ -128,8 +128,8 @@ fn exact_lengths(beats: &[Beat], hyperperiod: u64) -> ExactLengths
 /// longer, and each witness is a complete chain of each run that lasts to its end.
 ///
 /// `HyperLimit` comes exactly where the hyperperiod of the groups exceeds the limit, which it carries. It counts one
-/// step and takes no memory. Its time grows with the number of first jobs in the hyperperiod, at most a million, times
-/// the number of groups.
+/// step and takes no memory. Its time grows with the number of groups, times that of the first jobs in the hyperperiod,
+/// at most a million, or, where a group is much slower than the first, times that of the jobs of the slowest group.
 pub fn exact_of_groups<L: Ledger>(
     model: &ValidModel,
     groups: &[Group],

@@ -14,6 +14,7 @@ mod hyperperiod;
 mod job_numbers;
 pub mod laws;
 mod limit;
+mod meeting;
 mod scan;
 mod start_up;
 mod walk;

@@ -52,8 +52,9 @@ fn with_block(
     }
 }
 
-/// The greatest reaction of `count` first jobs from `first` on, and the first of them that has it.
-pub(crate) fn greatest_reaction(beats: &[Beat], first: u64, count: u64) -> Greatest
+/// The greatest reaction of `count` first jobs from `first` on, and the first of them that has it: in blocks, whatever the
+/// periods are.
+pub(crate) fn greatest_in_blocks(beats: &[Beat], first: u64, count: u64) -> Greatest
     requires beats { AreBeats beats.now }
     requires some { 1 ≤ first }
     requires early { IsEarlyBlock beats.now first count }
@@ -104,8 +105,8 @@ fn first_in_block(
     }
 }
 
-/// The first of `count` first jobs from `first` on that has a reaction.
-pub(crate) fn first_with(beats: &[Beat], first: u64, count: u64, reaction: u64) -> Option<u64>
+/// The first of `count` first jobs from `first` on that has a reaction: in blocks, whatever the periods are.
+pub(crate) fn first_in_blocks(beats: &[Beat], first: u64, count: u64, reaction: u64) -> Option<u64>
     requires beats { AreBeats beats.now }
     requires some { 1 ≤ first }
     requires early { IsEarlyBlock beats.now first count }

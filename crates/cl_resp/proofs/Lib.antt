@@ -1,6 +1,8 @@
 pub mod FirstFound
 pub mod StimulusKinds
 pub mod Windows
+pub mod WhatIsKept
+pub mod Descending
 pub mod Greatest
 pub mod EnoughAsked
 pub mod SettledTasks
@@ -15,3 +17,5 @@ pub mod BusyWindowJob
 pub mod BusyWindowTask
 pub mod Filters
 pub mod Questions
+pub mod SearchesOfCores
+pub mod RangesKeyed

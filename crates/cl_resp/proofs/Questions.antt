@@ -24,7 +24,7 @@ use Rattle.cl_runs.proofs.ModelSystem.{timing_is}
 use Rattle.cl_stim.specs.AnyStimulus.{as_stimulus}
 use Rattle.cl_resp.specs.declared.question.Above.{Above}
 use Rattle.cl_resp.specs.declared.question.Question.{Question}
-use Rattle.cl_resp.specs.Question.{greatest_execution, is_above, hold_of, longest_hold, block_of, lower_block_of, taken_by, question_of, tight_question_of, IsAboveInRange, IsQuestionInRange}
+use Rattle.cl_resp.specs.Question.{greatest_execution, is_above, hold_of, longest_hold, block_of, lower_block_of, taken_by, question_of, tight_question_of, either_question, IsAboveInRange, IsQuestionInRange}
 use Rattle.cl_resp.proofs.StimulusKinds.{kind_of-as_stimulus, least_few}
 use Rattle.cl_resp.proofs.Filters.{by_number, maps_agree, filter-map, filter-both, fewer}
 use Rattle.cl_resp.proofs.Greatest.{greatest_within, greatest_agrees, greatest_mapped}
@@ -69,12 +69,9 @@ abbrev pub question_by_number : SystemModel → (own : Bool) → (task : ℕ) �
 question_by_number model own task =
     question_with model task (time_of model task) (longest_blocker model own task) (map (above_at model) (numbers_above model task))
 
--- the block and the question that counts the task's own runnables, or the tight one
+-- the block that counts the task's own runnables, or the tight one
 abbrev pub either_block : (own : Bool) → System → Timing → ℕ
 either_block own system task = cond own (block_of system task) (lower_block_of system task)
-
-abbrev pub either_question : (own : Bool) → System → Timing → Question
-either_question own system task = cond own (question_of system task) (tight_question_of system task)
 
 -- ---- the question by number is the question
 

@@ -93,7 +93,7 @@ module _ (question : Question) where
   -- ---- fixpoints
 
   -- where the task takes some time, so does the demand of each width
-  demand_some : (width : ℕ) → question.time ≤ demand question width
+  pub demand_some : (width : ℕ) → question.time ≤ demand question width
   unfolding demand
   demand_some width = omega arith
 

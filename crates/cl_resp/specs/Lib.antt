@@ -1,3 +1,5 @@
 pub mod Question
 pub mod Response
+pub mod Reached
 pub mod Promises
+pub mod Inner

@@ -67,6 +67,10 @@ tight_question_of system task = record {
   above = map taken_by (filter (is_above task) system.tasks);
 }
 
+-- one of the two: with the runnables of its own, or the tight one
+abbrev pub either_question : (own : Bool) → System → Timing → Question
+either_question own system task = cond own (question_of system task) (tight_question_of system task)
+
 -- a question asks enough of a task: it is its question but for the block, which is no less than how long a runnable of
 -- a task of lower priority on its core may hold that. A question of it and a tight one both do
 pub record AsksEnough (system : System) (task : Timing) (question : Question) : Type 0 where

@@ -59,6 +59,10 @@ pub record IsLeastFixpoint (question : Question) (width : ℕ) : Type 0 where
 abbrev pub HasNoFixpoint : Question → Type 0
 HasNoFixpoint question = (width : ℕ) → 1 ≤ width → width ≤ question.deadline - question.jitter → demand question width ≢ width
 
+-- no width below this holds its own demand
+abbrev pub NoneServesBelow : Question → (start : ℕ) → Type 0
+NoneServesBelow question start = (width : ℕ) → width < start → width < demand question width
+
 -- ---- a question that asks no more
 
 -- a question asks no more than another: its task has as long, and no window of a tick or more holds a greater demand

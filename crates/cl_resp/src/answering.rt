@@ -4,9 +4,10 @@ ghost use Rattle.cl_stim.specs.AnyStimulus.{kind_of};
 ghost use Rattle.cl_stim.specs.Releases.{most_releases};
 ghost use Rattle.cl_resp.specs.Question.{IsQuestionInRange};
 ghost use Rattle.cl_resp.specs.Promises.{AnswersFor};
-ghost use Rattle.cl_resp.specs.Response.{demand, busy_window, response_to};
+ghost use Rattle.cl_resp.specs.Response.{demand, busy_window, response_to, NoneServesBelow};
 
 use crate::question::{Above, Question};
+use crate::rising::Rising;
 use crate::settled::{Late, Settled};
 use cl_model::{MOST_RUNNABLES, MOST_TICKS};
 use cl_stim::{Arrivals, MOST_WIDTH};
@@ -14,7 +15,7 @@ use cl_time::Steps;
 use std::sync::ledger::Ledger;
 
 /// What a task of higher priority takes of a window of `width` ticks at most.
-fn taken(above: &Above, width: u64) -> u128
+pub(crate) fn taken(above: &Above, width: u64) -> u128
     requires width { width ≤ MOST_WIDTH }
     requires time { above.now.time ≤ MOST_RUNNABLES * MOST_TICKS }
     ensures taken { result ≡ most_releases (kind_of above.now.stimulus) width * above.now.time }
@@ -38,21 +39,20 @@ pub fn demand(question: &Question, width: u64) -> u128
 
 /// The least window that holds its own demand, where there is one up to the end. It starts at a width below which none
 /// does, and goes on to what is needed, as long as that is more.
-fn window(question: &Question) -> Option<u64>
-    requires { IsQuestionInRange question.now }
+fn window(question: &Question, start: u64) -> Option<u64>
+    requires in_range { IsQuestionInRange question.now }
+    requires start { NoneServesBelow question.now start }
     ensures { result ≡ busy_window question.now }
 {
     let end = question.deadline - question.jitter;
-    let mut width = question.block + question.time;
+    let mut rising = Rising::new();
+    let mut width = start.max(question.block + question.time);
     while width <= end {
-        let needed = demand(question, width);
-        if needed <= u128::from(width) {
+        let needed = rising.demand(question, width, end)?;
+        if needed <= width {
             return Some(width);
         }
-        if needed > u128::from(end) {
-            return None;
-        }
-        width = needed as u64;
+        width = needed;
     }
     None
 }
@@ -68,8 +68,27 @@ pub fn respond<L: Ledger>(question: &Question, steps: &mut Steps<L>) -> Result<S
     ensures finishing { IfOk result (λ settled. AnswersFor question.now settled.response) }
     ensures steps { steps.new ≡ steps.old + 1 }
 {
+    let anew = 0;
+    respond_from(question, anew, steps)
+}
+
+/// What `respond` answers, by a search that starts at a width, where no lesser one holds its own demand. It takes no
+/// memory, and counts one analysing step.
+pub fn respond_from<L: Ledger>(
+    question: &Question,
+    start: u64,
+    steps: &mut Steps<L>,
+) -> Result<Settled, Late>
+    requires in_range { IsQuestionInRange question.now }
+    requires start { NoneServesBelow question.now start }
+    ensures response { MatchResult result
+        (λ settled. response_to question.now ≡ Some settled)
+        (λ _. response_to question.now ≡ None) }
+    ensures finishing { IfOk result (λ settled. AnswersFor question.now settled.response) }
+    ensures steps { steps.new ≡ steps.old + 1 }
+{
     steps.tick();
-    settle(question)
+    settle_from(question, start)
 }
 
 /// What `respond` answers, without a step: for one who asks another question of a task whose step is counted.
@@ -80,7 +99,20 @@ pub fn settle(question: &Question) -> Result<Settled, Late>
         (λ _. response_to question.now ≡ None) }
     ensures finishing { IfOk result (λ settled. AnswersFor question.now settled.response) }
 {
-    match window(question) {
+    let anew = 0;
+    settle_from(question, anew)
+}
+
+/// The answer to a question, by a search that starts at a width, where no lesser one holds its own demand.
+fn settle_from(question: &Question, start: u64) -> Result<Settled, Late>
+    requires in_range { IsQuestionInRange question.now }
+    requires start { NoneServesBelow question.now start }
+    ensures response { MatchResult result
+        (λ settled. response_to question.now ≡ Some settled)
+        (λ _. response_to question.now ≡ None) }
+    ensures finishing { IfOk result (λ settled. AnswersFor question.now settled.response) }
+{
+    match window(question, start) {
         Some(window) => Ok(Settled {
             window,
             response: question.jitter + window,

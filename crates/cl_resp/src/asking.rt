@@ -4,7 +4,7 @@ ghost use Rattle.cl_model.specs.ByNumber.{task_at};
 ghost use Rattle.cl_model.specs.Validity.{IsValid};
 ghost use Rattle.cl_runs.specs.SystemOf.{timing_of, system_of};
 ghost use Rattle.cl_runs.specs.TaskTiming.{timing_at};
-ghost use Rattle.cl_resp.specs.Question.{is_above, block_of, lower_block_of, taken_by, question_of, tight_question_of, IsQuestionInRange};
+ghost use Rattle.cl_resp.specs.Question.{is_above, block_of, lower_block_of, taken_by, question_of, tight_question_of, either_question, IsQuestionInRange};
 
 use crate::question::{Above, Question};
 use cl_model::{List, ValidModel};
@@ -79,13 +79,17 @@ fn block_of(model: &ValidModel, task: u32, priority: u64, own: bool) -> u64
     block
 }
 
-/// The question of a task, given by its number: the tight one, or the one whose block counts its own whole runnables.
-fn asked(alloc: Global, model: &ValidModel, task: u32, own: bool) -> Result<Question, NoMemory>
+/// The question of a task, given by its number: that of `ask`, whose block counts the task's own whole runnables, or the
+/// tight one. The only error is that there is no memory for the tasks above.
+pub fn ask_either(
+    alloc: Global,
+    model: &ValidModel,
+    task: u32,
+    own: bool,
+) -> Result<Question, NoMemory>
     requires { task < length model.now.tasks }
     ensures question { IfOk result (λ question. question
-        ≡ cond own
-        (question_of (system_of model.now) (timing_at (system_of model.now) task))
-        (tight_question_of (system_of model.now) (timing_at (system_of model.now) task))) }
+        ≡ either_question own (system_of model.now) (timing_at (system_of model.now) task)) }
     ensures in_range { IfOk result IsQuestionInRange }
 {
     let priority = model.task(task).priority;
@@ -108,7 +112,7 @@ pub fn ask(alloc: Global, model: &ValidModel, task: u32) -> Result<Question, NoM
     ensures in_range { IfOk result IsQuestionInRange }
 {
     let with_own = true;
-    asked(alloc, model, task, with_own)
+    ask_either(alloc, model, task, with_own)
 }
 
 /// The tight question of a task, given by its number: that of `ask`, but that its block leaves out the task's own whole
@@ -121,5 +125,5 @@ pub fn ask_tight(alloc: Global, model: &ValidModel, task: u32) -> Result<Questio
     ensures in_range { IfOk result IsQuestionInRange }
 {
     let with_own = false;
-    asked(alloc, model, task, with_own)
+    ask_either(alloc, model, task, with_own)
 }

@@ -5,9 +5,12 @@ mod answering;
 mod asking;
 pub mod laws;
 mod question;
+mod reached;
+mod rising;
 mod settled;
 
-pub use answering::{demand, respond, settle};
-pub use asking::{ask, ask_tight};
+pub use answering::{demand, respond, respond_from, settle};
+pub use asking::{ask, ask_either, ask_tight};
 pub use question::{Above, Question};
+pub use reached::{Reached, from_the_top, respond_below};
 pub use settled::{Late, Settled};

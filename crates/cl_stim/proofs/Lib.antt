@@ -1,2 +1,3 @@
 pub use Rattle.cl_stim.specs.Inner.Releases
 pub mod ValidStimuli
+pub mod Widest

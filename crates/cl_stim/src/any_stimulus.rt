@@ -77,6 +77,14 @@ impl Arrivals for AnyStimulus {
         }
     }
 
+    fn widest(&self, width: u64) -> u64 {
+        match self {
+            AnyStimulus::Periodic(periodic) => periodic.widest(width),
+            AnyStimulus::Sporadic(sporadic) => sporadic.widest(width),
+            AnyStimulus::Burst(burst) => burst.widest(width),
+        }
+    }
+
     fn least_gap(&self) -> u64 {
         match self {
             AnyStimulus::Periodic(periodic) => periodic.least_gap(),

@@ -33,6 +33,12 @@ pub trait Arrivals {
         ensures most { result ≡ most self.now width }
         ensures known { is_known self.now };
 
+    /// The widest window, in ticks, in which no more jobs are released than in one of `width` ticks at most.
+    fn widest(&self, width: u64) -> u64
+        requires { width ≤ MOST_WIDTH }
+        ensures no_narrower { width ≤ result }
+        ensures as_many { most self.now result ≡ most self.now width };
+
     /// The least distance between the arrivals of consecutive jobs, in ticks.
     fn least_gap(&self) -> u64
         ensures gap { result ≡ least_distance self.now }

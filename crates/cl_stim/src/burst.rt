@@ -73,6 +73,16 @@ impl Arrivals for Burst {
         whole + self.count.min(rest.div_ceil(self.distance))
     }
 
+    fn widest(&self, width: u64) -> u64 {
+        let begun = width / self.period * self.period;
+        let released = (width % self.period).div_ceil(self.distance);
+        if released < self.count {
+            begun + released * self.distance
+        } else {
+            begun + self.period
+        }
+    }
+
     fn least_gap(&self) -> u64 {
         self.distance
     }

@@ -52,6 +52,10 @@ impl Arrivals for Periodic {
         (width + self.jitter).div_ceil(self.period)
     }
 
+    fn widest(&self, width: u64) -> u64 {
+        self.most(width) * self.period - self.jitter
+    }
+
     fn least_gap(&self) -> u64 {
         self.period
     }

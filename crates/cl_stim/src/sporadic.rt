@@ -66,6 +66,10 @@ impl Arrivals for Sporadic {
         width.div_ceil(self.least)
     }
 
+    fn widest(&self, width: u64) -> u64 {
+        self.most(width) * self.least
+    }
+
     fn least_gap(&self) -> u64 {
         self.least
     }

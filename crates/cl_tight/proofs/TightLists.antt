@@ -39,17 +39,6 @@ all_mapped f xs n whole = take_all n (map f xs) (rw (length-map xs f) whole)
 
 -- ---- tasks
 
-pub more_tasks : (model : SystemModel) (n : ℕ) (old new : List TaskAnswer) (next : TaskAnswer) → n < length model.tasks
-    → old ≡ take n (tight_answers_of (system_of model)) → next ≡ tight_answer_to (system_of model) (timing_at (system_of model) n)
-    → new ≡ old ++ next ∷ [] → new ≡ take (n + 1) (tight_answers_of (system_of model))
-unfolding tight_answers_of
-more_tasks model n old new next lt was is pushed =
-    more_mapped (tight_answer_to (system_of model)) (system_of model).tasks n no_timing old new next (omega (arith, lt, count_is model)) was is pushed
-
-pub all_tasks : (model : SystemModel) (n : ℕ) → length model.tasks ≤ n → take n (tight_answers_of (system_of model)) ≡ tight_answers_of (system_of model)
-unfolding tight_answers_of
-all_tasks model n whole = all_mapped (tight_answer_to (system_of model)) (system_of model).tasks n (omega (arith, whole, count_is model))
-
 -- there is an answer for each task
 pub answer_count : (model : SystemModel) (answers : List TaskAnswer) → answers ≡ tight_answers_of (system_of model) → length answers ≡ length model.tasks
 unfolding tight_answers_of

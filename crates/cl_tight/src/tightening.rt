@@ -4,20 +4,18 @@ ghost use Rattle.std.specs.List.{list_all};
 ghost use Rattle.cl_model.specs.ByNumber.{chain_at};
 ghost use Rattle.cl_model.specs.Validity.{IsValid};
 ghost use Rattle.cl_runs.specs.SystemOf.{system_of};
-ghost use Rattle.cl_runs.specs.TaskTiming.{timing_at};
 ghost use Rattle.cl_bound.specs.Answers.{is_late};
-ghost use Rattle.cl_phase.specs.TightAnswers.{tight_answer_to, tight_answers_of};
+ghost use Rattle.cl_phase.specs.TightAnswers.{tight_answers_of};
 ghost use Rattle.cl_analyse.specs.Verdicts.{required_chain};
 ghost use Rattle.cl_tight.specs.TightFindings.{tight_chain_answer_of, tight_chain_answers_of, has_exact_bounds, tight_verdict_of, tight_findings_of, is_met, is_verified};
 ghost use Rattle.cl_tight.specs.Promises.{AreSafeTightFindings, IsInTime};
 
 use crate::findings::TightFindings;
-use cl_analyse::{ChainAnswer, Verdict, answer_question, bound_value, first_late, verdict_on};
+use cl_analyse::{ChainAnswer, Verdict, answer_tasks, bound_value, first_late, verdict_on};
 use cl_bound::TaskAnswer;
 use cl_exact::{is_timed_periodic, is_within_limit};
 use cl_model::{List, RequirementDef, ValidModel};
 use cl_phase::tight_bounds;
-use cl_resp::ask_tight;
 use cl_time::{NoMemory, Steps};
 use std::alloc::Global;
 use std::sync::ledger::Ledger;
@@ -40,7 +38,7 @@ pub fn tighten<L: Ledger>(
     ensures safe { IfOk result (AreSafeTightFindings model.now) }
     ensures steps { steps.new ≤ steps.old + length model.now.tasks }
 {
-    let tasks = answer_tasks(alloc, model, steps)?;
+    let tasks = answer_tightly(alloc, model, steps)?;
     let chains = answer_chains(alloc, model, &tasks)?;
     let verdicts = judge_all(alloc, model, &chains)?;
     Ok(TightFindings {
@@ -51,7 +49,7 @@ pub fn tighten<L: Ledger>(
 }
 
 /// The answers to the tight questions of all tasks.
-fn answer_tasks<L: Ledger>(
+fn answer_tightly<L: Ledger>(
     alloc: Global,
     model: &ValidModel,
     steps: &mut Steps<L>,
@@ -60,26 +58,8 @@ fn answer_tasks<L: Ledger>(
     ensures steps { steps.new ≤ steps.old + length model.now.tasks }
     ensures valid { IsValid model.now }
 {
-    let mut answers = List::new(alloc);
-    for task in 0..model.tasks() {
-        answers.push(answer_task(alloc, model, task, steps)?)?;
-    }
-    Ok(answers)
-}
-
-/// The answer to the tight question of a task.
-fn answer_task<L: Ledger>(
-    alloc: Global,
-    model: &ValidModel,
-    task: u32,
-    steps: &mut Steps<L>,
-) -> Result<TaskAnswer, NoMemory>
-    requires { task < length model.now.tasks }
-    ensures answer { IfOk result (λ answer. answer ≡ tight_answer_to (system_of model.now) (timing_at (system_of model.now) task)) }
-    ensures steps { steps.new ≤ steps.old + 1 }
-{
-    let question = ask_tight(alloc, model, task)?;
-    Ok(answer_question(&question, steps))
+    let with_own = false;
+    answer_tasks(alloc, model, with_own, steps)
 }
 
 /// The answers for all chains, from those for all tasks.

@@ -23,3 +23,7 @@ pub record IsFirstWith (beats : List Beat) (first count reaction job : ℕ) : Ty
   pub within : job < first + count
   pub has : reaction_of beats job ≡ reaction
   pub first_of : (earlier : ℕ) → first ≤ earlier → earlier < job → reaction_of beats earlier ≡ reaction → ⊥
+
+-- the first jobs after one, up to another, have lesser reactions
+abbrev pub FallsUpTo : List Beat → (first next : ℕ) → Type 0
+FallsUpTo beats first next = (job : ℕ) → first < job → job < next → reaction_of beats job < reaction_of beats first

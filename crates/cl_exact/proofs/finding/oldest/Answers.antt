@@ -50,6 +50,12 @@ first_with-requires-clause-early c =
     let back = seen c.args.beats.now c.last_steady_job.result c.backward_jobs-walk.result c.as_slice.result.now c.as_slice.ensures.numbers c.backward_jobs-walk.ensures in
     omega (arith, early_block c.args.beats.now c.requires.beats c.last_steady_job.result c.as_slice.result.now c.args.count back c.last_steady_job.ensures c.requires.few)
 
+pub first_with-requires-clause-none_greater : goal.first_with-requires-clause-none_greater
+first_with-requires-clause-none_greater c =
+    let back = seen c.args.beats.now c.last_steady_job.result c.backward_jobs-walk.result c.as_slice.result.now c.as_slice.ensures.numbers c.backward_jobs-walk.ensures in
+    λ job from. c.requires.greatest.above_all job
+    (complete_after c.args.beats.now c.requires.beats c.last_steady_job.result c.as_slice.result.now back job (omega (arith, from)))
+
 pub unreachable-requires : goal.unreachable-requires
 unreachable-requires c =
     let back = seen c.args.beats.now c.last_steady_job.result c.backward_jobs-walk.result c.as_slice.result.now c.as_slice.ensures.numbers c.backward_jobs-walk.ensures in

@@ -1,28 +1,39 @@
-use Rattle.std.proofs.Common.{sym, arith}
+use Rattle.std.proofs.Common.{◌≤◌, inl, inr, sym, ◌∙◌, arith}
+use Rattle.std.proofs.lemmas.Bool.{cases_lt}
 use Rattle.cl_resp.specs.Response.{demand}
 use Rattle.cl_resp.proofs.Windows.{less_at_start, less_below_demand, found_at, none_up_to}
+use Rattle.cl_resp.proofs.WhatIsKept.{kept_wider}
 use Rattle.cl_resp.proofs.answering.window.Goals as goal
 
 pub loop-width-init : goal.loop-width-init
-loop-width-init c = record { some = omega (arith, c.requires.some_time); less = less_at_start c.args.question.now }
+loop-width-init c =
+    let some : 1 ≤ c.max-width.result = omega (arith, c.max-width.ensures, c.requires.in_range.some_time) in
+    record {
+      some = some;
+      less = λ lesser below. elim (cases_lt lesser c.args.start) [
+        | inl before ↦ c.requires.start lesser before
+        | inr after ↦ less_at_start c.args.question.now lesser (omega (arith, below, after, c.max-width.ensures))
+      ];
+      kept = c.new-rising.ensures c.args.question.now.above c.max-width.result some;
+    }
 
-pub returns-then-needed-from : goal.returns-then-needed-from
-returns-then-needed-from c = sym (found_at c.args.question.now c.loop-width.width c.loop-width.invariant.some c.loop-width-test.true
-    (omega (arith, c.demand-needed.ensures, c.from.ensures, c.if-needed-from.true)) c.loop-width.invariant.less)
+pub returns-then-needed-width : goal.returns-then-needed-width
+returns-then-needed-width c = sym (found_at c.args.question.now c.loop-width.width c.loop-width.invariant.some c.loop-width-test.true
+    (omega (arith, c.in_ok-needed.ensures.demand, c.if-needed-width.true)) c.loop-width.invariant.less)
 
-pub returns-then-needed-from-2 : goal.returns-then-needed-from-2
-returns-then-needed-from-2 c =
+pub returns-in_err-needed : goal.returns-in_err-needed
+returns-in_err-needed c =
     let question = c.args.question.now in
-    sym (none_up_to question (demand question c.loop-width.width)
-    (omega (arith, c.demand-needed.ensures, c.from-in-loop-width.ensures, c.if-needed-from-2.true))
+    c.from_residual.ensures ∙ sym (none_up_to question (demand question c.loop-width.width) c.in_err-needed.ensures.demand
     (less_below_demand question c.loop-width.width c.loop-width.invariant.less))
 
 pub loop-width-preserved : goal.loop-width-preserved
 loop-width-preserved c =
     let question = c.args.question.now in
     record {
-      some = omega (arith, c.loop-width.invariant.some, c.if-needed-from.false, c.from.ensures);
-      less = λ lesser below. less_below_demand question c.loop-width.width c.loop-width.invariant.less lesser (omega (arith, below, c.demand-needed.ensures));
+      some = omega (arith, c.loop-width.invariant.some, c.if-needed-width.false);
+      less = λ lesser below. less_below_demand question c.loop-width.width c.loop-width.invariant.less lesser (omega (arith, below, c.in_ok-needed.ensures.demand));
+      kept = kept_wider question.above c.demand.new.self.ticks c.demand.new.self.until c.loop-width.width c.demand.ensures.kept _ (omega (arith, c.if-needed-width.false));
     }
 
 pub returns : goal.returns

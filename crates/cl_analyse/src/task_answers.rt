@@ -1,0 +1,92 @@
+//! The answers to the questions of tasks. Times are in ticks.
+ghost use Rattle.std.specs.Prelude.{◌≡◌, ◌+◌, ◌<◌, ◌≤◌, length, map, replicate, IfOk, IfSome};
+ghost use Rattle.cl_model.specs.Validity.{IsValid};
+ghost use Rattle.cl_runs.specs.SystemOf.{system_of};
+ghost use Rattle.cl_runs.specs.TaskTiming.{timing_at};
+ghost use Rattle.cl_resp.specs.Question.{either_question, IsQuestionInRange};
+ghost use Rattle.cl_resp.specs.Reached.{IsReached};
+ghost use Rattle.cl_resp.specs.Response.{response_to};
+ghost use Rattle.cl_bound.specs.declared.answer.TaskAnswer.TheVariants.{Late as LateAnswer};
+ghost use Rattle.cl_bound.specs.Answers.{answer_with};
+
+use cl_bound::TaskAnswer;
+use cl_model::{List, ValidModel};
+use cl_resp::{Late, Question, Reached, ask_either, from_the_top, respond, respond_below};
+use cl_time::{NoMemory, Steps};
+use std::alloc::Global;
+use std::sync::ledger::Ledger;
+
+/// The answer to the question of a task: its window and its response, in ticks, or that it is late. It counts one step
+/// and takes no memory.
+pub fn answer_question<L: Ledger>(question: &Question, steps: &mut Steps<L>) -> TaskAnswer
+    requires { IsQuestionInRange question.now }
+    ensures answer { result ≡ answer_with (response_to question.now) }
+    ensures steps { steps.new ≡ steps.old + 1 }
+{
+    match respond(question, steps) {
+        Ok(settled) => TaskAnswer::Settled(settled),
+        Err(Late) => TaskAnswer::Late,
+    }
+}
+
+/// The same for a question of a task of a model, found by `respond_below`: the tasks of a core are best asked from the
+/// top down.
+pub fn answer_below<L: Ledger>(
+    model: &ValidModel,
+    task: u32,
+    own: bool,
+    question: &Question,
+    last: &mut Option<Reached>,
+    steps: &mut Steps<L>,
+) -> TaskAnswer
+    requires task { task < length model.now.tasks }
+    requires question { question.now ≡ either_question own (system_of model.now) (timing_at (system_of model.now) task) }
+    requires in_range { IsQuestionInRange question.now }
+    requires last { IfSome last.old (IsReached own (system_of model.now)) }
+    ensures answer { result ≡ answer_with (response_to question.now) }
+    ensures last { IfSome last.new (IsReached own (system_of model.now)) }
+    ensures steps { steps.new ≡ steps.old + 1 }
+{
+    match respond_below(model, task, own, question, last, steps) {
+        Ok(settled) => TaskAnswer::Settled(settled),
+        Err(Late) => TaskAnswer::Late,
+    }
+}
+
+/// The answers to a question of each task, in file order: to those whose blocks count a task's own runnables, or to the
+/// tight ones. The tasks of a core are asked from the top down, each from where the search for the one above it came
+/// to. It counts a step for each task. `NoMemory` comes where there is no memory for the answers or for a question; it
+/// leaves nothing.
+pub fn answer_tasks<L: Ledger>(
+    alloc: Global,
+    model: &ValidModel,
+    own: bool,
+    steps: &mut Steps<L>,
+) -> Result<List<TaskAnswer>, NoMemory>
+    ensures answers { IfOk result (λ answers. answers
+        ≡ map (λ timing. answer_with (response_to (either_question own (system_of model.now) timing))) (system_of model.now).tasks) }
+    ensures steps { steps.new ≤ steps.old + length model.now.tasks }
+    ensures valid { IsValid model.now }
+{
+    let mut answers = all_late(alloc, model)?;
+    let mut last = None;
+    let order = from_the_top(alloc, model)?;
+    for task in &order {
+        let question = ask_either(alloc, model, *task, own)?;
+        let answer = answer_below(model, *task, own, &question, &mut last, steps);
+        *answers.item_mut(*task as usize) = answer;
+    }
+    Ok(answers)
+}
+
+/// That each task is late, until it is asked.
+fn all_late(alloc: Global, model: &ValidModel) -> Result<List<TaskAnswer>, NoMemory>
+    ensures late { IfOk result (λ answers. answers ≡ replicate (length model.now.tasks) LateAnswer) }
+    ensures valid { IsValid model.now }
+{
+    let mut answers = List::new(alloc);
+    for _ in 0..model.tasks() {
+        answers.push(TaskAnswer::Late)?;
+    }
+    Ok(answers)
+}

@@ -1,0 +1,130 @@
+//! The responses of the tasks of a core, from the top down. Times are in ticks.
+ghost use Rattle.std.specs.Prelude.{◌≡◌, ◌+◌, ◌<◌, Some, None, length, map, IfSome, IfOk, MatchResult, IsPermutation};
+ghost use Rattle.std.specs.List.{range_with_len};
+ghost use Rattle.cl_model.specs.Validity.{IsValid};
+ghost use Rattle.cl_runs.specs.SystemOf.{system_of};
+ghost use Rattle.cl_runs.specs.TaskTiming.{timing_at};
+ghost use Rattle.cl_resp.specs.Promises.{AnswersFor};
+ghost use Rattle.cl_resp.specs.Question.{is_above, either_question, IsQuestionInRange};
+ghost use Rattle.cl_resp.specs.Reached.{IsReached};
+ghost use Rattle.cl_resp.specs.Response.{response_to, NoneServesBelow};
+
+use crate::answering::respond_from;
+use crate::question::Question;
+use crate::settled::{Late, Settled};
+use cl_model::ValidModel;
+use cl_time::{NoMemory, Steps};
+use std::alloc::Global;
+use std::sync::ledger::Ledger;
+
+/// How far the search for the window of a task came: no lesser width holds its demand, nor that of a task below it on
+/// its core that is blocked long enough.
+#[derive(Clone, Copy, Debug, PartialEq, Eq)]
+pub struct Reached {
+    task: u32,
+    block: u64,
+    width: u64,
+}
+
+/// What `respond` answers to a question of a task of a model, which is tight or has its own runnables in its block. It
+/// begins where the last search came to, where that was for a task above it on its core, and leaves how far this one
+/// came. So the tasks of a core are best asked from the top down. It takes no memory, and counts one analysing step.
+pub fn respond_below<L: Ledger>(
+    model: &ValidModel,
+    task: u32,
+    own: bool,
+    question: &Question,
+    last: &mut Option<Reached>,
+    steps: &mut Steps<L>,
+) -> Result<Settled, Late>
+    requires task { task < length model.now.tasks }
+    requires question { question.now ≡ either_question own (system_of model.now) (timing_at (system_of model.now) task) }
+    requires in_range { IsQuestionInRange question.now }
+    requires last { IfSome last.old (IsReached own (system_of model.now)) }
+    ensures response { MatchResult result
+        (λ settled. response_to question.now ≡ Some settled)
+        (λ _. response_to question.now ≡ None) }
+    ensures finishing { IfOk result (λ settled. AnswersFor question.now settled.response) }
+    ensures last { IfSome last.new (IsReached own (system_of model.now)) }
+    ensures steps { steps.new ≡ steps.old + 1 }
+{
+    let answer = respond_from(question, start_of(model, task, own, question, *last), steps);
+    *last = Some(Reached {
+        task,
+        block: question.block,
+        width: width_reached(question, &answer),
+    });
+    answer
+}
+
+/// The numbers of all tasks by their cores, and from the top down on each. The only error is that there is no memory
+/// for them.
+pub fn from_the_top(alloc: Global, model: &ValidModel) -> Result<Vec<u32>, NoMemory>
+    ensures { IfOk result (λ order. IsPermutation (range_with_len 0 (length model.now.tasks)) order.items) }
+{
+    let mut keyed = Vec::new(alloc);
+    for task in 0..model.tasks() {
+        let from_the_top = u64::MAX - model.task(task).priority;
+        keyed.push((model.core_of(task), from_the_top, task))?;
+    }
+    keyed.sort_unstable();
+    tasks_of(alloc, keyed.as_slice())
+}
+
+/// The tasks that are keyed, in order.
+fn tasks_of(alloc: Global, keyed: &[(u32, u64, u32)]) -> Result<Vec<u32>, NoMemory>
+    ensures { IfOk result (λ tasks. tasks.items ≡ map (λ keyed. keyed.2) keyed.now) }
+{
+    let tasks = keyed.iter().map(|keyed| keyed.2).collect(alloc)?;
+    Ok(tasks)
+}
+
+/// Where the search for the window of a task may begin.
+fn start_of(
+    model: &ValidModel,
+    task: u32,
+    own: bool,
+    question: &Question,
+    last: Option<Reached>,
+) -> u64
+    requires task { task < length model.now.tasks }
+    requires question { question.now ≡ either_question own (system_of model.now) (timing_at (system_of model.now) task) }
+    requires in_range { IsQuestionInRange question.now }
+    requires last { IfSome last (IsReached own (system_of model.now)) }
+    ensures { NoneServesBelow question.now result }
+{
+    let Some(last) = last else {
+        return 0;
+    };
+    let longer = last.block > question.block + question.time;
+    if longer || !is_above(model, task, last.task) {
+        return 0;
+    }
+    last.width
+}
+
+/// Whether another task has a higher priority on the core of a task.
+fn is_above(model: &ValidModel, task: u32, other: u32) -> bool
+    requires task { task < length model.now.tasks }
+    requires other { other < length model.now.tasks }
+    ensures above { result
+        ≡ is_above (timing_at (system_of model.now) task) (timing_at (system_of model.now) other) }
+    ensures valid { IsValid model.now }
+{
+    let priority = model.task(task).priority;
+    model.core_of(other) == model.core_of(task) && priority < model.task(other).priority
+}
+
+/// The least width that may hold the demand of a question, by its answer.
+fn width_reached(question: &Question, answer: &Result<Settled, Late>) -> u64
+    requires in_range { IsQuestionInRange question.now }
+    requires response { MatchResult answer.now
+        (λ settled. response_to question.now ≡ Some settled)
+        (λ _. response_to question.now ≡ None) }
+    ensures { NoneServesBelow question.now result }
+{
+    match answer {
+        Ok(settled) => settled.window,
+        Err(Late) => question.deadline - question.jitter + 1,
+    }
+}

@@ -1,0 +1,57 @@
+//! What the tasks above take of a window that only rises. Times are in ticks.
+ghost use Rattle.std.specs.Prelude.{◌≡◌, ℕ, ◌<◌, ◌≤◌, List, MatchOption};
+ghost use Rattle.cl_resp.specs.declared.question.Above.{Above};
+ghost use Rattle.cl_resp.specs.Question.{IsQuestionInRange};
+ghost use Rattle.cl_resp.specs.Response.{demand};
+ghost use Rattle.cl_resp.specs.Inner.Rising.{AreKept};
+
+use crate::answering::taken;
+use crate::question::Question;
+use cl_model::{MOST_TASKS_OF_CORE, MOST_TICKS};
+use cl_stim::Arrivals;
+
+/// What each task above takes of a window, and the widest window of which it is known to take just that: none is known
+/// at first, since each window has a tick or more.
+#[derive(Drop)]
+pub(crate) struct Rising {
+    ticks: [u64; MOST_TASKS_OF_CORE],
+    until: [u64; MOST_TASKS_OF_CORE],
+}
+
+impl Rising {
+    pub(crate) fn new() -> Rising
+        ensures { (above : List Above) (from : ℕ) → 1 ≤ from → AreKept above result.ticks result.until from }
+    {
+        Rising {
+            ticks: [0; MOST_TASKS_OF_CORE],
+            until: [0; MOST_TASKS_OF_CORE],
+        }
+    }
+
+    /// The most ticks that a job of the task and what goes before it need of a window, or that they are more than the
+    /// end. Only what more is released in it is counted anew.
+    pub(crate) fn demand(&mut self, question: &Question, width: u64, end: u64) -> Option<u64>
+        requires in_range { IsQuestionInRange question.now }
+        requires width { width ≤ end }
+        requires end { end ≤ MOST_TICKS }
+        requires kept { AreKept question.now.above self.old.ticks self.old.until width }
+        ensures demand { MatchOption result
+            (end < demand question.now width)
+            (λ needed. needed ≡ demand question.now width) }
+        ensures kept { AreKept question.now.above self.new.ticks self.new.until width }
+    {
+        let mut needed = question.block + question.time;
+        for (place, above) in question.above.as_slice().iter().enumerate() {
+            if self.until[place] < width {
+                let ticks = taken(above, width);
+                if ticks > u128::from(end) {
+                    return None;
+                }
+                self.ticks[place] = ticks as u64;
+                self.until[place] = above.stimulus.widest(width);
+            }
+            needed += self.ticks[place];
+        }
+        Some(needed)
+    }
+}
