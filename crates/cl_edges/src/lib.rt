@@ -16,3 +16,5 @@ mod models;
 mod outputs;
 #[cfg(test)]
 mod starts;
+#[cfg(test)]
+mod traces;
