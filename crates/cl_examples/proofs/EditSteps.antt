@@ -23,6 +23,7 @@ model_or other (Ok model) = model
 model_or other (Err refusal) = other
 
 answered : (refusals : List Refusal) (meaning model : SystemModel) → answer refusals meaning ≡ Ok model → meaning ≡ model
+unfolding model_or
 answered [] meaning model is = ap (model_or meaning) is
 answered (refusal ∷ refusals) meaning model is = absurd cc
 
@@ -38,12 +39,14 @@ beyond : (low : ℕ) (numbers : List ℕ) → IsStrictlyIncreasing numbers → A
     → (k : ℕ) → k < length numbers → k + low ≤ get_or numbers k 0
 beyond low numbers rising from zero within = omega (arith, from 0 0 within)
 beyond low numbers rising from (suc k) within =
-    omega (arith, rising k (omega (arith, within)), beyond low numbers rising from k (omega (arith, within)))
+    let steps : get_or numbers k 0 < get_or numbers (k + 1) 0 = rising k (omega (arith, within)) in
+    let next : get_or numbers (k + 1) 0 ≡ get_or numbers (suc k) 0 = ap (λ place. get_or numbers place 0) (omega arith) in
+    omega (arith, steps, next, beyond low numbers rising from k (omega (arith, within)))
 
 -- so it has few members, where all are below another number
 few : (low high : ℕ) (numbers : List ℕ) → IsStrictlyIncreasing numbers → All (λ number. low ≤ number) numbers
     → All (λ number. number < high) numbers → low ≤ high → length numbers + low ≤ high
-few low high [] rising from below order = order
+few low high [] rising from below order = omega (arith, order)
 few low high (first ∷ numbers) rising from below order =
     omega (arith, beyond low (first ∷ numbers) rising from (length numbers) (omega arith), below (length numbers) 0 (omega arith))
 

@@ -1,7 +1,6 @@
 -- Two models that are edited: the tasks A and B on two cores, with a chain from A to B; and the same two on one core, with
 -- a chain back.
 use Rattle.std.specs.Prelude.{false, None, [], ◌∷◌, codes}
-use Rattle.cl_model.specs.declared.chain.ChainDef.{ChainDef}
 use Rattle.cl_model.specs.declared.model.SystemModel.{SystemModel}
 use Rattle.cl_model.specs.declared.stimulus.StimulusKind.TheVariants.{Periodic}
 use Rattle.cl_model.specs.declared.task.AccessKind.TheVariants.{Implicit}
