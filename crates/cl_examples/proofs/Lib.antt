@@ -6,3 +6,4 @@ pub mod ExampleChains
 pub mod ModelOfExample
 pub mod TimedTasks
 pub mod TimedChains
+pub mod EditSteps

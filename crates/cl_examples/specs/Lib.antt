@@ -4,3 +4,4 @@ pub mod ExampleModel
 pub mod WholeModel
 pub mod TimedExample
 pub mod TimedModel
+pub mod EditedModels

@@ -1,5 +1,6 @@
 //! What the definitions say of small examples.
-ghost use Rattle.std.specs.Prelude.{◌≡◌, ◌⊎◌, take};
+ghost use Rattle.std.specs.Prelude.{◌≡◌, ◌⊎◌, ℕ, ◌+◌, ◌≤◌, take, Ok};
+ghost use Rattle.cl_model.specs.declared.model.SystemModel.{SystemModel};
 ghost use Rattle.cl_runs.specs.TaskTiming.{IsSound};
 ghost use Rattle.cl_runs.specs.Table.{AreLawfulJobs, IsLawful};
 ghost use Rattle.cl_runs.specs.Run.{Run};
@@ -11,6 +12,9 @@ ghost use Rattle.cl_model.specs.Groups.{groups_of, group_at};
 ghost use Rattle.cl_runs.specs.SystemOf.{system_of};
 ghost use Rattle.cl_exact.specs.ExactLengths.{AreExactLengths};
 ghost use Rattle.cl_exact.specs.RunPromises.{IsSettledTimedChain};
+ghost use Rattle.cl_edit.specs.Edited.{edited};
+ghost use Rattle.cl_incr.specs.Changed.{AsksForChanges};
+ghost use Rattle.cl_examples.specs.EditedModels.{two_cores_model, two_chains_model, longer_b, later_b, no_chain_ab, b_above_a};
 ghost use Rattle.cl_examples.specs.ExampleModel.{two_tasks_model, chain_ab};
 ghost use Rattle.cl_examples.specs.WholeModel.{one_core_model};
 ghost use Rattle.cl_examples.specs.WholeExample.{one_core, one_core_table, whole_run, broken_run, one_core_divided};
@@ -106,4 +110,19 @@ pub fn reduced_witness_of_timed_tasks()
         → IsReducedChain (run_moments timed_tasks run) from_a_to_b (two_job_chain 6 5 60 90) }
     ensures not_in_90_ticks { (run : Run) → IsLegal timed_tasks run → run.table.ticks ≡ 90
         → IsReducedChain (run_moments timed_tasks run) from_a_to_b (two_job_chain 6 5 60 90) → ⊥ }
+{}
+
+/// How many steps an edit counts at most in a session, whose edits ask for changes alone. A longer runnable of B asks for
+/// B and for the chain; another offset of B's stimulus for the chain alone; that the chain goes, for nothing. Where two
+/// tasks on one core exchange their priorities, both and both chains are asked for. A step is for a task, and two for a
+/// chain.
+pub fn steps_of_edits()
+    ensures longer { (changed : SystemModel) (before after : ℕ) → edited two_cores_model longer_b ≡ Ok changed
+        → AsksForChanges two_cores_model changed before after → after ≤ before + 3 }
+    ensures later { (changed : SystemModel) (before after : ℕ) → edited two_cores_model later_b ≡ Ok changed
+        → AsksForChanges two_cores_model changed before after → after ≤ before + 2 }
+    ensures dropped { (changed : SystemModel) (before after : ℕ) → edited two_cores_model no_chain_ab ≡ Ok changed
+        → AsksForChanges two_cores_model changed before after → after ≤ before }
+    ensures swapped { (changed : SystemModel) (before after : ℕ) → edited two_chains_model b_above_a ≡ Ok changed
+        → AsksForChanges two_chains_model changed before after → after ≤ before + 6 }
 {}
