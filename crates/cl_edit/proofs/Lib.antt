@@ -17,4 +17,17 @@ pub mod NextEdits
 pub mod BadEdits
 pub mod OneAnswer
 pub mod SomeAnswer
+pub mod EachFacts
+pub mod Removals
+pub mod CheckParts
+pub mod NameChecks
+pub mod ChainChanges
+pub mod TaskLists
+pub mod StepsLeft
+pub mod TaskRemoval
+pub mod TaskAdded
+pub mod NewTaskChecks
+pub mod FewAnswers
+pub mod GroupTasks
+pub mod AgreeFacts
 pub mod EditedValid

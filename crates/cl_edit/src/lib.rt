@@ -3,6 +3,7 @@
 
 mod apply;
 mod changes;
+mod check_lists;
 mod edit;
 mod fault;
 mod fields;
