@@ -110,7 +110,7 @@ module _ (model : SystemModel) (valid : IsValid model) (name : List ℕ) (c : �
   names_apart =
       ap (section_repeats M25 part.Chain) names_left
       ∙ apart_pass M25 (λ i. at_key key.Name (entry_of part.Chain i)) (remove (chain_names model) c)
-        (apart_removed (chain_names model) c (found_below name (chain_names model) c found) (chains_apart model valid))
+      (apart_removed (chain_names model) c (found_below name (chain_names model) c found) (chains_apart model valid))
 
   chain_stays : (k : ℕ) (d : ChainDef) → k < length (remove model.chains c) → chain_check model k (get_or (remove model.chains c) k d) ≡ []
   chain_stays k d k_lt =

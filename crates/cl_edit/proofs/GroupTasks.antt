@@ -60,5 +60,5 @@ none_of_task model valid t known chain place none =
     let step : step_named model name ≡ own = ap (step_named model) (sym named) ∙ own_step model valid own (record { known = known; place = within }) in
     let there : list_any (λ (s : Step). s.task == t) (steps_of model chain) ≡ true
     = list_any-map (λ (s : Step). s.task == t) (step_named model) chain.runnables
-      ∙ list_any_at (λ n. (step_named model n).task == t) chain.runnables k d lt (eq-eqb _ _ (ap (λ (s : Step). s.task) step)) in
+    ∙ list_any_at (λ n. (step_named model n).task == t) chain.runnables k d lt (eq-eqb _ _ (ap (λ (s : Step). s.task) step)) in
     false≢true (sym none ∙ groups_pass t (steps_of model chain) ∙ there))))

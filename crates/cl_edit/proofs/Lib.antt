@@ -26,8 +26,7 @@ pub mod TaskLists
 pub mod StepsLeft
 pub mod TaskRemoval
 pub mod TaskAdded
-pub mod NewTaskChecks
 pub mod FewAnswers
+pub mod KnownSteps
 pub mod GroupTasks
-pub mod AgreeFacts
 pub mod EditedValid

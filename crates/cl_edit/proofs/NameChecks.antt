@@ -49,8 +49,8 @@ repeats_more code place before names name =
     let all : List (List ℕ) = names ++ name ∷ [] in
     each_more (repeat_check code place before all) names name
     ∙ ap (λ l. l ++ repeat_check code place before all (length names) name)
-      (each_alike (repeat_check code place before all) (repeat_check code place before names) names
-      (λ k d lt. ap (λ l. when (has_name (get_or names k d) (before ++ l)) code (place k)) (take-append-le k names (name ∷ []) (omega arith))))
+    (each_alike (repeat_check code place before all) (repeat_check code place before names) names
+    (λ k d lt. ap (λ l. when (has_name (get_or names k d) (before ++ l)) code (place k)) (take-append-le k names (name ∷ []) (omega arith))))
     ∙ ap (λ l. repeats code place before names ++ when (has_name name (before ++ l)) code (place (length names))) (take_at names (name ∷ []) (length names) refl)
 
 -- ---- one name less

@@ -37,19 +37,19 @@ pub stood_at : {X : Type 0} (xs : List X) (i k : ℕ) (d : X) → i < length xs 
 stood_at xs i k d i_lt k_lt =
     elim (cases_lt k i) [
       | inl before ↦ record {
-          at = k;
-          within = omega (arith, before, i_lt);
-          other = λ same. omega (arith, same, before);
-          same = get_or-remove_below xs i d k before i_lt;
-          fewer = λ p none. none_in_front p xs i k (omega (arith, before)) i_lt none;
-        }
+        at = k;
+        within = omega (arith, before, i_lt);
+        other = λ same. omega (arith, same, before);
+        same = get_or-remove_below xs i d k before i_lt;
+        fewer = λ p none. none_in_front p xs i k (omega (arith, before)) i_lt none;
+      }
       | inr behind ↦ record {
-          at = suc k;
-          within = omega (arith, length-remove xs i i_lt, k_lt);
-          other = λ same. omega (arith, same, behind);
-          same = get_or-remove_above xs i d k behind i_lt ∙ ap (λ n. get_or xs n d) (omega arith);
-          fewer = λ p none. none_behind p xs i k i_lt none;
-        }
+        at = suc k;
+        within = omega (arith, length-remove xs i i_lt, k_lt);
+        other = λ same. omega (arith, same, behind);
+        same = get_or-remove_above xs i d k behind i_lt ∙ ap (λ n. get_or xs n d) (omega arith);
+        fewer = λ p none. none_behind p xs i k i_lt none;
+      }
     ]
 
 -- names stay apart

@@ -137,10 +137,10 @@ module _ (model : SystemModel) (valid : IsValid model) (t : ℕ) (known : t < le
       middle_left (lengths_check c chain) (each (step_check left steps) chain.runnables) (each (hop_check left chain labels) chain.labels) parts.0
       (each_moves (hop_check model chain labels) (hop_check left chain labels) chain.labels (hop_stays chain labels) parts.1.1.0)
       ∙ each_alike (step_check left steps) (kept_step_check (task_at model t) steps) chain.runnables
-        (λ k d lt.
-        let name = get_or chain.runnables k d in
-        ap (λ b. unless b M44 (at_spot k steps)) (left_where name (unless_none _ _ _ (each_none (step_check model steps) chain.runnables k d parts.1.0 lt)))
-        ∙ unless_not (has_name name (runnable_names (task_at model t).runnables)) M44 (at_spot k steps))
+      (λ k d lt.
+      let name = get_or chain.runnables k d in
+      ap (λ b. unless b M44 (at_spot k steps)) (left_where name (unless_none _ _ _ (each_none (step_check model steps) chain.runnables k d parts.1.0 lt)))
+      ∙ unless_not (has_name name (runnable_names (task_at model t).runnables)) M44 (at_spot k steps))
 
   pub chains_without : each (chain_check left) model.chains ≡ each (kept_steps_check (task_at model t)) model.chains
   chains_without =

@@ -84,11 +84,11 @@ module _ (model : SystemModel) (valid : IsValid model) (task : TaskDef) where
       let place : ℕ → Place = λ p. at_key key.Name (at_sub p (entry_of part.Task (length model.tasks))) in
       each_more (runnable_repeats tasks) model.tasks task
       ∙ ap (λ l. l ++ runnable_repeats tasks (length model.tasks) task)
-        (each_alike (runnable_repeats tasks) (runnable_repeats model.tasks) model.tasks
-        (λ k d lt.
-        ap (λ (earlier : List TaskDef). repeats M24 (λ p. at_key key.Name (at_sub p (entry_of part.Task k))) (runnable_names (all_runnables earlier)) (runnable_names (get_or model.tasks k d).runnables))
-        (take-append-le k model.tasks (task ∷ []) (omega (arith, lt))))
-        ∙ runnables_pass model valid)
+      (each_alike (runnable_repeats tasks) (runnable_repeats model.tasks) model.tasks
+      (λ k d lt.
+      ap (λ (earlier : List TaskDef). repeats M24 (λ p. at_key key.Name (at_sub p (entry_of part.Task k))) (runnable_names (all_runnables earlier)) (runnable_names (get_or model.tasks k d).runnables))
+      (take-append-le k model.tasks (task ∷ []) (omega (arith, lt))))
+      ∙ runnables_pass model valid)
       ∙ ap (λ (earlier : List TaskDef). repeats M24 place (runnable_names (all_runnables earlier)) (runnable_names task.runnables)) (take_at model.tasks (task ∷ []) (length model.tasks) refl)
 
   -- ---- tasks

@@ -68,10 +68,10 @@ fewer_left (task ∷ tasks) (suc i) lt =
 pub filter_left : {X : Type 0} (p : X → Bool) (xs : List X) (i : ℕ) → i < length xs → length (filter p (remove xs i)) ≤ length (filter p xs)
 filter_left p [] i lt = absurd (omega arith)
 filter_left p (x ∷ xs) zero lt =
-    elim (p x) as (λ b. length (filter p xs) ≤ length (cond b (x ∷ filter p xs) (filter p xs))) [ | true ↦ omega arith | false ↦ omega arith ]
+    elim (p x) as (λ b. length (filter p xs) ≤ length (cond b (x ∷ filter p xs) (filter p xs))) [ true ↦ omega arith | false ↦ omega arith ]
 filter_left p (x ∷ xs) (suc i) lt =
     let rest = filter_left p xs i (omega arith) in
-    elim (p x) as (λ b. length (cond b (x ∷ filter p (remove xs i)) (filter p (remove xs i))) ≤ length (cond b (x ∷ filter p xs) (filter p xs))) [ | true ↦ omega (arith, rest) | false ↦ rest ]
+    elim (p x) as (λ b. length (cond b (x ∷ filter p (remove xs i)) (filter p (remove xs i))) ≤ length (cond b (x ∷ filter p xs) (filter p xs))) [ true ↦ omega (arith, rest) | false ↦ rest ]
 
 -- in front of an item that passes there are fewer that do
 pub filter_front : {X : Type 0} (p : X → Bool) (xs : List X) (k : ℕ) (d : X) → k < length xs → p (get_or xs k d) ≡ true → length (filter p (take k xs)) < length (filter p xs)
@@ -81,7 +81,7 @@ filter_front p (x ∷ xs) zero d lt passes =
     omega (arith, more)
 filter_front p (x ∷ xs) (suc k) d lt passes =
     let rest = filter_front p xs k d (omega arith) passes in
-    elim (p x) as (λ b. length (cond b (x ∷ filter p (take k xs)) (filter p (take k xs))) < length (cond b (x ∷ filter p xs) (filter p xs))) [ | true ↦ omega (arith, rest) | false ↦ rest ]
+    elim (p x) as (λ b. length (cond b (x ∷ filter p (take k xs)) (filter p (take k xs))) < length (cond b (x ∷ filter p xs) (filter p xs))) [ true ↦ omega (arith, rest) | false ↦ rest ]
 
 -- a core of a valid model has few tasks
 module _ (model : SystemModel) (valid : IsValid model) (core : List ℕ) where

@@ -60,7 +60,7 @@ module _ (model : SystemModel) (valid : IsValid model) (t : ℕ) (known : t < le
   names_apart =
       ap (section_repeats M23 part.Task) (map-remove (λ (task : TaskDef). task.name) model.tasks t)
       ∙ apart_pass M23 (λ i. at_key key.Name (entry_of part.Task i)) (remove (task_names model) t)
-        (apart_removed (task_names model) t (omega (arith, known, length-map model.tasks (λ (task : TaskDef). task.name))) (tasks_apart model valid))
+      (apart_removed (task_names model) t (omega (arith, known, length-map model.tasks (λ (task : TaskDef). task.name))) (tasks_apart model valid))
 
   module _ (k : ℕ) (d : TaskDef) (k_lt : k < length tasks) where
     stood : StoodAt model.tasks t k d
@@ -119,9 +119,22 @@ module _ (model : SystemModel) (valid : IsValid model) (t : ℕ) (known : t < le
         let parts = all_none (core_check (core_names model) stood.at task ∷ stimulus_check kind stood.at ∷ priority_check earlier stood.at task ∷ late_check kind stood.at task
         ∷ release_check kind stood.at task ∷ room_check (length earlier) stood.at ∷ empty_check stood.at task ∷ []) none in
         none_in_order (core_check (core_names model) k task ∷ stimulus_check kind k ∷ priority_check now k task ∷ late_check kind k task
-        ∷ release_check kind k task ∷ room_check (length now) k ∷ empty_check k task ∷ [])
-        (unless_moves _ _ _ _ parts.0, (unless_moves _ _ _ _ parts.1.0, (priority_stays task parts.1.1.0, (when_moves _ _ _ _ parts.1.1.1.0, (when_moves _ _ _ _ parts.1.1.1.1.0,
-        (room_stays task on_core, (when_moves _ _ _ _ parts.1.1.1.1.1.1.0, tt)))))))
+        ∷ release_check kind k task ∷ room_check (length now) k ∷ empty_check k task ∷ []) (
+          unless_moves _ _ _ _ parts.0,
+          (
+            unless_moves _ _ _ _ parts.1.0,
+            (
+              priority_stays task parts.1.1.0,
+              (
+                when_moves _ _ _ _ parts.1.1.1.0,
+                (
+                  when_moves _ _ _ _ parts.1.1.1.1.0,
+                  (room_stays task on_core, (when_moves _ _ _ _ parts.1.1.1.1.1.1.0, tt)),
+                ),
+              ),
+            ),
+          ),
+        )
 
     -- ---- M36 to M41
 

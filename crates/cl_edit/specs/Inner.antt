@@ -4,4 +4,3 @@ pub mod Kinds
 pub mod Parts
 pub mod Fields
 pub mod LineReads
-pub mod NewTasks

@@ -1,11 +1,11 @@
 //! Whether a task or a chain may be added to a valid model or dropped from it, by the few checks that such an edit needs.
-ghost use Rattle.std.specs.Prelude.{◌≡◌, ◌==◌, ◌<◌, ◌^◌, ◌++◌, not, length, slice_get, nat_lt, IfSome, is_some, Some};
+ghost use Rattle.std.specs.Prelude.{◌≡◌, ◌==◌, ◌<◌, ◌^◌, ◌++◌, not, length, slice_get, nat_lt, IfSome, is_some, All, Some};
 ghost use Rattle.std.specs.List.{list_any};
 ghost use Rattle.std.specs.Option.{option_copied};
 ghost use Rattle.cl_model.specs.Answers.{Answers, Passes};
 ghost use Rattle.cl_model.specs.ByNumber.{task_at};
 ghost use Rattle.cl_model.specs.Groups.{step_named, groups_at, IsStepOf};
-ghost use Rattle.cl_model.specs.Named.{has_name, is_some_and, chain_names, runnable_names};
+ghost use Rattle.cl_model.specs.Named.{same_name, has_name, is_some_and, chain_names, runnable_named};
 ghost use Rattle.cl_model.specs.Place as place;
 ghost use Rattle.cl_model.specs.Place.{section_place};
 ghost use Rattle.cl_model.specs.Ranges.{IsChainInRange};
@@ -15,7 +15,7 @@ ghost use Rattle.cl_edit.specs.declared.edit.Edit.TheVariants as edits;
 ghost use Rattle.cl_edit.specs.Edited.{found, all_names, edit_checks, with_edit};
 ghost use Rattle.cl_edit.specs.FewListChecks.{new_chain_name_check, new_chain_checks, kept_chain_check, dropped_chain_checks, kept_step_check, kept_steps_check, dropped_task_checks};
 
-use crate::find::{found_step, not_found};
+use crate::find::{not_found, step_search};
 use cl_model::{
     ChainDef, Code, Key, MOST_CHAINS, ModelFault, Name, Part, Place, RequirementDef, RunnableDef,
     Step, TaskDef, ValidModel, refuse_unless, refuse_when,
@@ -47,18 +47,27 @@ pub(crate) fn step_named(model: &ValidModel, name: &Name) -> Option<Step>
     ensures step { IfSome result (λ step. step ≡ step_named model.now name.now) }
     ensures within { IfSome result (IsStepOf model.now) }
 {
-    found_step(model.plain(), name).ok()
+    step_search(model.plain().tasks.as_slice(), name)
 }
 
 // ---- a new chain
+
+/// The runnable of that name. There is none exactly where no runnable has it.
+fn runnable_named<'a>(model: &'a ValidModel, name: &Name) -> Option<&'a RunnableDef>
+    ensures { option_copied result ≡ runnable_named model.now name.now }
+{
+    match step_named(model, name) {
+        Some(step) => Some(&model.task(step.task).runnables.as_slice()[step.place as usize]),
+        None => None,
+    }
+}
 
 /// What step k of a chain is, where it is known.
 fn step_of<'a>(model: &'a ValidModel, chain: &ChainDef, k: usize) -> Option<&'a RunnableDef>
     ensures { option_copied result ≡ step_of model.now chain.now k }
 {
     let name = chain.runnables.at(k)?;
-    let step = step_named(model, name)?;
-    Some(&model.task(step.task).runnables.as_slice()[step.place as usize])
+    runnable_named(model, name)
 }
 
 /// Whether a step is known and doesn't write a label.
@@ -86,7 +95,8 @@ fn misses_label(model: &ValidModel, chain: &ChainDef, k: usize, label: &Name) ->
     requires { k < 2 ^ 32 }
     ensures { result ≡ misses_label model.now chain.now k label.now }
 {
-    misses_write(step_of(model, chain, k), label) || misses_read(step_of(model, chain, k + 1), label)
+    misses_write(step_of(model, chain, k), label)
+        || misses_read(step_of(model, chain, k + 1), label)
 }
 
 fn check_lengths(i: usize, chain: &ChainDef) -> Result<(), ModelFault>
@@ -153,16 +163,26 @@ fn check_chain(model: &ValidModel, i: usize, chain: &ChainDef) -> Result<(), Mod
 {
     let place = entry_of(Part::Chain, i);
     check_lengths(i, chain)?;
-    check_steps(model, place.at_key(Key::Runnables), chain.runnables.as_slice())?;
+    check_steps(
+        model,
+        place.at_key(Key::Runnables),
+        chain.runnables.as_slice(),
+    )?;
     check_hops(model, place.at_key(Key::Labels), chain)?;
     Ok(())
+}
+
+fn has_chain(model: &ValidModel, name: &Name) -> bool
+    ensures { result ≡ has_name name.now (chain_names model.now) }
+{
+    model.chain_named(name).is_some()
 }
 
 /// Checks M25 for a new chain.
 fn check_chain_name(model: &ValidModel, chain: &ChainDef) -> Result<(), ModelFault>
     ensures { Answers result (new_chain_name_check model.now chain.now) tt }
 {
-    let is_taken = model.chain_named(&chain.name).is_some();
+    let is_taken = has_chain(model, &chain.name);
     let place = Part::Chain.section_place().at_item(model.chains());
     refuse_when(is_taken, Code::M25, place.at_key(Key::Name))
 }
@@ -174,7 +194,7 @@ fn check_chain_room(model: &ValidModel) -> Result<(), ModelFault>
     refuse_unless(has_room, Code::M10, Part::Chain.section_place())
 }
 
-#[tactic(auto, using(cl_model::proofs::FirstRefusals::faults))]
+#[tactic(auto, using(cl_model::proofs::FirstRefusals::faults), unfolding(crate::specs::Edited::edit_checks))]
 fn check_parts_of_chain(model: &ValidModel, chain: &ChainDef) -> Result<(), ModelFault>
     requires { IsChainInRange chain.now }
     ensures checked { Answers result (edit_checks model.now (edits.AddChain chain.now) ++ new_chain_checks model.now chain.now) tt }
@@ -198,11 +218,7 @@ pub(crate) fn check_new_chain(model: &ValidModel, chain: &ChainDef) -> Result<()
 
 // ---- a dropped chain
 
-fn check_requirement(
-    chain: &Name,
-    i: usize,
-    requirement: &RequirementDef,
-) -> Result<(), ModelFault>
+fn check_requirement(chain: &Name, i: usize, requirement: &RequirementDef) -> Result<(), ModelFault>
     requires { i < 2 ^ 32 }
     ensures { Answers result (kept_chain_check chain.now i requirement.now) tt }
 {
@@ -221,6 +237,7 @@ fn check_requirements(chain: &Name, requirements: &[RequirementDef]) -> Result<(
     Ok(())
 }
 
+#[tactic(auto, using(crate::proofs::FoundFacts::finding))]
 fn check_chain_found(model: &ValidModel, chain: &Name) -> Result<(), ModelFault>
     ensures { Answers result (found chain.now (chain_names model.now)) tt }
 {
@@ -230,7 +247,7 @@ fn check_chain_found(model: &ValidModel, chain: &Name) -> Result<(), ModelFault>
     }
 }
 
-#[tactic(auto, using(cl_model::proofs::FirstRefusals::faults))]
+#[tactic(auto, using(cl_model::proofs::FirstRefusals::faults), unfolding(crate::specs::Edited::edit_checks))]
 fn check_requirements_of(model: &ValidModel, chain: &Name) -> Result<(), ModelFault>
     ensures checked { Answers result (edit_checks model.now (edits.DropChain chain.now) ++ dropped_chain_checks model.now chain.now) tt }
     ensures valid { IsValid model.now }
@@ -253,7 +270,7 @@ pub(crate) fn check_dropped_chain(model: &ValidModel, chain: &Name) -> Result<()
 
 /// Whether a runnable has that name.
 fn has_runnable(runnables: &[RunnableDef], name: &Name) -> bool
-    ensures { result ≡ has_name name.now (runnable_names runnables.now) }
+    ensures { result ≡ list_any (λ runnable. same_name name.now runnable.name) runnables.now }
 {
     runnables.iter().any(|runnable| *name == runnable.name)
 }
@@ -292,8 +309,11 @@ fn check_kept_chain(
     c: usize,
     chain: &ChainDef,
 ) -> Result<(), ModelFault>
+    requires valid { IsValid model.now }
     requires task { task < length model.now.tasks }
+    requires item { c < 2 ^ 32 }
     requires chain { slice_get model.now.chains c ≡ Some chain.now }
+    requires range { IsChainInRange chain.now }
     ensures { Answers result (kept_steps_check (task_at model.now task) c chain.now) tt }
 {
     if passes(model, c as u32, task) {
@@ -305,13 +325,12 @@ fn check_kept_chain(
 }
 
 #[tactic(auto, using(cl_model::proofs::FirstRefusals::loop_faults))]
-fn check_kept_chains(
-    model: &ValidModel,
-    task: u32,
-    chains: &[ChainDef],
-) -> Result<(), ModelFault>
+fn check_kept_chains(model: &ValidModel, task: u32, chains: &[ChainDef]) -> Result<(), ModelFault>
+    requires valid { IsValid model.now }
     requires task { task < length model.now.tasks }
     requires chains { chains.now ≡ model.now.chains }
+    requires count { length chains.now < 2 ^ 32 }
+    requires ranges { All IsChainInRange chains.now }
     ensures { Answers result (each (kept_steps_check (task_at model.now task)) chains.now) tt }
 {
     for (c, chain) in chains.iter().enumerate() {
