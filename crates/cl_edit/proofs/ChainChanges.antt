@@ -1,6 +1,6 @@
 -- A valid model with one more chain, or without one of its chains: what is refused of it.
-use Rattle.std.proofs.Common.{◌≡◌, ℕ, ◌<◌, true, not, List, [], ◌∷◌, ◌++◌, length, get_or, map, refl, sym, ap, ◌∙◌, arith}
-use Rattle.std.specs.Prelude.{Some, if◌then◌else◌}
+use Rattle.std.proofs.Common.{◌≡◌, ℕ, ◌<◌, List, [], ◌∷◌, ◌++◌, length, get_or, refl, ap, ◌∙◌, arith}
+use Rattle.std.specs.Prelude.{Some}
 use Rattle.std.specs.List.{remove}
 use Rattle.std.proofs.lemmas.List.{map-append, length-map}
 use Rattle.cl_model.specs.declared.chain.ChainDef.{ChainDef}
@@ -9,11 +9,9 @@ use Rattle.cl_model.specs.declared.model.SystemModel.{SystemModel}
 use Rattle.cl_model.specs.declared.place.Place.{Place}
 use Rattle.cl_model.specs.declared.place.Part.TheVariants as part
 use Rattle.cl_model.specs.declared.place.Key.TheVariants as key
-use Rattle.cl_model.specs.declared.refusal.Code.TheVariants.{M25, M46, E2}
-use Rattle.cl_model.specs.declared.refusal.Refusal.{Refusal}
-use Rattle.cl_model.specs.ByNumber.{no_chain, chain_named}
+use Rattle.cl_model.specs.declared.refusal.Code.TheVariants.{M25, M46}
 use Rattle.cl_model.specs.Named.{same_name, has_name, index_of, chain_names}
-use Rattle.cl_model.specs.Place.{entry_of, at_key, top}
+use Rattle.cl_model.specs.Place.{entry_of, at_key}
 use Rattle.cl_model.specs.Refusals.{when, unless, each}
 use Rattle.cl_model.specs.ValidNames.{section_repeats, stimulus_checks, name_checks}
 use Rattle.cl_model.specs.ValidTasks.{naming_checks, task_check, task_checks, deadline_checks}
@@ -24,7 +22,7 @@ use Rattle.cl_model.proofs.PassedChecks.{stimuli_pass, tasks_pass, deadlines_pas
 use Rattle.cl_model.proofs.Refused.{unless_none, each_none}
 use Rattle.cl_edit.specs.declared.edit.Edit.TheVariants.{AddChain, DropChain}
 use Rattle.cl_edit.specs.Changes.{with_new_chain, without_chain}
-use Rattle.cl_edit.specs.Edited.{found, chain_number, edit_checks, with_edit}
+use Rattle.cl_edit.specs.Edited.{chain_number, edit_checks, with_edit}
 use Rattle.cl_edit.specs.FewListChecks.{new_chain_name_check, new_chain_checks, kept_chain_check, dropped_chain_checks}
 use Rattle.cl_edit.proofs.CheckParts.{name_parts, chain_names_left, names_and_chains_left, requirements_left, chain_moves}
 use Rattle.cl_edit.proofs.EachFacts.{each_more, each_alike, none_of_each, each_moves, unless_true, unless_not}

@@ -1,6 +1,6 @@
 -- What is answered of few checks is answered of the whole edited model.
 use Rattle.std.proofs.Common.{◌≡◌, ℕ, Bool, List, [], ◌∷◌, ◌++◌, refl, sym, ap, ◌∙◌, subst}
-use Rattle.std.specs.Prelude.{Option, Some, None, Result, Ok, Err, unwrap_or}
+use Rattle.std.specs.Prelude.{Some, None, Result, Ok, Err, unwrap_or}
 use Rattle.cl_model.specs.declared.chain.ChainDef.{ChainDef}
 use Rattle.cl_model.specs.declared.model.SystemModel.{SystemModel}
 use Rattle.cl_model.specs.declared.model_fault.ModelFault.{ModelFault}
@@ -13,7 +13,7 @@ use Rattle.cl_model.specs.Answers.{Answers, Passes, IsFaultOf}
 use Rattle.cl_model.specs.ByNumber.{task_at, task_named}
 use Rattle.cl_model.specs.Named.{task_names}
 use Rattle.cl_model.specs.Place.{top}
-use Rattle.cl_model.specs.Refusals.{when, each}
+use Rattle.cl_model.specs.Refusals.{when, unless, each}
 use Rattle.cl_model.proofs.Refused.{first_with_more}
 use Rattle.cl_edit.specs.declared.edit.Edit.TheVariants.{DropTask}
 use Rattle.cl_edit.specs.Edited.{found, task_number, edit_checks}
@@ -34,6 +34,11 @@ pub answers_when : (result : Result (Unit {0}) ModelFault) (computed asked : Boo
     → Answers result (when computed code made) tt → Answers result (when asked code place) tt
 answers_when result computed asked code made place is at h =
     subst (λ p. Answers result (when asked code p) tt) at (subst (λ b. Answers result (when b code made) tt) is h)
+
+pub answers_unless : (result : Result (Unit {0}) ModelFault) (computed asked : Bool) (code : Code) (made place : Place) → computed ≡ asked → made ≡ place
+    → Answers result (unless computed code made) tt → Answers result (unless asked code place) tt
+answers_unless result computed asked code made place is at h =
+    subst (λ p. Answers result (unless asked code p) tt) at (subst (λ b. Answers result (unless b code made) tt) is h)
 
 -- ---- a task that is dropped
 

@@ -1,5 +1,5 @@
 -- The tasks that the groups of a chain stand in are those of its steps.
-use Rattle.std.proofs.Common.{◌≡◌, ℕ, ◌<◌, Bool, true, false, cond, ◌==◌, ◌||◌, List, [], ◌∷◌, length, get_or, map, refl, sym, ap, ◌∙◌, subst, arith}
+use Rattle.std.proofs.Common.{◌≡◌, ℕ, ◌<◌, Bool, true, false, cond, ◌==◌, ◌||◌, List, [], ◌∷◌, length, get_or, refl, sym, ap, ◌∙◌, arith}
 use Rattle.std.specs.List.{list_any}
 use Rattle.std.proofs.lemmas.Bool.{false≢true, false_from_ne_true, eqb-true, eq-eqb}
 use Rattle.std.proofs.lemmas.List.{length-map, get_or-map}
@@ -11,8 +11,8 @@ use Rattle.cl_model.specs.declared.model.SystemModel.{SystemModel}
 use Rattle.cl_model.specs.declared.place.Place.{Place}
 use Rattle.cl_model.specs.declared.task.RunnableDef.{RunnableDef}
 use Rattle.cl_model.specs.ByNumber.{task_at, runnable_at, no_runnable}
-use Rattle.cl_model.specs.Groups.{is_inner, group_of_step, groups_from, groups, groups_of, steps_of, step_named, no_step}
-use Rattle.cl_model.specs.Named.{has_name, runnable_names}
+use Rattle.cl_model.specs.Groups.{is_inner, group_of_step, groups_from, groups, groups_of, steps_of, step_named}
+use Rattle.cl_model.specs.Named.{runnable_names}
 use Rattle.cl_model.specs.Refusals.{each}
 use Rattle.cl_model.specs.Validity.{IsValid}
 use Rattle.cl_model.proofs.ListFacts.{both_pass, list_any-map}

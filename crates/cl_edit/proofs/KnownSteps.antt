@@ -1,12 +1,10 @@
 -- Names that are looked up in a model, and what they stand for.
-use Rattle.std.proofs.Common.{◌≡◌, ℕ, ◌<◌, Bool, true, false, List, [], length, get_or, refl, sym, ap, ◌∙◌, subst}
+use Rattle.std.proofs.Common.{◌≡◌, ℕ, ◌<◌, Bool, true, false, List, length, get_or, refl, sym, ap, ◌∙◌}
 use Rattle.std.specs.Prelude.{Option, Some, None, is_some, IfSome, slice_get}
 use Rattle.std.specs.Option.{option_and_then}
-use Rattle.std.proofs.lemmas.Bool.{false_from_ne_true}
 use Rattle.cl_model.specs.declared.group.Step.{Step}
 use Rattle.cl_model.specs.declared.model.SystemModel.{SystemModel}
 use Rattle.cl_model.specs.declared.refusal.Code.TheVariants.{E2}
-use Rattle.cl_model.specs.declared.refusal.Refusal.{Refusal}
 use Rattle.cl_model.specs.declared.task.RunnableDef.{RunnableDef}
 use Rattle.cl_model.specs.declared.task.TaskDef.{TaskDef}
 use Rattle.cl_model.specs.ByNumber.{no_runnable, task_at, runnable_at}
@@ -14,11 +12,10 @@ use Rattle.cl_model.specs.Groups.{step_named, IsStepOf}
 use Rattle.cl_model.specs.Named.{has_name, index_of, runnable_names, runnable_named, all_runnables}
 use Rattle.cl_model.specs.Place.{top}
 use Rattle.cl_model.specs.Refusals.{first, unless}
-use Rattle.cl_model.proofs.NamePlaces.{found_stands, stands_known}
 use Rattle.cl_model.proofs.Refused.{unless_none}
 use Rattle.cl_model.proofs.StepFacts.{runnable_found}
 use Rattle.std.proofs.lemmas.List.{get_or_default}
-use Rattle.cl_edit.specs.Edited.{found, all_names}
+use Rattle.cl_edit.specs.Edited.{all_names}
 use Rattle.cl_edit.specs.Inner.Steps.{step_search}
 use Rattle.cl_edit.proofs.FoundFacts.{missing_unknown, found_known, step_found, step_missing}
 

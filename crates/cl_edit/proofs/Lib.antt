@@ -29,4 +29,6 @@ pub mod TaskAdded
 pub mod FewAnswers
 pub mod KnownSteps
 pub mod GroupTasks
+pub mod AgreeFacts
+pub mod NewTaskChecks
 pub mod EditedValid

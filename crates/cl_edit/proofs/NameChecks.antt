@@ -1,9 +1,9 @@
 -- The checks of names of which one is added or removed.
-use Rattle.std.proofs.Common.{◌≡◌, ℕ, zero, suc, ◌+◌, ◌<◌, Bool, true, false, not, ◌||◌, List, [], ◌∷◌, ◌++◌, length, get_or, take, drop, map, refl, sym, ap, ◌∙◌, arith}
+use Rattle.std.proofs.Common.{◌≡◌, ℕ, zero, suc, ◌<◌, Bool, true, false, not, ◌||◌, List, [], ◌∷◌, ◌++◌, length, get_or, take, drop, map, refl, sym, ap, ◌∙◌, arith}
 use Rattle.std.specs.Prelude.{Some}
 use Rattle.std.specs.List.{list_any, remove}
 use Rattle.std.specs.Cmp.Lexicographic.{bytes_decides}
-use Rattle.std.proofs.lemmas.Bool.{false≢true, false_from_ne_true, or_left}
+use Rattle.std.proofs.lemmas.Bool.{false_from_ne_true, or_left}
 use Rattle.std.proofs.lemmas.Cmp.{nat_list_eq_equiv}
 use Rattle.std.proofs.lemmas.List.Quantifiers.{position-Some}
 use Rattle.std.proofs.lemmas.List.Sums.{position_or_len_is}
@@ -11,10 +11,9 @@ use Rattle.std.proofs.lemmas.List.{length-append, get_or_append_left, take-appen
 use Rattle.std.proofs.lemmas.List.Folds.{list_any-append}
 use Rattle.cl_model.specs.declared.place.Place.{Place}
 use Rattle.cl_model.specs.declared.refusal.Code.{Code}
-use Rattle.cl_model.specs.declared.refusal.Refusal.{Refusal}
 use Rattle.cl_model.specs.Named.{same_name, has_name, index_of}
 use Rattle.cl_model.specs.NameSets.{AreDistinctNames}
-use Rattle.cl_model.specs.Refusals.{when, each}
+use Rattle.cl_model.specs.Refusals.{when}
 use Rattle.cl_model.specs.ValidNames.{repeat_check, repeats}
 use Rattle.cl_model.proofs.NamePlaces.{known_stands, found_below, found_named, one_place}
 use Rattle.cl_edit.proofs.EachFacts.{each_more, each_alike, none_of_each, when_false}

@@ -1,10 +1,8 @@
 -- The chains of a valid model without one of its tasks: a step is missing where it is a runnable of that task, and
 -- each other step stays what it is.
-use Rattle.std.proofs.Common.{◌≡◌, ℕ, suc, ◌+◌, ◌<◌, Bool, true, false, not, ◌||◌, ◌⊎◌, inl, inr, List, [], ◌∷◌, ◌++◌, length, get_or, map, refl, sym, ap, ◌∙◌, subst, arith}
-use Rattle.std.specs.Prelude.{Option, Some, None, slice_get, unwrap_or}
-use Rattle.std.specs.List.{list_any, remove}
+use Rattle.std.proofs.Common.{◌≡◌, ℕ, ◌+◌, ◌<◌, Bool, true, false, not, ◌⊎◌, inl, inr, List, [], ◌++◌, length, get_or, refl, sym, ap, ◌∙◌, subst, arith}
+use Rattle.std.specs.Prelude.{Option, Some, None, slice_get}
 use Rattle.std.specs.Option.{option_and_then}
-use Rattle.std.specs.Cmp.Lexicographic.{bytes_decides}
 use Rattle.std.proofs.lemmas.Bool.{false_from_ne_true, or_parts, or_from, or_right}
 use Rattle.std.proofs.lemmas.List.{length-map, get_or-map, append-nil}
 use Rattle.cl_model.specs.declared.chain.ChainDef.{ChainDef}
@@ -21,12 +19,12 @@ use Rattle.cl_model.specs.ByNumber.{no_task, task_at, runnable_at, no_runnable}
 use Rattle.cl_model.specs.Groups.{step_named, IsStepOf}
 use Rattle.cl_model.specs.Named.{has_name, index_of, is_some_and, runnable_names, runnable_named, all_runnables}
 use Rattle.cl_model.specs.Place.{entry_of, at_key, at_spot}
-use Rattle.cl_model.specs.Refusals.{when, unless, each}
-use Rattle.cl_model.specs.Validity.{IsValid, step_of, misses_label, lengths_check, step_check, hop_check, chain_check}
+use Rattle.cl_model.specs.Refusals.{unless, each}
+use Rattle.cl_model.specs.Validity.{IsValid, misses_label, lengths_check, step_check, hop_check, chain_check}
 use Rattle.cl_model.proofs.NamePlaces.{known_stands}
 use Rattle.cl_model.proofs.NoRefusals.{all_none}
 use Rattle.cl_model.proofs.PassedChecks.{chains_pass}
-use Rattle.cl_model.proofs.Refused.{when_none, unless_none, each_none}
+use Rattle.cl_model.proofs.Refused.{unless_none, each_none}
 use Rattle.cl_model.proofs.StepFacts.{step_stands_in, step_has_name, runnable_found}
 use Rattle.cl_model.proofs.StepsApart.{one_of_name, own_step}
 use Rattle.cl_edit.specs.Changes.{without_task}

@@ -1,9 +1,8 @@
 -- A valid model with one more task: what is refused of it.
-use Rattle.std.proofs.Common.{◌≡◌, ℕ, suc, ◌+◌, ◌<◌, ◌≤◌, Bool, true, false, cond, not, ◌&&◌, ◌||◌, List, [], ◌∷◌, ◌++◌, length, get_or, take, map, refl, sym, ap, ◌∙◌, append_assoc, arith, nat_lt}
+use Rattle.std.proofs.Common.{◌≡◌, ℕ, ◌+◌, ◌<◌, Bool, true, false, not, ◌&&◌, ◌||◌, List, [], ◌∷◌, ◌++◌, length, get_or, take, refl, sym, ap, ◌∙◌, append_assoc, arith, nat_lt}
 use Rattle.std.specs.Prelude.{Option, Some, None, slice_get, unwrap_or}
 use Rattle.std.specs.List.{list_any}
 use Rattle.std.specs.Option.{option_and_then}
-use Rattle.std.proofs.lemmas.Bool.{or_from}
 use Rattle.std.proofs.lemmas.Grind.{flat_map-append}
 use Rattle.std.proofs.lemmas.List.{append-nil, length-map, length-append, map-append, take-append-le, take_at, get_or_append_left}
 use Rattle.std.proofs.lemmas.List.Folds.{list_any-append}
@@ -21,10 +20,10 @@ use Rattle.cl_model.specs.declared.task.TaskDef.{TaskDef}
 use Rattle.cl_model.specs.Named.{same_name, has_name, index_of, is_some_and, core_names, label_names, task_names, kind_named, runnable_names, runnable_named, tasks_on, all_runnables, labels_written}
 use Rattle.cl_model.specs.ByNumber.{no_runnable}
 use Rattle.cl_model.specs.Place.{entry_of, at_key, at_sub, at_spot}
-use Rattle.cl_model.specs.Refusals.{when, unless, in_order, each}
-use Rattle.cl_model.specs.ValidNames.{section_repeats, runnable_repeats, repeats, stimulus_checks, name_checks}
-use Rattle.cl_model.specs.ValidTasks.{task_key, core_check, stimulus_check, priority_check, late_check, release_check, room_check, empty_check, naming_checks, body_checks, count_check, task_check, task_checks, is_outpaced_by, deadline_check, deadline_checks}
-use Rattle.cl_model.specs.Validity.{IsValid, step_of, misses_label, lengths_check, step_check, hop_check, chain_check, requirement_check, refusals_of}
+use Rattle.cl_model.specs.Refusals.{when, in_order, each}
+use Rattle.cl_model.specs.ValidNames.{section_repeats, runnable_repeats, repeats, stimulus_checks}
+use Rattle.cl_model.specs.ValidTasks.{task_key, core_check, stimulus_check, priority_check, late_check, release_check, room_check, empty_check, naming_checks, body_checks, task_check, task_checks, is_outpaced_by, deadline_check, deadline_checks}
+use Rattle.cl_model.specs.Validity.{IsValid, step_of, step_check, hop_check, chain_check, refusals_of}
 use Rattle.cl_model.proofs.NamePlaces.{known_place, found_below}
 use Rattle.cl_model.proofs.NamesApart.{tasks_apart, runnables_pass}
 use Rattle.cl_model.proofs.NoRefusals.{all_none, none_in_order}
@@ -35,7 +34,7 @@ use Rattle.cl_edit.specs.Changes.{with_new_task}
 use Rattle.cl_edit.specs.Edited.{with_edit}
 use Rattle.cl_edit.specs.FewListChecks.{new_task_name_check, new_runnables_check, below_new_check, new_task_checks}
 use Rattle.cl_edit.proofs.CheckParts.{name_parts, task_names_left, names_tasks_deadlines_left, chain_lists}
-use Rattle.cl_edit.proofs.EachFacts.{each_more, each_alike, each_moves, none_of_each, when_false, unless_true}
+use Rattle.cl_edit.proofs.EachFacts.{each_more, each_alike, each_moves, unless_true}
 use Rattle.cl_edit.proofs.NameChecks.{apart_pass, repeats_more, known_longer, index_longer}
 use Rattle.cl_edit.proofs.TaskLists.{list_any-filter}
 

@@ -1,51 +1,42 @@
 -- A valid model without one of its tasks: what is refused of it.
-use Rattle.std.proofs.Common.{◌≡◌, ℕ, suc, ◌+◌, ◌<◌, ◌≤◌, Bool, true, false, cond, ◌&&◌, ◌||◌, not, inl, inr, List, [], ◌∷◌, ◌++◌, length, get_or, take, map, refl, sym, ap, ◌∙◌, subst, arith, nat_lt}
-use Rattle.std.specs.Prelude.{Option, Some, None, slice_get, unwrap_or, Contains, ◌==◌}
+use Rattle.std.proofs.Common.{◌≡◌, ℕ, ◌+◌, ◌<◌, Bool, true, false, ◌&&◌, List, [], ◌∷◌, ◌++◌, length, get_or, take, sym, ap, ◌∙◌, arith}
+use Rattle.std.specs.Prelude.{◌==◌}
 use Rattle.std.specs.List.{list_any, remove}
-use Rattle.std.specs.Option.{option_and_then}
 use Rattle.std.specs.Cmp.Lexicographic.{bytes_decides}
-use Rattle.std.proofs.lemmas.Bool.{false≢true, false_from_ne_true, or_parts, or_from, ne_eqb, le-ltb}
-use Rattle.std.proofs.lemmas.List.{length-map, get_or-map, get_or_default}
-use Rattle.std.proofs.lemmas.List.Folds.{list_any-append, Any-from_list_any}
-use Rattle.std.proofs.lemmas.List.Edits.{length-remove}
-use Rattle.cl_model.specs.declared.chain.ChainDef.{ChainDef}
-use Rattle.cl_model.specs.declared.group.Step.{Step}
-use Rattle.cl_model.specs.declared.limits.TheConstants.{MOST_TASKS_OF_CORE, MOST_RUNNABLES_OF_MODEL}
+use Rattle.std.proofs.lemmas.Bool.{or_parts, or_from, ne_eqb, le-ltb}
+use Rattle.std.proofs.lemmas.List.{length-map}
+use Rattle.std.proofs.lemmas.List.Folds.{list_any-append}
+use Rattle.cl_model.specs.declared.limits.TheConstants.{MOST_RUNNABLES_OF_MODEL}
 use Rattle.cl_model.specs.declared.model.SystemModel.{SystemModel}
 use Rattle.cl_model.specs.declared.place.Place.{Place}
 use Rattle.cl_model.specs.declared.place.Part.TheVariants as part
 use Rattle.cl_model.specs.declared.place.Key.TheVariants as key
-use Rattle.cl_model.specs.declared.refusal.Code.{Code}
-use Rattle.cl_model.specs.declared.refusal.Code.TheVariants.{M23, M24, M31, M34, M37, M38, M39, M40, M41, M42, M44, M45}
-use Rattle.cl_model.specs.declared.refusal.Refusal.{Refusal}
+use Rattle.cl_model.specs.declared.refusal.Code.TheVariants.{M23, M24, M31, M34, M37, M38, M39, M40, M41, M42}
 use Rattle.cl_model.specs.declared.task.RunnableDef.{RunnableDef}
 use Rattle.cl_model.specs.declared.task.TaskDef.{TaskDef}
-use Rattle.cl_model.specs.ByNumber.{no_task, task_at, runnable_at, no_runnable}
-use Rattle.cl_model.specs.Groups.{step_named, IsStepOf}
-use Rattle.cl_model.specs.Named.{same_name, has_name, index_of, is_some_and, core_names, label_names, task_names, kind_named, runnable_names, runnable_named, tasks_on, all_runnables, labels_written}
+use Rattle.cl_model.specs.ByNumber.{no_task, task_at}
+use Rattle.cl_model.specs.Named.{same_name, has_name, core_names, label_names, task_names, kind_named, runnable_names, tasks_on, all_runnables, labels_written}
 use Rattle.cl_model.specs.Place.{entry_of, at_key, at_sub, at_spot}
-use Rattle.cl_model.specs.Refusals.{when, unless, each}
-use Rattle.cl_model.specs.ValidNames.{section_repeats, repeat_check, repeats, runnable_repeats, stimulus_checks, name_checks}
-use Rattle.cl_model.specs.ValidTasks.{task_key, core_check, stimulus_check, priority_check, late_check, release_check, room_check, empty_check, naming_checks, label_check, writer_check, times_check, reads_check, writes_check, twice_check, contest_check, runnable_checks, body_check, body_checks, count_check, task_check, task_checks, is_outpaced_by, deadline_check, deadline_checks}
-use Rattle.cl_model.specs.Validity.{IsValid, step_of, misses_label, lengths_check, step_check, hop_check, chain_check, requirement_check, refusals_of}
-use Rattle.cl_model.proofs.NamePlaces.{known_stands, found_below, known_place}
+use Rattle.cl_model.specs.Refusals.{each}
+use Rattle.cl_model.specs.ValidNames.{section_repeats, repeat_check, runnable_repeats, stimulus_checks, name_checks}
+use Rattle.cl_model.specs.ValidTasks.{core_check, stimulus_check, priority_check, late_check, release_check, room_check, empty_check, naming_checks, label_check, writer_check, times_check, reads_check, writes_check, twice_check, contest_check, runnable_checks, body_check, body_checks, count_check, task_check, task_checks, is_outpaced_by, deadline_check, deadline_checks}
+use Rattle.cl_model.specs.Validity.{IsValid, refusals_of}
+use Rattle.cl_model.proofs.NamePlaces.{found_below, known_place}
 use Rattle.cl_model.proofs.NamesApart.{tasks_apart, runnables_pass}
-use Rattle.cl_model.proofs.NoRefusals.{AllNone, all_none, none_in_order}
-use Rattle.cl_model.proofs.PassedChecks.{stimuli_pass, tasks_pass, deadlines_pass, chains_pass, requirements_pass}
-use Rattle.cl_model.proofs.Refused.{when_none, unless_none, each_none, none_before, none_behind}
-use Rattle.cl_model.proofs.StepFacts.{step_stands_in, step_has_name, runnable_found}
-use Rattle.cl_model.proofs.StepsApart.{one_of_name, own_step}
+use Rattle.cl_model.proofs.NoRefusals.{all_none, none_in_order}
+use Rattle.cl_model.proofs.PassedChecks.{stimuli_pass, tasks_pass, deadlines_pass, requirements_pass}
+use Rattle.cl_model.proofs.Refused.{unless_none, each_none}
 use Rattle.cl_model.proofs.ValidTasks.{few_runnables}
 use Rattle.cl_edit.specs.declared.edit.Edit.TheVariants.{DropTask}
 use Rattle.cl_edit.specs.Changes.{without_task}
 use Rattle.cl_edit.specs.Edited.{task_number, edit_checks, with_edit}
-use Rattle.cl_edit.specs.FewListChecks.{kept_step_check, kept_steps_check, dropped_task_checks}
-use Rattle.cl_edit.proofs.CheckParts.{name_parts, none_of_names, chains_left, chain_lists}
-use Rattle.cl_edit.proofs.EachFacts.{each_alike, none_of_each, each_moves, when_moves, unless_moves, when_false, when_fewer}
-use Rattle.cl_edit.proofs.NameChecks.{apart_pass, map-remove, any_removed}
+use Rattle.cl_edit.specs.FewListChecks.{kept_steps_check, dropped_task_checks}
+use Rattle.cl_edit.proofs.CheckParts.{name_parts, none_of_names, chains_left}
+use Rattle.cl_edit.proofs.EachFacts.{none_of_each, each_moves, when_moves, unless_moves, when_false, when_fewer}
+use Rattle.cl_edit.proofs.NameChecks.{apart_pass, map-remove}
 use Rattle.cl_edit.proofs.Removals.{StoodAt, stood_at, apart_removed}
 use Rattle.cl_edit.proofs.StepsLeft.{chains_without}
-use Rattle.cl_edit.proofs.TaskLists.{list_any-filter, runnable_among, name_among, written_among, none_left, fewer_taken, fewer_left, filter_left, filter_front, few_on_core}
+use Rattle.cl_edit.proofs.TaskLists.{list_any-filter, name_among, written_among, none_left, fewer_taken, fewer_left, filter_left, filter_front, few_on_core}
 
 module _ (model : SystemModel) (valid : IsValid model) (t : ℕ) (known : t < length model.tasks) where
   abbrev left : SystemModel

@@ -4,6 +4,7 @@
 mod apply;
 mod changes;
 mod check_lists;
+mod check_new_task;
 mod edit;
 mod fault;
 mod fields;
@@ -12,6 +13,7 @@ mod kinds;
 pub mod laws;
 mod limits;
 mod lines;
+mod new_labels;
 mod ranges;
 mod reading;
 mod task_line;
