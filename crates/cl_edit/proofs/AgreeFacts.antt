@@ -26,7 +26,7 @@ use Rattle.cl_model.specs.ValidTasks.{label_check, writer_check, times_check, re
 use Rattle.cl_model.proofs.ListFacts.{list_any-flat_map}
 use Rattle.cl_valid.proofs.UsesByTask.{flat_more}
 use Rattle.cl_edit.specs.Inner.NewTasks.{labels_of, AreAlike, AgreeOn}
-use Rattle.cl_edit.proofs.EachFacts.{each_alike}
+use Rattle.cl_edit.proofs.EachChecked.{each_alike}
 
 -- ---- lists that grow
 

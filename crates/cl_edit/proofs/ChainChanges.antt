@@ -21,11 +21,11 @@ use Rattle.cl_model.proofs.NamesApart.{chains_apart}
 use Rattle.cl_model.proofs.PassedChecks.{stimuli_pass, tasks_pass, deadlines_pass, chains_pass, requirements_pass}
 use Rattle.cl_model.proofs.Refused.{unless_none, each_none}
 use Rattle.cl_edit.specs.declared.edit.Edit.TheVariants.{AddChain, DropChain}
-use Rattle.cl_edit.specs.Changes.{with_new_chain, without_chain}
+use Rattle.cl_model.specs.Changes.{with_new_chain, without_chain}
 use Rattle.cl_edit.specs.Edited.{chain_number, edit_checks, with_edit}
 use Rattle.cl_edit.specs.FewListChecks.{new_chain_name_check, new_chain_checks, kept_chain_check, dropped_chain_checks}
 use Rattle.cl_edit.proofs.CheckParts.{name_parts, chain_names_left, names_and_chains_left, requirements_left, chain_moves}
-use Rattle.cl_edit.proofs.EachFacts.{each_more, each_alike, none_of_each, each_moves, unless_true, unless_not}
+use Rattle.cl_edit.proofs.EachChecked.{each_more, each_alike, none_of_each, each_moves, unless_true, unless_not}
 use Rattle.cl_edit.proofs.NameChecks.{apart_pass, repeats_more, map-remove, left_names, known_longer}
 use Rattle.cl_edit.proofs.Removals.{stood_at, apart_removed}
 

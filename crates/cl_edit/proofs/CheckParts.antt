@@ -15,7 +15,7 @@ use Rattle.cl_model.specs.ValidTasks.{task_checks, deadline_checks}
 use Rattle.cl_model.specs.Validity.{IsValid, lengths_check, step_check, hop_check, chain_check, requirement_check, refusals_of}
 use Rattle.cl_model.proofs.NoRefusals.{AllNone, all_none, none_in_order}
 use Rattle.cl_model.proofs.PassedChecks.{names_pass}
-use Rattle.cl_edit.proofs.EachFacts.{when_moves, unless_moves, each_moves}
+use Rattle.cl_edit.proofs.EachChecked.{when_moves, unless_moves, each_moves}
 
 -- ---- names
 

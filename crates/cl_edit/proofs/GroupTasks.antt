@@ -19,7 +19,7 @@ use Rattle.cl_model.proofs.ListFacts.{both_pass, list_any-map}
 use Rattle.cl_model.proofs.NamePlaces.{known_stands}
 use Rattle.cl_model.proofs.StepsApart.{own_step}
 use Rattle.cl_edit.specs.FewListChecks.{kept_step_check}
-use Rattle.cl_edit.proofs.EachFacts.{none_of_each, when_false}
+use Rattle.cl_edit.proofs.EachChecked.{none_of_each, when_false}
 
 twice : (a b : Bool) → (a || b) ≡ (a || (a || b))
 twice true b = refl

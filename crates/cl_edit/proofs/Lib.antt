@@ -17,7 +17,7 @@ pub mod NextEdits
 pub mod BadEdits
 pub mod OneAnswer
 pub mod SomeAnswer
-pub mod EachFacts
+pub mod EachChecked
 pub mod Removals
 pub mod CheckParts
 pub mod NameChecks
@@ -26,7 +26,7 @@ pub mod TaskLists
 pub mod StepsLeft
 pub mod TaskRemoval
 pub mod TaskAdded
-pub mod FewAnswers
+pub mod ListAnswers
 pub mod KnownSteps
 pub mod GroupTasks
 pub mod AgreeFacts

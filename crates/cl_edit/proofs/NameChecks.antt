@@ -16,7 +16,7 @@ use Rattle.cl_model.specs.NameSets.{AreDistinctNames}
 use Rattle.cl_model.specs.Refusals.{when}
 use Rattle.cl_model.specs.ValidNames.{repeat_check, repeats}
 use Rattle.cl_model.proofs.NamePlaces.{known_stands, found_below, found_named, one_place}
-use Rattle.cl_edit.proofs.EachFacts.{each_more, each_alike, none_of_each, when_false}
+use Rattle.cl_edit.proofs.EachChecked.{each_more, each_alike, none_of_each, when_false}
 use Rattle.cl_edit.proofs.Removals.{stood_at}
 use Rattle.cl_edit.proofs.StepFacts.{place_is}
 

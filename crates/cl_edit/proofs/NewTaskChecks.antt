@@ -27,7 +27,7 @@ use Rattle.cl_model.specs.Validity.{IsValid}
 use Rattle.cl_model.proofs.NamesKnown.{stimulus_known}
 use Rattle.cl_model.proofs.ValidTasks.{few_runnables}
 use Rattle.cl_edit.specs.declared.edit.Edit.TheVariants.{AddTask}
-use Rattle.cl_edit.specs.Changes.{with_new_task}
+use Rattle.cl_model.specs.Changes.{with_new_task}
 use Rattle.cl_edit.specs.Edited.{edit_checks}
 use Rattle.cl_edit.specs.FewListChecks.{new_task_name_check, new_runnables_check, below_new_check, new_task_checks}
 use Rattle.cl_edit.specs.Inner.NewTasks.{added_naming_checks, added_checks, all_checks, outpaced_by, is_below}

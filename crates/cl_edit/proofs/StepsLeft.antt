@@ -27,10 +27,10 @@ use Rattle.cl_model.proofs.PassedChecks.{chains_pass}
 use Rattle.cl_model.proofs.Refused.{unless_none, each_none}
 use Rattle.cl_model.proofs.StepFacts.{step_stands_in, step_has_name, runnable_found}
 use Rattle.cl_model.proofs.StepsApart.{one_of_name, own_step}
-use Rattle.cl_edit.specs.Changes.{without_task}
+use Rattle.cl_model.specs.Changes.{without_task}
 use Rattle.cl_edit.specs.FewListChecks.{kept_step_check, kept_steps_check}
 use Rattle.cl_edit.proofs.CheckParts.{chain_lists}
-use Rattle.cl_edit.proofs.EachFacts.{each_alike, each_moves, when_fewer, unless_not}
+use Rattle.cl_edit.proofs.EachChecked.{each_alike, each_moves, when_fewer, unless_not}
 use Rattle.cl_edit.proofs.FoundFacts.{found_known}
 use Rattle.cl_edit.proofs.NameChecks.{any_removed, only_other}
 use Rattle.cl_edit.proofs.Removals.{stood_at}

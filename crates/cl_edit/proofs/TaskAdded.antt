@@ -30,11 +30,11 @@ use Rattle.cl_model.proofs.NoRefusals.{all_none, none_in_order}
 use Rattle.cl_model.proofs.PassedChecks.{stimuli_pass, tasks_pass, deadlines_pass, chains_pass, requirements_pass}
 use Rattle.cl_model.proofs.Refused.{when_none, unless_none, each_none}
 use Rattle.cl_edit.specs.declared.edit.Edit.TheVariants.{AddTask}
-use Rattle.cl_edit.specs.Changes.{with_new_task}
+use Rattle.cl_model.specs.Changes.{with_new_task}
 use Rattle.cl_edit.specs.Edited.{with_edit}
 use Rattle.cl_edit.specs.FewListChecks.{new_task_name_check, new_runnables_check, below_new_check, new_task_checks}
 use Rattle.cl_edit.proofs.CheckParts.{name_parts, task_names_left, names_tasks_deadlines_left, chain_lists}
-use Rattle.cl_edit.proofs.EachFacts.{each_more, each_alike, each_moves, unless_true}
+use Rattle.cl_edit.proofs.EachChecked.{each_more, each_alike, each_moves, unless_true}
 use Rattle.cl_edit.proofs.NameChecks.{apart_pass, repeats_more, known_longer, index_longer}
 use Rattle.cl_edit.proofs.TaskLists.{list_any-filter}
 

@@ -28,11 +28,11 @@ use Rattle.cl_model.proofs.PassedChecks.{stimuli_pass, tasks_pass, deadlines_pas
 use Rattle.cl_model.proofs.Refused.{unless_none, each_none}
 use Rattle.cl_model.proofs.ValidTasks.{few_runnables}
 use Rattle.cl_edit.specs.declared.edit.Edit.TheVariants.{DropTask}
-use Rattle.cl_edit.specs.Changes.{without_task}
+use Rattle.cl_model.specs.Changes.{without_task}
 use Rattle.cl_edit.specs.Edited.{task_number, edit_checks, with_edit}
 use Rattle.cl_edit.specs.FewListChecks.{kept_steps_check, dropped_task_checks}
 use Rattle.cl_edit.proofs.CheckParts.{name_parts, none_of_names, chains_left}
-use Rattle.cl_edit.proofs.EachFacts.{none_of_each, each_moves, when_moves, unless_moves, when_false, when_fewer}
+use Rattle.cl_edit.proofs.EachChecked.{none_of_each, each_moves, when_moves, unless_moves, when_false, when_fewer}
 use Rattle.cl_edit.proofs.NameChecks.{apart_pass, map-remove}
 use Rattle.cl_edit.proofs.Removals.{StoodAt, stood_at, apart_removed}
 use Rattle.cl_edit.proofs.StepsLeft.{chains_without}

@@ -17,7 +17,7 @@ use Rattle.cl_model.specs.Refusals.{when, in_order, each}
 use Rattle.cl_model.specs.ValidNames.{repeats}
 use Rattle.cl_model.specs.ValidTasks.{task_key, task_check, is_outpaced_by, deadline_check}
 use Rattle.cl_model.specs.Validity.{chain_check}
-use Rattle.cl_edit.specs.Changes.{with_new_task}
+use Rattle.cl_model.specs.Changes.{with_new_task}
 use Rattle.cl_edit.specs.Edited.{task_number}
 
 -- ---- a new task, which gets the next number

@@ -11,7 +11,7 @@ ghost use Rattle.cl_model.specs.ValidNames.{repeats};
 ghost use Rattle.cl_model.specs.ValidTasks.{task_key, core_check, stimulus_check, priority_check, late_check, release_check, room_check, empty_check, task_check, spans_too_many, deadline_check};
 ghost use Rattle.cl_model.specs.Validity.{IsValid, refusals_of};
 ghost use Rattle.cl_edit.specs.declared.edit.Edit.TheVariants as edits;
-ghost use Rattle.cl_edit.specs.Changes.{with_new_task};
+ghost use Rattle.cl_model.specs.Changes.{with_new_task};
 ghost use Rattle.cl_edit.specs.Edited.{all_names, edit_checks, with_edit};
 ghost use Rattle.cl_edit.specs.FewListChecks.{new_task_name_check, new_runnables_check, below_new_check, new_task_checks};
 ghost use Rattle.cl_edit.specs.Inner.NewTasks.{added_naming_checks, added_count_check, added_checks, all_checks, outpaced_by, is_below};

@@ -14,7 +14,7 @@ use Rattle.cl_model.specs.Place.{section_place, entry_of}
 use Rattle.cl_model.specs.Refusals.{when, unless, in_order, each}
 use Rattle.cl_model.specs.Timing.{deadline_under}
 use Rattle.cl_model.specs.ValidTasks.{core_check, stimulus_check, priority_check, late_check, release_check, room_check, empty_check, body_checks, spans_too_many, is_outpaced_by, deadline_check}
-use Rattle.cl_edit.specs.Changes.{with_new_task}
+use Rattle.cl_model.specs.Changes.{with_new_task}
 use Rattle.cl_edit.specs.FewListChecks.{new_task_name_check, new_runnables_check, below_new_check}
 
 -- ---- M29 to M41

@@ -1,6 +1,6 @@
 use Rattle.std.proofs.Common.{sym, ap, ◌∙◌}
 use Rattle.cl_model.specs.declared.model.SystemModel.{SystemModel}
-use Rattle.cl_edit.proofs.FewAnswers.{task_found, task_missing}
+use Rattle.cl_edit.proofs.ListAnswers.{task_found, task_missing}
 use Rattle.cl_edit.proofs.check_lists.check_chains_of.Goals as goal
 
 -- where there is a task of the name

@@ -2,7 +2,7 @@ use Rattle.cl_model.specs.Validity.{refusals_of}
 use Rattle.cl_edit.specs.declared.edit.Edit.TheVariants.{DropTask}
 use Rattle.cl_edit.specs.Edited.{edit_checks, with_edit}
 use Rattle.cl_edit.specs.FewListChecks.{dropped_task_checks}
-use Rattle.cl_edit.proofs.FewAnswers.{passes_by_few}
+use Rattle.cl_edit.proofs.ListAnswers.{passes_by_few}
 use Rattle.cl_edit.proofs.TaskRemoval.{dropped_task_refused}
 use Rattle.cl_edit.proofs.check_lists.check_dropped_task.Goals as goal
 

@@ -4,7 +4,7 @@ use Rattle.cl_model.specs.declared.refusal.Code.TheVariants.{M44}
 use Rattle.cl_model.specs.declared.task.RunnableDef.{RunnableDef}
 use Rattle.cl_model.specs.Named.{same_name}
 use Rattle.cl_model.proofs.ListFacts.{list_any-map}
-use Rattle.cl_edit.proofs.FewAnswers.{answers_when}
+use Rattle.cl_edit.proofs.ListAnswers.{answers_when}
 use Rattle.cl_edit.proofs.check_lists.check_kept_step.Goals as goal
 
 pub returns : goal.returns

@@ -3,7 +3,7 @@ use Rattle.cl_edit.specs.declared.edit.Edit.TheVariants.{AddChain}
 use Rattle.cl_edit.specs.Edited.{edit_checks, with_edit}
 use Rattle.cl_edit.specs.FewListChecks.{new_chain_checks}
 use Rattle.cl_edit.proofs.ChainChanges.{new_chain_refused}
-use Rattle.cl_edit.proofs.FewAnswers.{passes_by_few}
+use Rattle.cl_edit.proofs.ListAnswers.{passes_by_few}
 use Rattle.cl_edit.proofs.check_lists.check_new_chain.Goals as goal
 
 pub returns : goal.returns

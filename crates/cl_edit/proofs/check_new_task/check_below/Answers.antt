@@ -2,7 +2,7 @@ use Rattle.std.proofs.Common.{◌∙◌}
 use Rattle.std.specs.Prelude.{Some}
 use Rattle.std.proofs.lemmas.Option.{slice_get_within}
 use Rattle.cl_model.specs.declared.refusal.Code.TheVariants.{M42}
-use Rattle.cl_edit.proofs.FewAnswers.{answers_when}
+use Rattle.cl_edit.proofs.ListAnswers.{answers_when}
 use Rattle.cl_edit.proofs.NewTaskChecks.{outpaced_is, kind_is}
 use Rattle.cl_edit.proofs.check_new_task.check_below.Goals as goal
 

@@ -6,7 +6,7 @@ use Rattle.cl_model.specs.Validity.{refusals_of}
 use Rattle.cl_edit.specs.declared.edit.Edit.TheVariants.{AddTask}
 use Rattle.cl_edit.specs.Edited.{edit_checks, with_edit}
 use Rattle.cl_edit.specs.FewListChecks.{new_task_checks}
-use Rattle.cl_edit.proofs.FewAnswers.{passes_by_few}
+use Rattle.cl_edit.proofs.ListAnswers.{passes_by_few}
 use Rattle.cl_edit.proofs.NewTaskChecks.{few_counted, all_is}
 use Rattle.cl_edit.proofs.TaskAdded.{new_task_refused}
 use Rattle.cl_edit.proofs.check_new_task.check_new_task.Goals as goal
