@@ -13,6 +13,7 @@ mod kinds;
 pub mod laws;
 mod limits;
 mod lines;
+mod new_deadlines;
 mod new_labels;
 mod ranges;
 mod reading;

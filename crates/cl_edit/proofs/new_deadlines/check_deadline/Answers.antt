@@ -2,7 +2,7 @@ use Rattle.std.proofs.Common.{List, subst}
 use Rattle.cl_model.specs.declared.refusal.Refusal.{Refusal}
 use Rattle.cl_model.specs.Answers.{Answers}
 use Rattle.cl_edit.proofs.NewTaskChecks.{deadline_asked}
-use Rattle.cl_edit.proofs.check_new_task.check_deadline.Goals as goal
+use Rattle.cl_edit.proofs.new_deadlines.check_deadline.Goals as goal
 
 pub returns : goal.returns
 returns c =

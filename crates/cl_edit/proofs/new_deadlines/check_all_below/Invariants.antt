@@ -1,7 +1,7 @@
 use Rattle.std.proofs.Common.{◌≡◌, drop}
 use Rattle.cl_model.specs.Refusals.{each, each_from}
 use Rattle.cl_edit.specs.FewListChecks.{below_new_check}
-use Rattle.cl_edit.proofs.check_new_task.check_all_below.Given as goal
+use Rattle.cl_edit.proofs.new_deadlines.check_all_below.Given as goal
 
 -- what is refused in all is what is refused in the rest
 abbrev pub invariant-loop-i : goal.invariant-loop-i

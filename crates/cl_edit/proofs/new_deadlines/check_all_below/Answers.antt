@@ -1,7 +1,7 @@
 use Rattle.std.proofs.lemmas.Result.{err_from_is_err_and}
 use Rattle.cl_model.proofs.FirstRefusals.{next_refused}
 use Rattle.cl_edit.specs.FewListChecks.{below_new_check}
-use Rattle.cl_edit.proofs.check_new_task.check_all_below.Goals as goal
+use Rattle.cl_edit.proofs.new_deadlines.check_all_below.Goals as goal
 
 pub returns-in_err-check_below : goal.returns-in_err-check_below
 returns-in_err-check_below c =

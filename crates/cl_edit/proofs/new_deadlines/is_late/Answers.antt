@@ -2,7 +2,7 @@ use Rattle.std.proofs.Common.{◌+◌, ◌||◌, drop, sym, ap, ◌∙◌}
 use Rattle.std.specs.List.{list_any}
 use Rattle.cl_edit.specs.Inner.NewTasks.{is_below}
 use Rattle.cl_edit.proofs.NewTaskChecks.{any_next, any_end}
-use Rattle.cl_edit.proofs.check_new_task.is_late.Goals as goal
+use Rattle.cl_edit.proofs.new_deadlines.is_late.Goals as goal
 
 pub returns-then-is_above : goal.returns-then-is_above
 returns-then-is_above c =

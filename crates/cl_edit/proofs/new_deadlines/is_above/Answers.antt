@@ -2,7 +2,7 @@ use Rattle.std.proofs.Common.{◌∙◌}
 use Rattle.std.specs.Prelude.{Some}
 use Rattle.std.proofs.lemmas.Option.{slice_get_within}
 use Rattle.cl_edit.proofs.NewTaskChecks.{outpaced_is, kind_is}
-use Rattle.cl_edit.proofs.check_new_task.is_above.Goals as goal
+use Rattle.cl_edit.proofs.new_deadlines.is_above.Goals as goal
 
 pub stimulus_of-requires : goal.stimulus_of-requires
 stimulus_of-requires c = slice_get_within c.args.model.now.tasks c.args.i c.args.task.now c.requires.task

@@ -1,7 +1,7 @@
 use Rattle.std.proofs.Common.{◌≡◌, drop}
 use Rattle.std.specs.List.{list_any}
 use Rattle.cl_edit.specs.Inner.NewTasks.{is_below}
-use Rattle.cl_edit.proofs.check_new_task.is_late.Given as goal
+use Rattle.cl_edit.proofs.new_deadlines.is_late.Given as goal
 
 -- some task is above where one of the rest is
 abbrev pub invariant-loop-i : goal.invariant-loop-i
