@@ -4,3 +4,4 @@ pub mod Kinds
 pub mod Parts
 pub mod Fields
 pub mod LineReads
+pub mod NewTasks

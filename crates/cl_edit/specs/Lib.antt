@@ -1,6 +1,6 @@
 pub mod Ranges
-pub mod Changes
 pub mod Edited
+pub mod FewListChecks
 pub mod Lines
 pub mod Reading
 pub mod Listed

@@ -44,7 +44,7 @@ pub(crate) fn found<T: Named>(entries: &[T], name: &Name) -> Result<usize, Model
 }
 
 /// The first runnable of that name.
-fn step_search(tasks: &[TaskDef], name: &Name) -> Option<Step>
+pub(crate) fn step_search(tasks: &[TaskDef], name: &Name) -> Option<Step>
     requires tasks { length tasks.now < 2 ^ 32 }
     requires runnables { All (λ task. length task.runnables < 2 ^ 32) tasks.now }
     ensures { result ≡ step_search name.now 0 tasks.now }

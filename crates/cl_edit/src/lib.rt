@@ -3,6 +3,8 @@
 
 mod apply;
 mod changes;
+mod check_lists;
+mod check_new_task;
 mod edit;
 mod edit_lines;
 mod fault;
@@ -12,6 +14,8 @@ mod kinds;
 pub mod laws;
 mod limits;
 mod lines;
+mod new_deadlines;
+mod new_labels;
 mod ranges;
 mod reading;
 mod task_line;

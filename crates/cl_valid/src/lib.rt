@@ -17,6 +17,7 @@ mod validation;
 pub use ranges::{
     in_range, is_burst_count, is_chain_in_range, is_deadline_in_range, is_task_in_range, is_time,
 };
+pub use runnables::check_runnables;
 pub use validation::validate;
 
 /// Why a model isn't taken: its first refusal, or want of memory.

@@ -196,3 +196,22 @@ pub fn check_body(
     }
     Ok(())
 }
+
+/// Checks M36 to M40 for each runnable of the task at a place, where these labels are known, and these are written
+/// already.
+pub fn check_runnables(
+    alloc: Global,
+    known: &NameSet,
+    written: NameSet,
+    place: Place,
+    task: &TaskDef,
+) -> Result<(), ModelFault>
+    requires { IsTaskInRange task.now }
+    ensures { Answers result (body_checks known.now written place task.now) tt }
+{
+    let mut uses = LabelUses {
+        written,
+        each: List::new(alloc),
+    };
+    check_body(alloc, known, &mut uses, place, task)
+}

@@ -1,0 +1,146 @@
+-- The chains of a valid model without one of its tasks: a step is missing where it is a runnable of that task, and
+-- each other step stays what it is.
+use Rattle.std.proofs.Common.{◌≡◌, ℕ, ◌+◌, ◌<◌, Bool, true, false, not, ◌⊎◌, inl, inr, List, [], ◌++◌, length, get_or, refl, sym, ap, ◌∙◌, subst, arith}
+use Rattle.std.specs.Prelude.{Option, Some, None, slice_get}
+use Rattle.std.specs.Option.{option_and_then}
+use Rattle.std.proofs.lemmas.Bool.{false_from_ne_true, or_parts, or_from, or_right}
+use Rattle.std.proofs.lemmas.List.{length-map, get_or-map, append-nil}
+use Rattle.cl_model.specs.declared.chain.ChainDef.{ChainDef}
+use Rattle.cl_model.specs.declared.group.Step.{Step}
+use Rattle.cl_model.specs.declared.model.SystemModel.{SystemModel}
+use Rattle.cl_model.specs.declared.place.Place.{Place}
+use Rattle.cl_model.specs.declared.place.Part.TheVariants as part
+use Rattle.cl_model.specs.declared.place.Key.TheVariants as key
+use Rattle.cl_model.specs.declared.refusal.Code.TheVariants.{M44, M45}
+use Rattle.cl_model.specs.declared.refusal.Refusal.{Refusal}
+use Rattle.cl_model.specs.declared.task.RunnableDef.{RunnableDef}
+use Rattle.cl_model.specs.declared.task.TaskDef.{TaskDef}
+use Rattle.cl_model.specs.ByNumber.{no_task, task_at, runnable_at, no_runnable}
+use Rattle.cl_model.specs.Groups.{step_named, IsStepOf}
+use Rattle.cl_model.specs.Named.{has_name, index_of, is_some_and, runnable_names, runnable_named, all_runnables}
+use Rattle.cl_model.specs.Place.{entry_of, at_key, at_spot}
+use Rattle.cl_model.specs.Refusals.{unless, each}
+use Rattle.cl_model.specs.Validity.{IsValid, misses_label, lengths_check, step_check, hop_check, chain_check}
+use Rattle.cl_model.proofs.NamePlaces.{known_stands}
+use Rattle.cl_model.proofs.NoRefusals.{all_none}
+use Rattle.cl_model.proofs.PassedChecks.{chains_pass}
+use Rattle.cl_model.proofs.Refused.{unless_none, each_none}
+use Rattle.cl_model.proofs.StepFacts.{step_stands_in, step_has_name, runnable_found}
+use Rattle.cl_model.proofs.StepsApart.{one_of_name, own_step}
+use Rattle.cl_model.specs.Changes.{without_task}
+use Rattle.cl_edit.specs.FewListChecks.{kept_step_check, kept_steps_check}
+use Rattle.cl_edit.proofs.CheckParts.{chain_lists}
+use Rattle.cl_edit.proofs.EachChecked.{each_alike, each_moves, when_fewer, unless_not}
+use Rattle.cl_edit.proofs.FoundFacts.{found_known}
+use Rattle.cl_edit.proofs.NameChecks.{any_removed, only_other}
+use Rattle.cl_edit.proofs.Removals.{stood_at}
+use Rattle.cl_edit.proofs.TaskLists.{name_among}
+
+-- of three lists where the middle one is left
+middle_left : (a b c : List Refusal) → a ≡ [] → c ≡ [] → a ++ (b ++ (c ++ [])) ≡ b
+middle_left a b c a_is c_is = rw (a_is, c_is) (append-nil b)
+
+module _ (model : SystemModel) (valid : IsValid model) (t : ℕ) (known : t < length model.tasks) where
+  abbrev left : SystemModel
+  left = without_task model t
+
+  -- a runnable of the changed model is one of another task of the model
+  record WasStep (name : List ℕ) : Type 0 where
+    step : Step
+    is : IsStepOf model step
+    other : step.task ≡ t → ⊥
+    same : runnable_at model step ≡ runnable_at left (step_named left name)
+    named : (runnable_at model step).name ≡ name
+
+  was_step : (name : List ℕ) → has_name name (runnable_names (all_runnables left.tasks)) ≡ true → WasStep name
+  was_step name still =
+      let now = step_named left name in
+      let is = step_stands_in left name still in
+      let was = stood_at model.tasks t now.task no_task known is.known in
+      let runnable : runnable_at model (record { task = was.at; place = now.place }) ≡ runnable_at left now
+      = ap (λ (task : TaskDef). get_or task.runnables now.place no_runnable) (sym was.same) in
+      record {
+        step = record { task = was.at; place = now.place };
+        is = record { known = was.within; place = subst (λ (task : TaskDef). now.place < length task.runnables) was.same is.place };
+        other = was.other;
+        same = runnable;
+        named = ap (λ (r : RunnableDef). r.name) runnable ∙ step_has_name left name still;
+      }
+
+  -- a name that is left isn't one of the dropped task
+  not_dropped : (name : List ℕ) → has_name name (runnable_names (all_runnables left.tasks)) ≡ true → has_name name (runnable_names (task_at model t).runnables) ≡ true → ⊥
+  not_dropped name still dropped =
+      let (p, p_lt, p_is) = known_stands name (runnable_names (task_at model t).runnables) dropped in
+      let within : p < length (task_at model t).runnables = omega (arith, p_lt, length-map (task_at model t).runnables (λ (r : RunnableDef). r.name)) in
+      let own : Step = record { task = t; place = p } in
+      let own_name : (runnable_at model own).name ≡ name = sym (get_or-map (λ (r : RunnableDef). r.name) (task_at model t).runnables p no_runnable name within) ∙ p_is in
+      let was = was_step name still in
+      was.other (ap (λ (s : Step). s.task) (one_of_name model valid was.step own was.is (record { known = known; place = within }) (was.named ∙ sym own_name)))
+
+  -- a name that is left was there
+  still_there : (name : List ℕ) → has_name name (runnable_names (all_runnables left.tasks)) ≡ true → has_name name (runnable_names (all_runnables model.tasks)) ≡ true
+  still_there name still =
+      name_among name model.tasks ∙ any_removed (λ (task : TaskDef). has_name name (runnable_names task.runnables)) model.tasks t no_task known
+      ∙ or_right _ _ (sym (name_among name left.tasks) ∙ still)
+
+  -- so a known name is left where it isn't one of the dropped task
+  left_where : (name : List ℕ) → has_name name (runnable_names (all_runnables model.tasks)) ≡ true
+      → has_name name (runnable_names (all_runnables left.tasks)) ≡ not (has_name name (runnable_names (task_at model t).runnables))
+  left_where name there =
+      elim (has_name name (runnable_names (task_at model t).runnables)) as (λ b. has_name name (runnable_names (task_at model t).runnables) ≡ b
+      → has_name name (runnable_names (all_runnables left.tasks)) ≡ not b) [
+        | true ↦ λ dropped. false_from_ne_true _ (λ still. not_dropped name still dropped)
+        | false ↦ λ kept.
+            let either = sym (any_removed (λ (task : TaskDef). has_name name (runnable_names task.runnables)) model.tasks t no_task known) ∙ sym (name_among name model.tasks) ∙ there in
+            name_among name left.tasks ∙ only_other _ _ either kept ∙ ap not kept
+      ] refl
+
+  -- what a name stands for: nothing more, or what it stood for
+  runnable_left : (name : List ℕ) → (runnable_named left name ≡ None) ⊎ (runnable_named left name ≡ runnable_named model name)
+  runnable_left name = by (index_of name (runnable_names (all_runnables left.tasks))) refl
+    where
+      by : (place : Option ℕ) → index_of name (runnable_names (all_runnables left.tasks)) ≡ place → (runnable_named left name ≡ None) ⊎ (runnable_named left name ≡ runnable_named model name)
+      by None is = inl (ap (option_and_then (slice_get (all_runnables left.tasks))) is)
+      by (Some n) is =
+          let still = found_known name (runnable_names (all_runnables left.tasks)) n is in
+          let was = was_step name still in
+          let step : step_named model name ≡ was.step = ap (step_named model) (sym was.named) ∙ own_step model valid was.step was.is in
+          inr (runnable_found left name still ∙ ap Some (sym was.same) ∙ ap (λ (s : Step). Some (runnable_at model s)) (sym step) ∙ sym (runnable_found model name (still_there name still)))
+
+  -- a step that misses no label misses none
+  fewer_missed : (name : Option (List ℕ)) (test : RunnableDef → Bool) → is_some_and (option_and_then (runnable_named model) name) test ≡ false
+      → is_some_and (option_and_then (runnable_named left) name) test ≡ false
+  fewer_missed None test none = refl
+  fewer_missed (Some name) test none =
+      elim (runnable_left name) [
+        | inl gone ↦ ap (λ r. is_some_and r test) gone
+        | inr same ↦ ap (λ r. is_some_and r test) same ∙ none
+      ]
+
+  hop_stays : (chain : ChainDef) (place : Place) (k : ℕ) (label : List ℕ) → hop_check model chain place k label ≡ [] → hop_check left chain place k label ≡ []
+  hop_stays chain place k label none =
+      when_fewer (misses_label model chain k label) (misses_label left chain k label) M45 _ _
+      (λ none.
+      let parts = or_parts _ _ none in
+      or_from _ _ (fewer_missed (slice_get chain.runnables k) (λ (writer : RunnableDef). not (has_name label writer.writes)) parts.0)
+      (fewer_missed (slice_get chain.runnables (k + 1)) (λ (reader : RunnableDef). not (has_name label reader.reads)) parts.1)) none
+
+  -- M43 to M45 of a chain
+  chain_left : (c : ℕ) (chain : ChainDef) → chain_check model c chain ≡ [] → chain_check left c chain ≡ kept_steps_check (task_at model t) c chain
+  unfolding chain_check
+  chain_left c chain none =
+      let parts = all_none (chain_lists model c chain) none in
+      let steps : Place = at_key key.Runnables (entry_of part.Chain c) in
+      let labels : Place = at_key key.Labels (entry_of part.Chain c) in
+      middle_left (lengths_check c chain) (each (step_check left steps) chain.runnables) (each (hop_check left chain labels) chain.labels) parts.0
+      (each_moves (hop_check model chain labels) (hop_check left chain labels) chain.labels (hop_stays chain labels) parts.1.1.0)
+      ∙ each_alike (step_check left steps) (kept_step_check (task_at model t) steps) chain.runnables
+      (λ k d lt.
+      let name = get_or chain.runnables k d in
+      ap (λ b. unless b M44 (at_spot k steps)) (left_where name (unless_none _ _ _ (each_none (step_check model steps) chain.runnables k d parts.1.0 lt)))
+      ∙ unless_not (has_name name (runnable_names (task_at model t).runnables)) M44 (at_spot k steps))
+
+  pub chains_without : each (chain_check left) model.chains ≡ each (kept_steps_check (task_at model t)) model.chains
+  chains_without =
+      each_alike (chain_check left) (kept_steps_check (task_at model t)) model.chains
+      (λ c d lt. chain_left c (get_or model.chains c d) (each_none (chain_check model) model.chains c d (chains_pass model valid) lt))

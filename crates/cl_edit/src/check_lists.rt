@@ -1,0 +1,359 @@
+//! Whether a task or a chain may be added to a valid model or dropped from it, by the few checks that such an edit needs.
+ghost use Rattle.std.specs.Prelude.{◌≡◌, ◌==◌, ◌<◌, ◌^◌, ◌++◌, not, length, slice_get, nat_lt, IfSome, is_some, All, Some};
+ghost use Rattle.std.specs.List.{list_any};
+ghost use Rattle.std.specs.Option.{option_copied};
+ghost use Rattle.cl_model.specs.Answers.{Answers, Passes};
+ghost use Rattle.cl_model.specs.ByNumber.{task_at};
+ghost use Rattle.cl_model.specs.Groups.{step_named, groups_at, IsStepOf};
+ghost use Rattle.cl_model.specs.Named.{same_name, has_name, is_some_and, chain_names, runnable_named};
+ghost use Rattle.cl_model.specs.Place as place;
+ghost use Rattle.cl_model.specs.Place.{section_place};
+ghost use Rattle.cl_model.specs.Ranges.{IsChainInRange};
+ghost use Rattle.cl_model.specs.Refusals.{unless, each};
+ghost use Rattle.cl_model.specs.Validity.{IsValid, step_of, misses_label, lengths_check, step_check, hop_check, chain_check, refusals_of};
+ghost use Rattle.cl_edit.specs.declared.edit.Edit.TheVariants as edits;
+ghost use Rattle.cl_edit.specs.Edited.{found, all_names, edit_checks, with_edit};
+ghost use Rattle.cl_edit.specs.FewListChecks.{new_chain_name_check, new_chain_checks, kept_chain_check, dropped_chain_checks, kept_step_check, kept_steps_check, dropped_task_checks};
+
+use crate::find::{not_found, step_search};
+use cl_model::{
+    ChainDef, Code, Key, MOST_CHAINS, ModelFault, Name, Part, Place, RequirementDef, RunnableDef,
+    Step, TaskDef, ValidModel, refuse_unless, refuse_when,
+};
+
+pub(crate) fn entry_of(section: Part, item: usize) -> Place
+    requires { item < 2 ^ 32 }
+    ensures { result ≡ place.entry_of section item }
+{
+    section.section_place().at_item(item as u32)
+}
+
+pub(crate) fn at_spot(array: Place, spot: usize) -> Place
+    requires { spot < 2 ^ 32 }
+    ensures { result ≡ place.at_spot spot array }
+{
+    array.at_spot(spot as u32)
+}
+
+pub(crate) fn contains(labels: &[Name], label: &Name) -> bool
+    ensures { result ≡ has_name label.now labels.now }
+{
+    labels.iter().any(|other| label == other)
+}
+
+/// The runnable of that name. There is none exactly where no runnable has it.
+pub(crate) fn step_named(model: &ValidModel, name: &Name) -> Option<Step>
+    ensures found { is_some result ≡ has_name name.now (all_names model.now) }
+    ensures step { IfSome result (λ step. step ≡ step_named model.now name.now) }
+    ensures within { IfSome result (IsStepOf model.now) }
+{
+    step_search(model.plain().tasks.as_slice(), name)
+}
+
+// ---- a new chain
+
+/// The runnable of that name. There is none exactly where no runnable has it.
+fn runnable_named<'a>(model: &'a ValidModel, name: &Name) -> Option<&'a RunnableDef>
+    ensures { option_copied result ≡ runnable_named model.now name.now }
+{
+    match step_named(model, name) {
+        Some(step) => Some(&model.task(step.task).runnables.as_slice()[step.place as usize]),
+        None => None,
+    }
+}
+
+/// What step k of a chain is, where it is known.
+fn step_of<'a>(model: &'a ValidModel, chain: &ChainDef, k: usize) -> Option<&'a RunnableDef>
+    ensures { option_copied result ≡ step_of model.now chain.now k }
+{
+    let name = chain.runnables.at(k)?;
+    runnable_named(model, name)
+}
+
+/// Whether a step is known and doesn't write a label.
+fn misses_write(step: Option<&RunnableDef>, label: &Name) -> bool
+    ensures { result ≡ is_some_and (option_copied step.entry) (λ writer. not (has_name label.now writer.writes)) }
+{
+    match step {
+        Some(writer) => !contains(writer.writes.as_slice(), label),
+        None => false,
+    }
+}
+
+/// Whether a step is known and doesn't read a label.
+fn misses_read(step: Option<&RunnableDef>, label: &Name) -> bool
+    ensures { result ≡ is_some_and (option_copied step.entry) (λ reader. not (has_name label.now reader.reads)) }
+{
+    match step {
+        Some(reader) => !contains(reader.reads.as_slice(), label),
+        None => false,
+    }
+}
+
+/// Whether a label isn't handed over from step k to the next one.
+fn misses_label(model: &ValidModel, chain: &ChainDef, k: usize, label: &Name) -> bool
+    requires { k < 2 ^ 32 }
+    ensures { result ≡ misses_label model.now chain.now k label.now }
+{
+    misses_write(step_of(model, chain, k), label)
+        || misses_read(step_of(model, chain, k + 1), label)
+}
+
+fn check_lengths(i: usize, chain: &ChainDef) -> Result<(), ModelFault>
+    requires item { i < 2 ^ 32 }
+    requires chain { IsChainInRange chain.now }
+    ensures { Answers result (lengths_check i chain.now) tt }
+{
+    let fits = chain.labels.len() + 1 == chain.runnables.len();
+    let place = entry_of(Part::Chain, i).at_key(Key::Labels);
+    refuse_unless(fits, Code::M43, place)
+}
+
+fn check_step(model: &ValidModel, place: Place, k: usize, name: &Name) -> Result<(), ModelFault>
+    requires { k < 2 ^ 32 }
+    ensures { Answers result (step_check model.now place k name.now) tt }
+{
+    let is_known = step_named(model, name).is_some();
+    refuse_unless(is_known, Code::M44, at_spot(place, k))
+}
+
+#[tactic(auto, using(cl_model::proofs::FirstRefusals::loop_faults))]
+fn check_steps(model: &ValidModel, place: Place, steps: &[Name]) -> Result<(), ModelFault>
+    requires { length steps.now < 2 ^ 32 }
+    ensures { Answers result (each (step_check model.now place) steps.now) tt }
+{
+    for (k, name) in steps.iter().enumerate() {
+        check_step(model, place, k, name)?;
+    }
+    Ok(())
+}
+
+fn check_hop(
+    model: &ValidModel,
+    chain: &ChainDef,
+    place: Place,
+    k: usize,
+    label: &Name,
+) -> Result<(), ModelFault>
+    requires { k < 2 ^ 32 }
+    ensures { Answers result (hop_check model.now chain.now place k label.now) tt }
+{
+    let is_missed = misses_label(model, chain, k, label);
+    refuse_when(is_missed, Code::M45, at_spot(place, k))
+}
+
+#[tactic(auto, using(cl_model::proofs::FirstRefusals::loop_faults))]
+fn check_hops(model: &ValidModel, place: Place, chain: &ChainDef) -> Result<(), ModelFault>
+    requires { length chain.now.labels < 2 ^ 32 }
+    ensures { Answers result (each (hop_check model.now chain.now place) chain.now.labels) tt }
+{
+    let labels = chain.labels.as_slice();
+    for (k, label) in labels.iter().enumerate() {
+        check_hop(model, chain, place, k, label)?;
+    }
+    Ok(())
+}
+
+/// Checks M43 to M45 for a chain of number i.
+#[tactic(auto, using(cl_model::proofs::FirstRefusals::faults), unfolding(cl_model::specs::Validity::chain_check))]
+fn check_chain(model: &ValidModel, i: usize, chain: &ChainDef) -> Result<(), ModelFault>
+    requires item { i < 2 ^ 32 }
+    requires chain { IsChainInRange chain.now }
+    ensures { Answers result (chain_check model.now i chain.now) tt }
+{
+    let place = entry_of(Part::Chain, i);
+    check_lengths(i, chain)?;
+    check_steps(
+        model,
+        place.at_key(Key::Runnables),
+        chain.runnables.as_slice(),
+    )?;
+    check_hops(model, place.at_key(Key::Labels), chain)?;
+    Ok(())
+}
+
+fn has_chain(model: &ValidModel, name: &Name) -> bool
+    ensures { result ≡ has_name name.now (chain_names model.now) }
+{
+    model.chain_named(name).is_some()
+}
+
+/// Checks M25 for a new chain.
+fn check_chain_name(model: &ValidModel, chain: &ChainDef) -> Result<(), ModelFault>
+    ensures { Answers result (new_chain_name_check model.now chain.now) tt }
+{
+    let is_taken = has_chain(model, &chain.name);
+    let place = Part::Chain.section_place().at_item(model.chains());
+    refuse_when(is_taken, Code::M25, place.at_key(Key::Name))
+}
+
+fn check_chain_room(model: &ValidModel) -> Result<(), ModelFault>
+    ensures { Answers result (unless (nat_lt (length model.now.chains) MOST_CHAINS) Code.M10 (section_place Part.Chain)) tt }
+{
+    let has_room = (model.chains() as usize) < MOST_CHAINS;
+    refuse_unless(has_room, Code::M10, Part::Chain.section_place())
+}
+
+#[tactic(auto, using(cl_model::proofs::FirstRefusals::faults), unfolding(crate::specs::Edited::edit_checks))]
+fn check_parts_of_chain(model: &ValidModel, chain: &ChainDef) -> Result<(), ModelFault>
+    requires { IsChainInRange chain.now }
+    ensures checked { Answers result (edit_checks model.now (edits.AddChain chain.now) ++ new_chain_checks model.now chain.now) tt }
+    ensures valid { IsValid model.now }
+{
+    let number = model.chains() as usize;
+    check_chain_room(model)?;
+    check_chain_name(model, chain)?;
+    check_chain(model, number, chain)?;
+    Ok(())
+}
+
+/// Whether a chain may be added: M10 where there is no room for it, and else the first refusal of the changed model. It
+/// takes no memory.
+pub(crate) fn check_new_chain(model: &ValidModel, chain: &ChainDef) -> Result<(), ModelFault>
+    requires { IsChainInRange chain.now }
+    ensures { Passes result (edit_checks model.now (edits.AddChain chain.now) ++ refusals_of (with_edit model.now (edits.AddChain chain.now))) }
+{
+    check_parts_of_chain(model, chain)
+}
+
+// ---- a dropped chain
+
+fn check_requirement(chain: &Name, i: usize, requirement: &RequirementDef) -> Result<(), ModelFault>
+    requires { i < 2 ^ 32 }
+    ensures { Answers result (kept_chain_check chain.now i requirement.now) tt }
+{
+    let place = entry_of(Part::Requirement, i).at_key(Key::Chain);
+    refuse_when(*chain == requirement.chain, Code::M46, place)
+}
+
+#[tactic(auto, using(cl_model::proofs::FirstRefusals::loop_faults))]
+fn check_requirements(chain: &Name, requirements: &[RequirementDef]) -> Result<(), ModelFault>
+    requires { length requirements.now < 2 ^ 32 }
+    ensures { Answers result (each (kept_chain_check chain.now) requirements.now) tt }
+{
+    for (i, requirement) in requirements.iter().enumerate() {
+        check_requirement(chain, i, requirement)?;
+    }
+    Ok(())
+}
+
+#[tactic(auto, using(crate::proofs::FoundFacts::finding))]
+fn check_chain_found(model: &ValidModel, chain: &Name) -> Result<(), ModelFault>
+    ensures { Answers result (found chain.now (chain_names model.now)) tt }
+{
+    match model.chain_named(chain) {
+        Some(_) => Ok(()),
+        None => Err(not_found()),
+    }
+}
+
+#[tactic(auto, using(cl_model::proofs::FirstRefusals::faults), unfolding(crate::specs::Edited::edit_checks))]
+fn check_requirements_of(model: &ValidModel, chain: &Name) -> Result<(), ModelFault>
+    ensures checked { Answers result (edit_checks model.now (edits.DropChain chain.now) ++ dropped_chain_checks model.now chain.now) tt }
+    ensures valid { IsValid model.now }
+{
+    let requirements = model.plain().requirements.as_slice();
+    check_chain_found(model, chain)?;
+    check_requirements(chain, requirements)?;
+    Ok(())
+}
+
+/// Whether a chain may be dropped: E2 where there is none of that name, and else the first refusal of the changed model.
+/// It takes no memory.
+pub(crate) fn check_dropped_chain(model: &ValidModel, chain: &Name) -> Result<(), ModelFault>
+    ensures { Passes result (edit_checks model.now (edits.DropChain chain.now) ++ refusals_of (with_edit model.now (edits.DropChain chain.now))) }
+{
+    check_requirements_of(model, chain)
+}
+
+// ---- a dropped task
+
+/// Whether a runnable has that name.
+fn has_runnable(runnables: &[RunnableDef], name: &Name) -> bool
+    ensures { result ≡ list_any (λ runnable. same_name name.now runnable.name) runnables.now }
+{
+    runnables.iter().any(|runnable| *name == runnable.name)
+}
+
+fn check_kept_step(task: &TaskDef, place: Place, k: usize, name: &Name) -> Result<(), ModelFault>
+    requires { k < 2 ^ 32 }
+    ensures { Answers result (kept_step_check task.now place k name.now) tt }
+{
+    let is_dropped = has_runnable(task.runnables.as_slice(), name);
+    refuse_when(is_dropped, Code::M44, at_spot(place, k))
+}
+
+#[tactic(auto, using(cl_model::proofs::FirstRefusals::loop_faults))]
+fn check_kept_steps(task: &TaskDef, place: Place, steps: &[Name]) -> Result<(), ModelFault>
+    requires { length steps.now < 2 ^ 32 }
+    ensures { Answers result (each (kept_step_check task.now place) steps.now) tt }
+{
+    for (k, name) in steps.iter().enumerate() {
+        check_kept_step(task, place, k, name)?;
+    }
+    Ok(())
+}
+
+/// Whether a chain passes a task.
+fn passes(model: &ValidModel, c: u32, task: u32) -> bool
+    requires { c < length model.now.chains }
+    ensures { result ≡ list_any (λ group. group.task == task) (groups_at model.now c) }
+{
+    model.groups(c).iter().any(|group| group.task == task)
+}
+
+/// Checks M44 for a chain: only one that passes the task is gone through.
+fn check_kept_chain(
+    model: &ValidModel,
+    task: u32,
+    c: usize,
+    chain: &ChainDef,
+) -> Result<(), ModelFault>
+    requires valid { IsValid model.now }
+    requires task { task < length model.now.tasks }
+    requires item { c < 2 ^ 32 }
+    requires chain { slice_get model.now.chains c ≡ Some chain.now }
+    requires range { IsChainInRange chain.now }
+    ensures { Answers result (kept_steps_check (task_at model.now task) c chain.now) tt }
+{
+    if passes(model, c as u32, task) {
+        let place = entry_of(Part::Chain, c).at_key(Key::Runnables);
+        check_kept_steps(model.task(task), place, chain.runnables.as_slice())
+    } else {
+        Ok(())
+    }
+}
+
+#[tactic(auto, using(cl_model::proofs::FirstRefusals::loop_faults))]
+fn check_kept_chains(model: &ValidModel, task: u32, chains: &[ChainDef]) -> Result<(), ModelFault>
+    requires valid { IsValid model.now }
+    requires task { task < length model.now.tasks }
+    requires chains { chains.now ≡ model.now.chains }
+    requires count { length chains.now < 2 ^ 32 }
+    requires ranges { All IsChainInRange chains.now }
+    ensures { Answers result (each (kept_steps_check (task_at model.now task)) chains.now) tt }
+{
+    for (c, chain) in chains.iter().enumerate() {
+        check_kept_chain(model, task, c, chain)?;
+    }
+    Ok(())
+}
+
+fn check_chains_of(model: &ValidModel, task: &Name) -> Result<(), ModelFault>
+    ensures checked { Answers result (edit_checks model.now (edits.DropTask task.now) ++ dropped_task_checks model.now task.now) tt }
+    ensures valid { IsValid model.now }
+{
+    let chains = model.plain().chains.as_slice();
+    match model.task_named(task) {
+        Some(number) => check_kept_chains(model, number, chains),
+        None => Err(not_found()),
+    }
+}
+
+/// Whether a task may be dropped: E2 where there is none of that name, and else the first refusal of the changed model.
+/// It takes no memory.
+pub(crate) fn check_dropped_task(model: &ValidModel, task: &Name) -> Result<(), ModelFault>
+    ensures { Passes result (edit_checks model.now (edits.DropTask task.now) ++ refusals_of (with_edit model.now (edits.DropTask task.now))) }
+{
+    check_chains_of(model, task)
+}

@@ -1,0 +1,31 @@
+//! What an edit that adds or drops a task or a chain can break in a valid model.
+ghost use Rattle.std.specs.Prelude.{◌≡◌, ℕ, List, []};
+ghost use Rattle.cl_model.specs.declared.chain.ChainDef.{ChainDef};
+ghost use Rattle.cl_model.specs.declared.model.SystemModel.{SystemModel};
+ghost use Rattle.cl_model.specs.declared.task.TaskDef.{TaskDef};
+ghost use Rattle.cl_model.specs.Validity.{IsValid, refusals_of};
+ghost use Rattle.cl_edit.specs.declared.edit.Edit.TheVariants.{AddTask, DropTask, AddChain, DropChain};
+ghost use Rattle.cl_edit.specs.Edited.{edit_checks, with_edit};
+ghost use Rattle.cl_edit.specs.FewListChecks.{new_task_checks, dropped_task_checks, new_chain_checks, dropped_chain_checks};
+
+/// A new chain is refused by the checks of its name and of its own parts alone.
+pub fn new_chains_are_checked_alone()
+    ensures { (model : SystemModel) (chain : ChainDef) → IsValid model → refusals_of (with_edit model (AddChain chain)) ≡ new_chain_checks model chain }
+{}
+
+/// A dropped chain is missed by requirements alone.
+pub fn dropped_chains_are_missed_by_requirements()
+    ensures { (model : SystemModel) (chain : List ℕ) → IsValid model → edit_checks model (DropChain chain) ≡ []
+        → refusals_of (with_edit model (DropChain chain)) ≡ dropped_chain_checks model chain }
+{}
+
+/// A dropped task is missed by the chains that name one of its runnables alone.
+pub fn dropped_tasks_are_missed_by_chains()
+    ensures { (model : SystemModel) (task : List ℕ) → IsValid model → edit_checks model (DropTask task) ≡ []
+        → refusals_of (with_edit model (DropTask task)) ≡ dropped_task_checks model task }
+{}
+
+/// A new task is refused by the checks of its names, of its own parts and of the deadlines of the tasks below it alone.
+pub fn new_tasks_are_checked_alone()
+    ensures { (model : SystemModel) (task : TaskDef) → IsValid model → refusals_of (with_edit model (AddTask task)) ≡ new_task_checks model task }
+{}

@@ -1,0 +1,164 @@
+//! The deadlines that a new task is checked against: those of the tasks below it, and its own.
+ghost use Rattle.std.specs.Prelude.{◌≡◌, ◌<◌, ◌^◌, ◌++◌, length, slice_get, Some};
+ghost use Rattle.std.specs.List.{list_any};
+ghost use Rattle.cl_model.specs.Answers.{Answers};
+ghost use Rattle.cl_model.specs.Changes.{with_new_task};
+ghost use Rattle.cl_model.specs.Named.{is_some_and, kind_named};
+ghost use Rattle.cl_model.specs.Refusals.{each};
+ghost use Rattle.cl_model.specs.Timing.{deadline_under};
+ghost use Rattle.cl_model.specs.ValidTasks.{spans_too_many, deadline_check};
+ghost use Rattle.cl_model.specs.Validity.{IsValid};
+ghost use Rattle.cl_edit.specs.FewListChecks.{below_new_check};
+ghost use Rattle.cl_edit.specs.Inner.NewTasks.{outpaced_by, is_below};
+
+use crate::check_new_task::task_key;
+use cl_model::{
+    Code, Key, MOST_DISTANCES, ModelFault, StimulusKind, TaskDef, ValidModel, refuse_when,
+};
+
+fn spans_too_many(deadline: u64, above: StimulusKind) -> bool
+    ensures { result ≡ spans_too_many deadline above }
+{
+    let limit = u128::from(MOST_DISTANCES) * u128::from(above.least_distance());
+    limit < u128::from(deadline) + u128::from(above.greatest_jitter())
+}
+
+/// Whether the deadline of a task spans too many distances of another one, where both stimuli are known.
+fn spans_distances(
+    task: &TaskDef,
+    kind: Option<StimulusKind>,
+    other_kind: Option<StimulusKind>,
+) -> bool
+    ensures { result ≡ is_some_and kind (λ kind. is_some_and other_kind (spans_too_many (deadline_under kind task.now))) }
+{
+    match kind {
+        Some(kind) => match other_kind {
+            Some(other_kind) => spans_too_many(task.deadline_under(kind), other_kind),
+            None => false,
+        },
+        None => false,
+    }
+}
+
+/// The same of one above it.
+fn is_outpaced_by(
+    task: &TaskDef,
+    kind: Option<StimulusKind>,
+    other: &TaskDef,
+    other_kind: Option<StimulusKind>,
+) -> bool
+    ensures { result ≡ outpaced_by task.now kind other.now other_kind }
+{
+    task.core == other.core
+        && task.priority < other.priority
+        && spans_distances(task, kind, other_kind)
+}
+
+/// Checks M42 for task i and a new one above it.
+fn check_below(
+    model: &ValidModel,
+    new: &TaskDef,
+    new_kind: Option<StimulusKind>,
+    i: usize,
+    task: &TaskDef,
+) -> Result<(), ModelFault>
+    requires valid { IsValid model.now }
+    requires item { i < 2 ^ 32 }
+    requires task { slice_get model.now.tasks i ≡ Some task.now }
+    requires kind { new_kind ≡ kind_named model.now new.now.stimulus }
+    ensures { Answers result (below_new_check model.now new.now i task.now) tt }
+{
+    let is_late = is_outpaced_by(task, Some(model.stimulus_of(i as u32)), new, new_kind);
+    refuse_when(is_late, Code::M42, task_key(i, Key::Deadline))
+}
+
+/// Checks M42 for the tasks below a new one.
+#[tactic(auto, using(cl_model::proofs::FirstRefusals::loop_faults))]
+fn check_all_below(
+    model: &ValidModel,
+    new: &TaskDef,
+    new_kind: Option<StimulusKind>,
+    tasks: &[TaskDef],
+) -> Result<(), ModelFault>
+    requires valid { IsValid model.now }
+    requires tasks { tasks.now ≡ model.now.tasks }
+    requires count { length tasks.now < 2 ^ 32 }
+    requires kind { new_kind ≡ kind_named model.now new.now.stimulus }
+    ensures { Answers result (each (below_new_check model.now new.now) tasks.now) tt }
+{
+    for (i, task) in tasks.iter().enumerate() {
+        check_below(model, new, new_kind, i, task)?;
+    }
+    Ok(())
+}
+
+/// Whether the deadline of a new task spans too many distances of task i, where that one is above it.
+fn is_above(
+    model: &ValidModel,
+    new: &TaskDef,
+    kind: Option<StimulusKind>,
+    i: usize,
+    task: &TaskDef,
+) -> bool
+    requires valid { IsValid model.now }
+    requires item { i < 2 ^ 32 }
+    requires task { slice_get model.now.tasks i ≡ Some task.now }
+    requires kind { kind ≡ kind_named model.now new.now.stimulus }
+    ensures { result ≡ is_below model.now new.now task.now }
+{
+    is_outpaced_by(new, kind, task, Some(model.stimulus_of(i as u32)))
+}
+
+/// Whether the deadline of a new task spans too many distances of a task above it.
+fn is_late(model: &ValidModel, new: &TaskDef, kind: Option<StimulusKind>, tasks: &[TaskDef]) -> bool
+    requires valid { IsValid model.now }
+    requires tasks { tasks.now ≡ model.now.tasks }
+    requires count { length tasks.now < 2 ^ 32 }
+    requires kind { kind ≡ kind_named model.now new.now.stimulus }
+    ensures { result ≡ list_any (is_below model.now new.now) tasks.now }
+{
+    for (i, task) in tasks.iter().enumerate() {
+        if is_above(model, new, kind, i, task) {
+            return true;
+        }
+    }
+    false
+}
+
+/// Checks M42 for a new task of number i.
+fn check_deadline(
+    model: &ValidModel,
+    task: &TaskDef,
+    kind: Option<StimulusKind>,
+    tasks: &[TaskDef],
+    i: usize,
+) -> Result<(), ModelFault>
+    requires valid { IsValid model.now }
+    requires tasks { tasks.now ≡ model.now.tasks }
+    requires item { i ≡ length model.now.tasks }
+    requires few { i < 2 ^ 32 }
+    requires kind { kind ≡ kind_named model.now task.now.stimulus }
+    ensures { Answers result (deadline_check (with_new_task model.now task.now) i task.now) tt }
+{
+    let is_late = is_late(model, task, kind, tasks);
+    refuse_when(is_late, Code::M42, task_key(i, Key::Deadline))
+}
+
+/// Checks M42 for the tasks below a new one, and then for itself.
+#[tactic(auto, using(cl_model::proofs::FirstRefusals::faults))]
+pub(crate) fn check_deadlines(
+    model: &ValidModel,
+    task: &TaskDef,
+    kind: Option<StimulusKind>,
+    tasks: &[TaskDef],
+) -> Result<(), ModelFault>
+    requires valid { IsValid model.now }
+    requires tasks { tasks.now ≡ model.now.tasks }
+    requires count { length tasks.now < 2 ^ 32 }
+    requires kind { kind ≡ kind_named model.now task.now.stimulus }
+    ensures { Answers result (each (below_new_check model.now task.now) tasks.now ++ deadline_check (with_new_task model.now task.now) (length tasks.now) task.now) tt }
+{
+    check_all_below(model, task, kind, tasks)?;
+    check_deadline(model, task, kind, tasks, tasks.len())?;
+    Ok(())
+}
