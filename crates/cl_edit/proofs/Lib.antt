@@ -18,3 +18,9 @@ pub mod BadEdits
 pub mod OneAnswer
 pub mod SomeAnswer
 pub mod EditedValid
+pub mod EachFacts
+pub mod BareModels
+pub mod TaskChecks
+pub mod TaskSetters
+pub mod OutpacedTasks
+pub mod FewAnswers

@@ -4,3 +4,4 @@ pub mod Edited
 pub mod Lines
 pub mod Reading
 pub mod Inner
+pub mod FewChecks

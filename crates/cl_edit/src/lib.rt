@@ -3,6 +3,8 @@
 
 mod apply;
 mod changes;
+mod check;
+mod check_sets;
 mod edit;
 mod fault;
 mod fields;
@@ -11,12 +13,14 @@ mod kinds;
 pub mod laws;
 mod limits;
 mod lines;
+mod pace;
 mod ranges;
 mod reading;
 mod task_line;
 mod words;
 
 pub use apply::apply_edit;
+pub use check::check_edit;
 use cl_model::ModelFault;
 pub use edit::Edit;
 pub use fault::EditsFault;
