@@ -20,7 +20,7 @@ use Rattle.cl_edit.specs.Edited.{edit_checks, with_edit, edited}
 use Rattle.cl_edit.specs.declared.edit.Edit.TheVariants.{Period, Offset, Jitter, Distances, Burst}
 use Rattle.cl_edit.specs.Inner.Kinds.{sets}
 use Rattle.cl_model.proofs.NamePlaces.{known_place, found_below, found_stands, stands_known}
-use Rattle.cl_edit.specs.Changes.{stimulus_at, with_kind}
+use Rattle.cl_model.specs.Changes.{stimulus_at, with_kind}
 use Rattle.cl_edit.specs.Edited.{found, all_names, kind_found, stimulus_number}
 use Rattle.cl_edit.specs.Inner.Steps.{step_search}
 use Rattle.cl_edit.proofs.StepFacts.{search_is}

@@ -23,7 +23,7 @@ use Rattle.cl_model.specs.Refusals.{unless}
 use Rattle.cl_edit.specs.declared.edit.Edit.{Edit}
 use Rattle.cl_edit.specs.declared.edit.Edit.TheVariants.{Range, Whole, Period, Offset, Jitter, Distances, Burst, Deadline, Swap, Move, Kind, AddTask, DropTask, AddChain, DropChain, Report}
 use Rattle.cl_edit.specs.Ranges.{IsEditInRange}
-use Rattle.cl_edit.specs.Changes.{no_stimulus_def, with_period, with_offset, with_jitter, with_distances, with_burst}
+use Rattle.cl_model.specs.Changes.{no_stimulus_def, with_period, with_offset, with_jitter, with_distances, with_burst}
 use Rattle.cl_edit.specs.Edited.{edit_checks, with_edit, task_number, chain_number, stimulus_number}
 
 -- ---- lists

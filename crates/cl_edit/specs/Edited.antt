@@ -16,7 +16,7 @@ use Rattle.cl_model.specs.Validity.{refusals_of}
 use Rattle.cl_model.specs.Kinds.{is_periodic}
 use Rattle.cl_edit.specs.declared.edit.Edit.{Edit}
 use Rattle.cl_edit.specs.declared.edit.Edit.TheVariants.{Range, Whole, Period, Offset, Jitter, Distances, Burst, Deadline, Swap, Move, Kind, AddTask, DropTask, AddChain, DropChain, Report}
-use Rattle.cl_edit.specs.Changes.{with_range, with_whole, with_kind, with_period, with_offset, with_jitter, with_distances, with_burst, with_deadline, with_swap, with_place, with_access, with_new_task, without_task, with_new_chain, without_chain}
+use Rattle.cl_model.specs.Changes.{with_range, with_whole, with_kind, with_period, with_offset, with_jitter, with_distances, with_burst, with_deadline, with_swap, with_place, with_access, with_new_task, without_task, with_new_chain, without_chain}
 
 -- ---- what an edit looks up
 

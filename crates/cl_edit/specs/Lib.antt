@@ -1,5 +1,4 @@
 pub mod Ranges
-pub mod Changes
 pub mod Edited
 pub mod Lines
 pub mod Reading

@@ -1,7 +1,7 @@
 //! Changes of a model in place, of what stands there under a number. Times are in ticks.
 ghost use Rattle.std.specs.Prelude.{◌≡◌, ◌<◌, length, Some};
 ghost use Rattle.cl_model.specs.Groups.{IsStepOf};
-ghost use Rattle.cl_edit.specs.Changes.{with_range, with_whole, with_kind, stimulus_at, with_deadline, with_priority, with_swap, with_place, with_access, with_new_task, without_task, with_new_chain, without_chain};
+ghost use Rattle.cl_model.specs.Changes.{with_range, with_whole, with_kind, stimulus_at, with_deadline, with_priority, with_swap, with_place, with_access, with_new_task, without_task, with_new_chain, without_chain};
 
 use cl_model::{AccessKind, Name, Step, StimulusKind, SystemModel};
 

@@ -1,7 +1,7 @@
 //! Kinds of stimuli with other numbers. Times are in ticks.
 ghost use Rattle.std.specs.Prelude.{◌≡◌, if◌then◌else◌, Some, None};
 ghost use Rattle.cl_model.specs.Kinds.{is_periodic};
-ghost use Rattle.cl_edit.specs.Changes.{with_period, with_offset, with_jitter, with_distances, with_burst};
+ghost use Rattle.cl_model.specs.Changes.{with_period, with_offset, with_jitter, with_distances, with_burst};
 ghost use Rattle.cl_edit.specs.Edited.{is_sporadic, is_burst, has_offset};
 ghost use Rattle.cl_edit.specs.Inner.Kinds.{sets, with_numbers};
 

@@ -16,6 +16,7 @@ pub mod ValidTasks
 pub mod Validity
 pub mod ByNumber
 pub mod Groups
+pub mod Changes
 pub mod MaximalRuns
 pub mod GroupCuts
 pub mod KnownNames
