@@ -22,5 +22,11 @@ pub mod EachFacts
 pub mod BareModels
 pub mod TaskChecks
 pub mod TaskSetters
-pub mod OutpacedTasks
 pub mod FewAnswers
+pub mod OutpacedTasks
+pub mod ChangedTasks
+pub mod PairFacts
+pub mod LimitChecks
+pub mod KindLaws
+pub mod ClashFacts
+pub mod PlaceLaws

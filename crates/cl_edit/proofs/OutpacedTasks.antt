@@ -20,7 +20,7 @@ use Rattle.cl_model.proofs.ListFacts.{both_pass, both_true}
 use Rattle.cl_model.proofs.NamePlaces.{known_named}
 use Rattle.cl_model.proofs.NamesKnown.{core_known, stimulus_known}
 use Rattle.cl_model.proofs.Refused.{when_none}
-use Rattle.cl_edit.specs.Inner.Paces.{pace_of, outpaces, is_outpaced, IsAtMost, IsOutpaced}
+use Rattle.cl_edit.specs.Inner.Paces.{pace_of, outpaces, IsPair, is_outpaced, IsAtMost, IsOutpaced}
 use Rattle.cl_edit.proofs.EachFacts.{each_nothing}
 use Rattle.cl_edit.proofs.TaskChecks.{deadline_none}
 
@@ -87,13 +87,6 @@ pub record IsKnown (model : SystemModel) : Type 0 where
 pub valid_known : (model : SystemModel) → IsValid model → IsKnown model
 valid_known model valid = record { cores = λ k. core_known model valid k no_task; stimuli = λ k. stimulus_known model valid k no_task }
 
--- one task may outpace another
-pub record IsPair (model : SystemModel) (k j : ℕ) : Type 0 where
-  pub below : k < length model.tasks
-  pub above : j < length model.tasks
-  pub core : core_of model k ≡ core_of model j
-  pub outpaces : outpaces (pace_of model k) (pace_of model j) ≡ true
-
 some_test : (o : Option StimulusKind) (test : StimulusKind → Bool) → is_some o ≡ true → is_some_and o test ≡ test (unwrap_or o no_stimulus)
 some_test None test h = absurd (false≢true h)
 some_test (Some kind) test h = refl
@@ -108,7 +101,7 @@ module _ (model : SystemModel) (known : IsKnown model) where
       (some_test (kind_named model task.stimulus) (λ kind. is_some_and (kind_named model other.stimulus) (spans_too_many (deadline_under kind task))) (known.stimuli k hk)
       ∙ some_test (kind_named model other.stimulus) (spans_too_many (deadline_of model k)) (known.stimuli j hj))
 
-  names_same : (k j : ℕ) → k < length model.tasks → j < length model.tasks → core_of model k ≡ core_of model j → (task_at model k).core ≡ (task_at model j).core
+  pub names_same : (k j : ℕ) → k < length model.tasks → j < length model.tasks → core_of model k ≡ core_of model j → (task_at model k).core ≡ (task_at model j).core
   names_same k j hk hj same =
       sym (known_named (task_at model k).core (core_names model) (known.cores k hk)) ∙ ap (λ n. get_or (core_names model) n []) same
       ∙ known_named (task_at model j).core (core_names model) (known.cores j hj)
@@ -120,19 +113,20 @@ module _ (model : SystemModel) (known : IsKnown model) where
       ((bytes_decides (task_at model k).core (task_at model j).core).1 (names_same k j pair.below pair.above pair.core))
       (asked k j pair.below pair.above ∙ pair.outpaces)
 
+  -- a task that M42 compares with another one of its core
+  pub pair_of : (k j : ℕ) → k < length model.tasks → j < length model.tasks → is_outpaced_by model (task_at model k) (task_at model j) ≡ true → (task_at model k).core ≡ (task_at model j).core → IsPair model k j
+  pair_of k j hk hj refused same = record {
+    below = hk;
+    above = hj;
+    core = ap (λ name. unwrap_or (index_of name (core_names model)) 0) same;
+    outpaces = sym (asked k j hk hj) ∙ refused;
+  }
+
   -- and one that is refused is outpaced by another one
   pub refused_pair : (k : ℕ) → k < length model.tasks → is_outpaced model k ≡ true → (j : ℕ) × IsPair model k j
   refused_pair k lt refused =
       let a = among (is_outpaced_by model (task_at model k)) (λ (other : TaskDef). same_name (task_at model k).core other.core) model.tasks no_task refused in
-      let same : (task_at model k).core ≡ (task_at model a.place).core = (bytes_decides (task_at model k).core (task_at model a.place).core).0 a.kept in (
-        a.place,
-        record {
-          below = lt;
-          above = a.within;
-          core = ap (λ name. unwrap_or (index_of name (core_names model)) 0) same;
-          outpaces = sym (asked k a.place lt a.within) ∙ a.passes;
-        },
-      )
+      (a.place, pair_of k a.place lt a.within a.passes ((bytes_decides (task_at model k).core (task_at model a.place).core).0 a.kept))
 
   -- the first that is refused answers for all
   pub first_answers : (k : ℕ) → IsOutpaced model (Some k) → ((j : ℕ) → j < length model.tasks → is_outpaced model j ≡ true → k ≤ j)

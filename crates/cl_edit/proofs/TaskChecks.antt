@@ -141,7 +141,7 @@ module _ (old new : SystemModel) (valid : IsValid old) (alike : IsAlike old new)
 abbrev pub placed : TaskDef → List ℕ × ℕ × List ℕ
 placed task = (task.core, task.priority, task.stimulus)
 
-filter-map : {X Y : Type 0} (f : X → Y) (test : Y → Bool) (xs : List X) → filter test (map f xs) ≡ map f (filter (λ x. test (f x)) xs)
+pub filter-map : {X Y : Type 0} (f : X → Y) (test : Y → Bool) (xs : List X) → filter test (map f xs) ≡ map f (filter (λ x. test (f x)) xs)
 filter-map f test [] = refl
 filter-map f test (x ∷ xs) =
     elim (test (f x)) as (λ b. cond b (f x ∷ filter test (map f xs)) (filter test (map f xs)) ≡ map f (cond b (x ∷ filter (λ y. test (f y)) xs) (filter (λ y. test (f y)) xs))) [

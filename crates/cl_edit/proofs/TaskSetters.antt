@@ -20,7 +20,7 @@ use Rattle.cl_model.specs.ValidNames.{stimulus_checks}
 use Rattle.cl_model.specs.ValidTasks.{task_key, times_check, late_check, release_check, is_outpaced_by, deadline_check, deadline_checks}
 use Rattle.cl_model.specs.Validity.{IsValid, refusals_of}
 use Rattle.cl_model.proofs.Refused.{each_none}
-use Rattle.cl_edit.specs.Changes.{with_range, with_whole, with_task, with_deadline, with_access}
+use Rattle.cl_model.specs.Changes.{with_range, with_whole, with_task, with_deadline, with_access}
 use Rattle.cl_edit.specs.FewChecks.{range_refusals, deadline_refusals}
 use Rattle.cl_edit.proofs.EachFacts.{each_nothing, each_only}
 use Rattle.cl_edit.proofs.BareModels.{bare_runnable, bare_task, IsAlike}
@@ -55,24 +55,31 @@ module _ (model : SystemModel) (valid : IsValid model) (i : ℕ) (within : i < l
       ∙ timing_parts (late_check (kind_named model (task_at model k).stimulus) k (task_at model k)) (release_check (kind_named model (task_at model k).stimulus) k (task_at model k))
       (times_checks k (task_at model k)) passes.late passes.release passes.times
 
-  -- the task that is set alone is checked, for its times and its deadline
-  pub task_set : bare_task task ≡ bare_task (task_at model i) → placed task ≡ placed (task_at model i) → refusals_of (with_task model i task) ≡ timing_check model i task ++ deadline_check model i task
+  -- the task that is set alone is checked for its times, and all for their deadlines
+  pub task_times : bare_task task ≡ bare_task (task_at model i) → placed task ≡ placed (task_at model i)
+      → refusals_of (with_task model i task) ≡ timing_check model i task ++ deadline_checks (with_task model i task)
   unfolding stimulus_checks
+  task_times bare own =
+      let new : SystemModel = with_task model i task in
+      let long : i < length new.tasks = omega (arith, within, length-set model.tasks i task) in
+      times_left_of model new valid (task_alike bare) (map_set_same placed model.tasks i task no_task own)
+      ∙ ap (λ stimuli. stimuli ++ (each (timing_check new) new.tasks ++ deadline_checks new)) (stimuli_pass model valid)
+      ∙ ap (λ tasks. tasks ++ deadline_checks new) (each_only (timing_check new) new.tasks i no_task long other_stays ∙ ap (timing_check model i) (get_or-set_same model.tasks i task no_task within))
+
+  -- and for its deadline
+  pub task_set : bare_task task ≡ bare_task (task_at model i) → placed task ≡ placed (task_at model i) → refusals_of (with_task model i task) ≡ timing_check model i task ++ deadline_check model i task
   task_set bare own =
       let new : SystemModel = with_task model i task in
       let same : map placed new.tasks ≡ map placed model.tasks = map_set_same placed model.tasks i task no_task own in
       let long : i < length new.tasks = omega (arith, within, length-set model.tasks i task) in
-      let here : get_or new.tasks i no_task ≡ task = get_or-set_same model.tasks i task no_task within in
-      times_left_of model new valid (task_alike bare) same
-      ∙ ap (λ stimuli. stimuli ++ (each (timing_check new) new.tasks ++ deadline_checks new)) (stimuli_pass model valid)
-      ∙ ap (λ tasks. tasks ++ deadline_checks new) (each_only (timing_check new) new.tasks i no_task long other_stays ∙ ap (timing_check model i) here)
+      task_times bare own
       ∙ ap (λ deadlines. timing_check model i task ++ deadlines)
       (each_only (deadline_check new) new.tasks i no_task long
       (λ k lt apart.
       ap (deadline_check new k) (get_or-set_other model.tasks i k task no_task apart)
       ∙ ap (λ b. when b M42 (task_key k key.Deadline)) (outpaced_same model (task_at model k) (tasks_on (task_at model k).core new.tasks) (tasks_on (task_at model k).core model.tasks) (on_core_same (task_at model k).core new.tasks model.tasks same))
       ∙ deadline_none model valid k (omega (arith, lt, length-set model.tasks i task)))
-      ∙ ap (deadline_check new i) here
+      ∙ ap (deadline_check new i) (get_or-set_same model.tasks i task no_task within)
       ∙ ap (λ b. when b M42 (task_key i key.Deadline)) (outpaced_same model task (tasks_on task.core new.tasks) (tasks_on task.core model.tasks) (on_core_same task.core new.tasks model.tasks same)))
 
 none_left : (late release times deadline : List Refusal) → late ≡ [] → release ≡ [] → times ≡ [] → deadline ≡ [] → in_order (late ∷ release ∷ times ∷ []) ++ deadline ≡ []

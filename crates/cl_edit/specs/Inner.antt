@@ -2,6 +2,7 @@
 pub mod Steps
 pub mod Kinds
 pub mod Paces
+pub mod Clashes
 pub mod Parts
 pub mod Fields
 pub mod LineReads

@@ -6,20 +6,21 @@ ghost use Rattle.cl_edit.specs.Edited.{edit_checks, with_edit};
 ghost use Rattle.cl_edit.specs.Ranges.{IsEditInRange};
 
 use crate::apply::apply_edit;
-use crate::check_sets::{check_access, check_range, check_whole};
+use crate::check_sets::{
+    check_access, check_deadline, check_range, check_stimulus, check_swap, check_whole,
+};
 use crate::edit::Edit;
 use cl_model::{ModelFault, ValidModel};
 use std::alloc::Global;
 
 /// Whether the changed model is valid, asked of a changed copy.
+#[tactic(auto, using(crate::proofs::FewAnswers::copies))]
 fn check_copy(alloc: Global, model: &ValidModel, edit: &Edit) -> Result<(), ModelFault>
     requires { IsEditInRange edit.now }
     ensures { Passes result (edit_checks model.now edit.now ++ refusals_of (with_edit model.now edit.now)) }
 {
-    match apply_edit(alloc, model, edit) {
-        Ok(_) => Ok(()),
-        Err(fault) => Err(fault),
-    }
+    let _changed = apply_edit(alloc, model, edit)?;
+    Ok(())
 }
 
 /// Whether an edit may be made of a valid model, which stands. It is refused exactly where `apply_edit` refuses it, and
@@ -36,6 +37,13 @@ pub fn check_edit(alloc: Global, model: &ValidModel, edit: &Edit) -> Result<(), 
             greatest,
         } => check_range(model, runnable, *least, *greatest),
         Edit::Whole { runnable, whole } => check_whole(model, runnable, *whole),
+        Edit::Period { stimulus, .. } => check_stimulus(model, stimulus, edit),
+        Edit::Offset { stimulus, .. } => check_stimulus(model, stimulus, edit),
+        Edit::Jitter { stimulus, .. } => check_stimulus(model, stimulus, edit),
+        Edit::Distances { stimulus, .. } => check_stimulus(model, stimulus, edit),
+        Edit::Burst { stimulus, .. } => check_stimulus(model, stimulus, edit),
+        Edit::Deadline { task, deadline } => check_deadline(model, task, *deadline),
+        Edit::Swap { one, other } => check_swap(model, one, other),
         Edit::Kind { task, access } => check_access(model, task, *access),
         _ => check_copy(alloc, model, edit),
     }

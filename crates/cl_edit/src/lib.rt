@@ -5,6 +5,7 @@ mod apply;
 mod changes;
 mod check;
 mod check_sets;
+mod clash;
 mod edit;
 mod fault;
 mod fields;
