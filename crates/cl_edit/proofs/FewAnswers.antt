@@ -140,35 +140,35 @@ none_if : (b : Bool) (y : StimulusKind) → None ≡ cond b (Some y) None → b 
 none_if true y e = absurd cc
 none_if false y e = refl
 
-module _ (model : SystemModel) (name : List ℕ) (edit : Edit) (stimuli : List StimulusDef) (s : ℕ) (it : StimulusDef) (all : stimuli ≡ model.stimuli)
-    (at : index_of name (map (λ (x : StimulusDef). x.name) stimuli) ≡ Some s) (is : it ≡ get_or stimuli s it) where
+any_default : (xs : List StimulusDef) (i : ℕ) (d e : StimulusDef) → i < length xs → get_or xs i d ≡ get_or xs i e
+any_default [] i d e lt = absurd (omega arith)
+any_default (x ∷ xs) zero d e lt = refl
+any_default (x ∷ xs) (suc i) d e lt = any_default xs i d e (omega arith)
+
+module _ (model : SystemModel) (name : List ℕ) (edit : Edit) (stimuli : List StimulusDef) (s : ℕ) (d : StimulusDef) (all : stimuli ≡ model.stimuli)
+    (at : index_of name (map (λ (x : StimulusDef). x.name) stimuli) ≡ Some s) where
   within : s < length stimuli
   within = omega (arith, found_below name (map (λ (x : StimulusDef). x.name) stimuli) s at, length-map stimuli (λ (x : StimulusDef). x.name))
 
-  here : it ≡ stimulus_at model s
-  here = is ∙ ap (λ l. get_or l s it) all ∙ any_default model.stimuli s it no_stimulus_def (subst (λ (l : List StimulusDef). s < length l) all within)
-    where
-      any_default : (xs : List StimulusDef) (i : ℕ) (d e : StimulusDef) → i < length xs → get_or xs i d ≡ get_or xs i e
-      any_default [] i d e lt = absurd (omega arith)
-      any_default (x ∷ xs) zero d e lt = refl
-      any_default (x ∷ xs) (suc i) d e lt = any_default xs i d e (omega arith)
+  here : get_or stimuli s d ≡ stimulus_at model s
+  here = ap (λ l. get_or l s d) all ∙ any_default model.stimuli s d no_stimulus_def (subst (λ (l : List StimulusDef). s < length l) all within)
 
   named : index_of name (stimulus_names model) ≡ Some s
   named = ap (λ l. index_of name (map (λ (x : StimulusDef). x.name) l)) (sym all) ∙ at
 
   -- the edit sets the stimulus
-  pub stimulus_set : IsValid model → (kind : StimulusKind) (result : Result (Unit {0}) ModelFault) → Some kind ≡ cond (sets edit it.kind) (Some (with_numbers edit it.kind)) None
+  pub stimulus_set : IsValid model → (kind : StimulusKind) (result : Result (Unit {0}) ModelFault) → Some kind ≡ cond (sets edit (get_or stimuli s d).kind) (Some (with_numbers edit (get_or stimuli s d).kind)) None
       → Passes result (number_refusals s kind ++ (all_limits_on model (change.Kind s kind) s ++ deadline_checks (with_kind model s (λ _. kind)))) → Passes result (by_numbers model name edit)
   stimulus_set valid kind result chosen passes =
-      let parts = some_if (sets edit it.kind) kind (with_numbers edit it.kind) chosen in
+      let parts = some_if (sets edit (get_or stimuli s d).kind) kind (with_numbers edit (get_or stimuli s d).kind) chosen in
       kind_passes_all model valid name s (with_numbers edit) kind (sets edit) result named (ap (λ (x : StimulusDef). sets edit x.kind) (sym here) ∙ parts.0)
       (parts.1 ∙ ap (λ (x : StimulusDef). with_numbers edit x.kind) here) (subst (λ (l : List StimulusDef). s < length l) all within) passes
 
   -- it doesn't set this kind
-  pub stimulus_unset : (fault : ModelFault) (place : Place) → None ≡ cond (sets edit it.kind) (Some (with_numbers edit it.kind)) None → fault ≡ Refused (record { code = E3; place = place }) → place ≡ top
+  pub stimulus_unset : (fault : ModelFault) (place : Place) → None ≡ cond (sets edit (get_or stimuli s d).kind) (Some (with_numbers edit (get_or stimuli s d).kind)) None → fault ≡ Refused (record { code = E3; place = place }) → place ≡ top
       → IsFaultOf (by_numbers model name edit) fault
   stimulus_unset fault place chosen is_fault at_top =
-      let fails = kind_fails model name s (sets edit) named (ap (λ (x : StimulusDef). sets edit x.kind) (sym here) ∙ none_if (sets edit it.kind) (with_numbers edit it.kind) chosen) in
+      let fails = kind_fails model name s (sets edit) named (ap (λ (x : StimulusDef). sets edit x.kind) (sym here) ∙ none_if (sets edit (get_or stimuli s d).kind) (with_numbers edit (get_or stimuli s d).kind) chosen) in
       let same : fault ≡ Refused (record { code = E3; place = top }) = is_fault ∙ ap (λ p. Refused (let r : Refusal = record { code = E3; place = p } in r)) at_top in
       subst (λ (f : ModelFault). IsFaultOf (by_numbers model name edit) f) (sym same)
       (first_with_more (kind_found (kind_named model name) (sets edit)) (refusals_of (with_kind model (stimulus_number model name) (with_numbers edit))) (record { code = E3; place = top }) fails)
