@@ -1,8 +1,7 @@
 -- Models whose tasks differ only in what an edit of a task or a runnable sets: what names and labels are checked for
 -- stays.
 use Rattle.std.proofs.Common.{◌≡◌, ℕ, ◌<◌, Bool, false, not, ◌||◌, ◌+◌, List, [], ◌∷◌, ◌++◌, length, take, map, get_or, refl, sym, ap, ◌∙◌, arith}
-use Rattle.std.specs.Prelude.{Option, Some, None, is_some, slice_get}
-use Rattle.std.specs.List.{flat_map, list_any}
+use Rattle.std.specs.Prelude.{Option, Some, None, slice_get}
 use Rattle.std.specs.Option.{option_map, option_and_then}
 use Rattle.std.proofs.lemmas.List.{map-append, take-map, length-map, get_or-map}
 use Rattle.std.proofs.lemmas.Option.{slice_get-map}
@@ -10,17 +9,14 @@ use Rattle.cl_model.specs.declared.model.SystemModel.{SystemModel}
 use Rattle.cl_model.specs.declared.chain.ChainDef.{ChainDef}
 use Rattle.cl_model.specs.declared.chain.RequirementDef.{RequirementDef}
 use Rattle.cl_model.specs.declared.refusal.Refusal.{Refusal}
-use Rattle.cl_model.specs.declared.stimulus.StimulusKind.{StimulusKind}
-use Rattle.cl_model.specs.declared.stimulus.StimulusDef.{StimulusDef}
 use Rattle.cl_model.specs.declared.task.AccessKind.TheVariants.{Explicit}
 use Rattle.cl_model.specs.declared.task.RunnableDef.{RunnableDef}
 use Rattle.cl_model.specs.declared.task.TaskDef.{TaskDef}
-use Rattle.cl_model.specs.declared.place.Place.{Place}
 use Rattle.cl_model.specs.declared.place.Part.TheVariants as part
 use Rattle.cl_model.specs.declared.place.Key.TheVariants as key
 use Rattle.cl_model.specs.declared.refusal.Code.TheVariants.{M20, M21, M22, M23, M24, M25, M26, M44, M45, M46}
 use Rattle.cl_model.specs.ByNumber.{no_task, no_chain}
-use Rattle.cl_model.specs.Named.{has_name, index_of, is_some_and, core_names, stimulus_names, label_names, task_names, chain_names, requirement_names, runnable_names, all_runnables, runnable_named, labels_written, kind_named}
+use Rattle.cl_model.specs.Named.{has_name, index_of, is_some_and, core_names, stimulus_names, label_names, task_names, chain_names, requirement_names, runnable_names, all_runnables, runnable_named, labels_written}
 use Rattle.cl_model.specs.Place.{entry_of, at_key, at_sub, at_spot}
 use Rattle.cl_model.specs.Refusals.{when, unless, in_order, each}
 use Rattle.cl_model.specs.ValidNames.{section_repeats, repeats, runnable_repeats, name_checks}

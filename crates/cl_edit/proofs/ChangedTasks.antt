@@ -1,5 +1,5 @@
 -- What the tasks are after a change of when they run.
-use Rattle.std.proofs.Common.{◌≡◌, ℕ, zero, suc, ◌<◌, ◌≤◌, Bool, true, false, cond, List, [], ◌∷◌, length, map, get_or, set, refl, sym, ap, ◌∙◌, arith, nat_eq, nat_lt, inl, inr}
+use Rattle.std.proofs.Common.{◌≡◌, ℕ, ◌<◌, Bool, true, false, cond, List, length, map, get_or, set, refl, sym, ap, ◌∙◌, arith}
 use Rattle.std.specs.Prelude.{Option, Some, None, is_some, unwrap_or, slice_get, ◌==◌}
 use Rattle.std.specs.Option.{option_map, option_and_then}
 use Rattle.std.specs.Cmp.Lexicographic.{bytes_decides}
@@ -9,12 +9,10 @@ use Rattle.std.proofs.lemmas.Option.{slice_get-get_or}
 use Rattle.cl_model.specs.declared.model.SystemModel.{SystemModel}
 use Rattle.cl_model.specs.declared.stimulus.StimulusDef.{StimulusDef}
 use Rattle.cl_model.specs.declared.stimulus.StimulusKind.{StimulusKind}
-use Rattle.cl_model.specs.declared.task.TaskDef.{TaskDef}
 use Rattle.cl_model.specs.ByNumber.{no_stimulus, no_task, task_at, stimulus_of}
-use Rattle.cl_model.specs.Changes.{no_stimulus_def, stimulus_at, with_kind, with_task, with_priority, with_swap}
-use Rattle.cl_model.specs.Named.{same_name, has_name, index_of, stimulus_names, kind_named}
+use Rattle.cl_model.specs.Changes.{no_stimulus_def, stimulus_at, with_kind}
+use Rattle.cl_model.specs.Named.{index_of, stimulus_names, kind_named}
 use Rattle.cl_model.specs.Validity.{IsValid}
-use Rattle.cl_model.specs.ValidNames.{name_checks}
 use Rattle.cl_model.proofs.NamePlaces.{found_below, own_entry, entry_found}
 use Rattle.cl_model.proofs.NamesApart.{stimuli_apart}
 use Rattle.cl_model.proofs.NamesKnown.{stimulus_known}

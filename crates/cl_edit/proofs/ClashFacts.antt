@@ -1,23 +1,22 @@
 -- Tasks of one core that have one priority after a change, and the first that M31 refuses.
-use Rattle.std.proofs.Common.{◌≡◌, ◌≢◌, ℕ, zero, suc, ◌+◌, ◌<◌, ◌≤◌, Bool, true, false, cond, ◌&&◌, ◌||◌, not, List, [], ◌∷◌, length, get_or, take, refl, sym, ap, ◌∙◌, subst, arith, nat_eq, nat_lt, inl, inr}
+use Rattle.std.proofs.Common.{◌≡◌, ◌≢◌, ℕ, ◌+◌, ◌<◌, ◌≤◌, Bool, true, false, cond, ◌&&◌, ◌||◌, not, List, [], length, get_or, take, refl, sym, ap, ◌∙◌, subst, arith, nat_eq, nat_lt, inl, inr}
 use Rattle.std.specs.Prelude.{Option, Some, None, unwrap_or, ◌==◌}
 use Rattle.std.specs.Cmp.Lexicographic.{bytes_decides}
-use Rattle.std.proofs.lemmas.Bool.{eqb-true, eqb-false, eq-eqb, ltb-true, ltb-false, lt-ltb, false≢true, false_from_ne_true, cases_order}
+use Rattle.std.proofs.lemmas.Bool.{eqb-true, eqb-false, eq-eqb, ltb-true, ltb-false, lt-ltb, false_from_ne_true}
 use Rattle.std.proofs.lemmas.List.{get_or-take, length-take-le}
 use Rattle.cl_model.specs.declared.model.SystemModel.{SystemModel}
 use Rattle.cl_model.specs.declared.place.Key.TheVariants as key
 use Rattle.cl_model.specs.declared.refusal.Code.TheVariants.{M31}
-use Rattle.cl_model.specs.declared.refusal.Refusal.{Refusal}
 use Rattle.cl_model.specs.declared.task.TaskDef.{TaskDef}
 use Rattle.cl_model.specs.ByNumber.{no_task, task_at, core_of, tasks_of_core}
 use Rattle.cl_model.specs.Named.{same_name, index_of, core_names, tasks_on}
-use Rattle.cl_model.specs.Refusals.{when, each, first}
+use Rattle.cl_model.specs.Refusals.{when, first}
 use Rattle.cl_model.specs.ValidTasks.{task_key, priority_check}
 use Rattle.cl_model.specs.Validity.{IsValid}
 use Rattle.cl_model.proofs.CoreTasks.{priorities_differ}
 use Rattle.cl_edit.specs.declared.pace.Change.{Change}
 use Rattle.cl_edit.specs.declared.pace.Change.TheVariants as change
-use Rattle.cl_edit.specs.Inner.Paces.{with_change, IsChangeOf, is_touched, core_after, priority_after, pace_after, pace_of, noted, IsAtMost, HasOthers}
+use Rattle.cl_edit.specs.Inner.Paces.{with_change, IsChangeOf, is_touched, core_after, priority_after, noted, IsAtMost, HasOthers}
 use Rattle.cl_edit.specs.declared.pace.Pace.{Pace}
 use Rattle.cl_edit.specs.Inner.Clashes.{is_clashing, clash_checks, IsClash, IsClashing, HasMet}
 use Rattle.cl_edit.proofs.EachFacts.{each_nothing}

@@ -2,13 +2,11 @@
 use Rattle.std.proofs.Common.{◌≡◌, ℕ, zero, suc, ◌<◌, ◌∙◌, Bool, true, false, cond, map, get_or, List, [], ◌∷◌, ◌++◌, length, refl, sym, ap, subst, arith}
 use Rattle.std.specs.Prelude.{Result, Ok, Err, Option, Some, None, unwrap_or}
 use Rattle.std.proofs.lemmas.List.{length-map}
-use Rattle.cl_model.specs.declared.group.Step.{Step}
 use Rattle.cl_model.specs.declared.model.SystemModel.{SystemModel}
 use Rattle.cl_model.specs.declared.model_fault.ModelFault.{ModelFault}
 use Rattle.cl_model.specs.declared.model_fault.ModelFault.TheVariants.{Refused, NoMemory}
 use Rattle.cl_model.specs.declared.refusal.Code.TheVariants.{E2, E3}
 use Rattle.cl_model.specs.declared.refusal.Refusal.{Refusal}
-use Rattle.cl_model.specs.declared.task.AccessKind.{AccessKind}
 use Rattle.cl_model.specs.declared.task.TaskDef.{TaskDef}
 use Rattle.cl_model.specs.Answers.{Answers, Passes, Gives, IsFaultOf}
 use Rattle.cl_model.specs.Groups.{step_named, IsStepOf}

@@ -1,20 +1,19 @@
 -- The few checks of another kind of a stimulus.
-use Rattle.std.proofs.Common.{◌≡◌, ℕ, ◌<◌, Bool, true, false, cond, ◌&&◌, ◌||◌, List, [], ◌∷◌, ◌++◌, length, get_or, refl, sym, ap, ◌∙◌, arith, nat_lt}
-use Rattle.std.specs.Prelude.{Option, Some, unwrap_or, nat_le, filter}
+use Rattle.std.proofs.Common.{◌≡◌, ℕ, ◌<◌, Bool, true, false, cond, ◌&&◌, ◌||◌, List, [], ◌∷◌, ◌++◌, length, refl, sym, ap, ◌∙◌, nat_lt}
+use Rattle.std.specs.Prelude.{Some, unwrap_or, nat_le}
 use Rattle.std.specs.List.{list_any}
 use Rattle.std.specs.Cmp.Lexicographic.{bytes_decides}
 use Rattle.std.proofs.lemmas.List.{append-nil}
-use Rattle.std.proofs.lemmas.Bool.{false≢true}
 use Rattle.cl_model.specs.declared.model.SystemModel.{SystemModel}
 use Rattle.cl_model.specs.declared.place.Key.TheVariants as key
 use Rattle.cl_model.specs.declared.refusal.Code.TheVariants.{M32, M33, M42}
 use Rattle.cl_model.specs.declared.refusal.Refusal.{Refusal}
 use Rattle.cl_model.specs.declared.stimulus.StimulusKind.{StimulusKind}
 use Rattle.cl_model.specs.declared.task.TaskDef.{TaskDef}
-use Rattle.cl_model.specs.ByNumber.{no_task, task_at, core_of, stimulus_of}
+use Rattle.cl_model.specs.ByNumber.{no_task, task_at, stimulus_of}
 use Rattle.cl_model.specs.Changes.{with_kind}
 use Rattle.cl_model.specs.Named.{same_name, tasks_on}
-use Rattle.cl_model.specs.Refusals.{when, in_order, each}
+use Rattle.cl_model.specs.Refusals.{when, in_order}
 use Rattle.cl_model.specs.Timing.{least_distance, greatest_jitter}
 use Rattle.cl_model.specs.ValidTasks.{task_key, late_check, release_check, is_outpaced_by, deadline_check, deadline_checks}
 use Rattle.cl_model.specs.Validity.{IsValid, refusals_of}
@@ -22,7 +21,7 @@ use Rattle.cl_model.proofs.ListFacts.{same_tests}
 use Rattle.cl_edit.specs.declared.pace.Change.{Change}
 use Rattle.cl_edit.specs.declared.pace.Change.TheVariants as change
 use Rattle.cl_edit.specs.FewChecks.{names_stimulus, number_refusals, limit_refusals, kind_deadline_refusals, kind_refusals}
-use Rattle.cl_edit.specs.Inner.Paces.{is_on, is_touched, IsPair, is_outpaced, pace_after, limit_checks, limits_on, all_limits_on}
+use Rattle.cl_edit.specs.Inner.Paces.{is_on, IsPair, is_outpaced, pace_after, limit_checks, limits_on, all_limits_on}
 use Rattle.cl_edit.proofs.EachFacts.{each_alike}
 use Rattle.cl_edit.proofs.LimitChecks.{kind_left}
 use Rattle.cl_edit.proofs.OutpacedTasks.{any_among, among, pair_of}

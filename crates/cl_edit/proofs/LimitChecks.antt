@@ -1,8 +1,8 @@
 -- Deadlines against distances and jitters after a change of when tasks run, and what is left to check of another deadline
 -- and of another kind of a stimulus.
-use Rattle.std.proofs.Common.{◌≡◌, ℕ, zero, suc, ◌+◌, ◌<◌, ◌≤◌, Bool, true, false, cond, List, [], ◌∷◌, ◌++◌, length, map, drop, get_or, set, refl, sym, ap, ◌∙◌, arith, nat_lt}
-use Rattle.std.specs.Prelude.{Option, Some, unwrap_or, nat_le, if◌then◌else◌}
-use Rattle.std.proofs.lemmas.List.{append-nil, length-set, get_or-set_same, get_or-set_other}
+use Rattle.std.proofs.Common.{◌≡◌, ℕ, zero, suc, ◌+◌, ◌<◌, ◌≤◌, true, false, cond, List, [], ◌∷◌, ◌++◌, length, drop, get_or, set, refl, sym, ap, ◌∙◌, arith, nat_lt}
+use Rattle.std.specs.Prelude.{Option, Some, unwrap_or, nat_le}
+use Rattle.std.proofs.lemmas.List.{length-set, get_or-set_same, get_or-set_other}
 use Rattle.cl_model.specs.declared.model.SystemModel.{SystemModel}
 use Rattle.cl_model.specs.declared.place.Key.TheVariants as key
 use Rattle.cl_model.specs.declared.refusal.Code.TheVariants.{M32, M33}
@@ -26,7 +26,7 @@ use Rattle.cl_model.proofs.Refused.{each_none}
 use Rattle.cl_edit.specs.declared.pace.Change.{Change}
 use Rattle.cl_edit.specs.declared.pace.Change.TheVariants as change
 use Rattle.cl_edit.specs.FewChecks.{number_refusals}
-use Rattle.cl_edit.specs.Inner.Paces.{with_change, IsChangeOf, is_on, kind_after, given_after, pace_after, limit_checks, limits_on, all_limits_on}
+use Rattle.cl_edit.specs.Inner.Paces.{with_change, IsChangeOf, is_on, kind_after, pace_after, limit_checks, limits_on, all_limits_on}
 use Rattle.cl_edit.proofs.EachFacts.{each_alike, each_only}
 use Rattle.cl_edit.proofs.BareModels.{IsAlike}
 use Rattle.cl_edit.proofs.TaskChecks.{times_checks, timing_check, task_passes, stimuli_pass, times_left_of}

@@ -1,26 +1,25 @@
 -- The tasks that others of their core outpace, by number.
-use Rattle.std.proofs.Common.{◌≡◌, ℕ, zero, suc, ◌+◌, ◌<◌, ◌≤◌, Bool, true, false, cond, ◌&&◌, ◌||◌, List, [], ◌∷◌, ◌++◌, length, get_or, refl, sym, ap, ◌∙◌, arith, inl, inr, nat_lt}
-use Rattle.std.specs.Prelude.{Option, Some, None, is_some, unwrap_or, filter, ◌==◌}
+use Rattle.std.proofs.Common.{◌≡◌, ℕ, zero, suc, ◌+◌, ◌<◌, ◌≤◌, Bool, true, false, cond, ◌&&◌, ◌||◌, List, [], ◌∷◌, ◌++◌, length, get_or, refl, sym, ap, ◌∙◌, arith, nat_lt}
+use Rattle.std.specs.Prelude.{Option, Some, None, is_some, unwrap_or, filter}
 use Rattle.std.specs.List.{list_any}
 use Rattle.std.specs.Cmp.Lexicographic.{bytes_decides}
-use Rattle.std.proofs.lemmas.Bool.{cases_order, cond-true, cond_both, or_right, false≢true, false_from_ne_true}
+use Rattle.std.proofs.lemmas.Bool.{cond-true, cond_both, or_right, false≢true, false_from_ne_true}
 use Rattle.cl_model.specs.declared.model.SystemModel.{SystemModel}
 use Rattle.cl_model.specs.declared.place.Key.TheVariants as key
 use Rattle.cl_model.specs.declared.refusal.Code.TheVariants.{M42}
 use Rattle.cl_model.specs.declared.refusal.Refusal.{Refusal}
 use Rattle.cl_model.specs.declared.stimulus.StimulusKind.{StimulusKind}
 use Rattle.cl_model.specs.declared.task.TaskDef.{TaskDef}
-use Rattle.cl_model.specs.ByNumber.{no_stimulus, no_task, task_at, core_of, stimulus_of, deadline_of}
-use Rattle.cl_model.specs.Named.{same_name, has_name, index_of, is_some_and, core_names, kind_named, tasks_on}
+use Rattle.cl_model.specs.ByNumber.{no_stimulus, no_task, task_at, core_of, deadline_of}
+use Rattle.cl_model.specs.Named.{same_name, has_name, index_of, is_some_and, core_names, kind_named}
 use Rattle.cl_model.specs.Refusals.{when, each_from, each, first}
 use Rattle.cl_model.specs.Timing.{deadline_under}
 use Rattle.cl_model.specs.ValidTasks.{task_key, spans_too_many, is_outpaced_by, deadline_check, deadline_checks}
 use Rattle.cl_model.specs.Validity.{IsValid}
-use Rattle.cl_model.proofs.ListFacts.{both_pass, both_true}
 use Rattle.cl_model.proofs.NamePlaces.{known_named}
 use Rattle.cl_model.proofs.NamesKnown.{core_known, stimulus_known}
 use Rattle.cl_model.proofs.Refused.{when_none}
-use Rattle.cl_edit.specs.Inner.Paces.{pace_of, outpaces, IsPair, is_outpaced, IsAtMost, IsOutpaced}
+use Rattle.cl_edit.specs.Inner.Paces.{pace_of, outpaces, IsPair, is_outpaced, IsOutpaced}
 use Rattle.cl_edit.proofs.EachFacts.{each_nothing}
 use Rattle.cl_edit.proofs.TaskChecks.{deadline_none}
 

@@ -1,30 +1,29 @@
 -- Pairs of tasks after a change of when they run, and the first task that another one outpaces.
-use Rattle.std.proofs.Common.{◌≡◌, ℕ, zero, suc, ◌+◌, ◌<◌, ◌≤◌, Bool, true, false, cond, ◌&&◌, ◌||◌, List, [], ◌∷◌, length, map, get_or, set, refl, sym, ap, ◌∙◌, subst, arith, nat_eq, nat_lt, inl, inr}
-use Rattle.std.specs.Prelude.{Option, Some, None, is_some, unwrap_or, slice_get, filter, ◌==◌, ◌⊎◌}
+use Rattle.std.proofs.Common.{◌≡◌, ℕ, zero, suc, ◌+◌, ◌<◌, ◌≤◌, Bool, true, false, cond, ◌&&◌, ◌||◌, List, [], ◌∷◌, length, map, get_or, refl, sym, ap, ◌∙◌, subst, arith, nat_eq, nat_lt, inl, inr}
+use Rattle.std.specs.Prelude.{Option, Some, None, is_some, unwrap_or, filter, ◌==◌}
 use Rattle.std.specs.List.{range_with_len}
 use Rattle.std.proofs.lemmas.Bool.{eqb-true, eqb-false, eq-eqb, ltb-true, ltb-false, false≢true, cond-true, cond_both}
-use Rattle.std.proofs.lemmas.List.{length-set, length-map}
+use Rattle.std.proofs.lemmas.List.{length-set}
 use Rattle.std.proofs.lemmas.List.FromFn.{length-range_with_len, get_or-range_with_len}
 use Rattle.cl_model.specs.declared.model.CoreDef.{CoreDef}
 use Rattle.cl_model.specs.declared.model.SystemModel.{SystemModel}
 use Rattle.cl_model.specs.declared.stimulus.StimulusKind.{StimulusKind}
 use Rattle.cl_model.specs.declared.task.TaskDef.{TaskDef}
-use Rattle.cl_model.specs.ByNumber.{no_stimulus, no_task, no_core, task_at, core_at, core_of, stimulus_of, deadline_of, tasks_of_core}
-use Rattle.cl_model.specs.Changes.{with_task, with_kind, with_priority, with_swap, with_place, with_deadline}
+use Rattle.cl_model.specs.ByNumber.{no_stimulus, no_task, no_core, task_at, core_at, core_of, tasks_of_core}
+use Rattle.cl_model.specs.Changes.{with_priority, with_swap}
 use Rattle.cl_model.specs.Named.{has_name, index_of, core_names, kind_named}
 use Rattle.cl_model.specs.Timing.{least_distance}
 use Rattle.cl_model.specs.Validity.{IsValid}
-use Rattle.cl_model.specs.ValidTasks.{deadline_checks}
 use Rattle.cl_model.proofs.NamePlaces.{own_entry, found_stands, stands_known}
 use Rattle.cl_model.proofs.NamesApart.{cores_apart}
-use Rattle.cl_model.proofs.NamesKnown.{core_known, stimulus_known}
+use Rattle.cl_model.proofs.NamesKnown.{core_known}
 use Rattle.cl_edit.specs.declared.pace.Change.{Change}
 use Rattle.cl_edit.specs.declared.pace.Change.TheVariants as change
 use Rattle.cl_edit.specs.declared.pace.Pace.{Pace}
-use Rattle.cl_edit.specs.Inner.Paces.{with_change, IsChangeOf, is_on, is_touched, priority_after, kind_after, given_after, deadline_after, core_after, pace_after, pace_of, outpaces, IsPair, is_outpaced, least_of, noted, IsAtMost, IsOutpaced, HasSeen, HasOthers}
+use Rattle.cl_edit.specs.Inner.Paces.{with_change, IsChangeOf, is_on, is_touched, priority_after, kind_after, given_after, core_after, pace_after, pace_of, outpaces, IsPair, is_outpaced, noted, IsAtMost, IsOutpaced, HasSeen, HasOthers}
 use Rattle.cl_edit.proofs.BareModels.{at_same}
 use Rattle.cl_edit.proofs.ChangedTasks.{set_at, kind_known, kind_after_change}
-use Rattle.cl_edit.proofs.OutpacedTasks.{IsKnown, valid_known, pair_refused, refused_pair, first_answers, none_refused, no_pair}
+use Rattle.cl_edit.proofs.OutpacedTasks.{IsKnown, pair_refused, refused_pair, no_pair}
 use Rattle.cl_edit.proofs.TaskSetters.{map_set_same}
 
 -- ---- the tasks after a change

@@ -1,5 +1,5 @@
 -- Edits that set one task but leave where it stands: its access, its deadline, or one of its runnables.
-use Rattle.std.proofs.Common.{◌≡◌, ℕ, zero, suc, ◌<◌, Bool, false, List, [], ◌∷◌, ◌++◌, length, map, get_or, set, refl, sym, ap, ◌∙◌, arith, append_assoc}
+use Rattle.std.proofs.Common.{◌≡◌, ℕ, zero, suc, ◌<◌, Bool, List, [], ◌∷◌, ◌++◌, length, map, get_or, set, refl, sym, ap, ◌∙◌, arith, append_assoc}
 use Rattle.std.specs.Prelude.{Option}
 use Rattle.std.proofs.lemmas.List.{append-nil, map-set, length-set, get_or-set_same, get_or-set_other}
 use Rattle.cl_model.specs.declared.group.Step.{Step}
@@ -14,17 +14,17 @@ use Rattle.cl_model.specs.declared.place.Key.TheVariants as key
 use Rattle.cl_model.specs.ByNumber.{no_task, no_runnable, task_at, runnable_at}
 use Rattle.cl_model.specs.Groups.{IsStepOf}
 use Rattle.cl_model.specs.Named.{kind_named, tasks_on}
-use Rattle.cl_model.specs.Place.{entry_of, at_key, at_sub}
+use Rattle.cl_model.specs.Place.{entry_of, at_sub}
 use Rattle.cl_model.specs.Refusals.{when, in_order, each}
 use Rattle.cl_model.specs.ValidNames.{stimulus_checks}
-use Rattle.cl_model.specs.ValidTasks.{task_key, times_check, late_check, release_check, is_outpaced_by, deadline_check, deadline_checks}
+use Rattle.cl_model.specs.ValidTasks.{task_key, times_check, late_check, release_check, deadline_check, deadline_checks}
 use Rattle.cl_model.specs.Validity.{IsValid, refusals_of}
 use Rattle.cl_model.proofs.Refused.{each_none}
 use Rattle.cl_model.specs.Changes.{with_range, with_whole, with_task, with_deadline, with_access}
 use Rattle.cl_edit.specs.FewChecks.{range_refusals, deadline_refusals}
-use Rattle.cl_edit.proofs.EachFacts.{each_nothing, each_only}
+use Rattle.cl_edit.proofs.EachFacts.{each_only}
 use Rattle.cl_edit.proofs.BareModels.{bare_runnable, bare_task, IsAlike}
-use Rattle.cl_edit.proofs.TaskChecks.{placed, on_core_same, outpaced_same, times_checks, timing_check, TaskPasses, task_passes, stimuli_pass, deadline_none, times_left_of}
+use Rattle.cl_edit.proofs.TaskChecks.{placed, on_core_same, outpaced_same, times_checks, timing_check, task_passes, stimuli_pass, deadline_none, times_left_of}
 
 -- ---- lists
 
