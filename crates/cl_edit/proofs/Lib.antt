@@ -34,3 +34,15 @@ pub mod AgreeFacts
 pub mod NewTaskChecks
 pub mod EditedValid
 pub mod NamedEdits
+pub mod EachFacts
+pub mod BareModels
+pub mod TaskChecks
+pub mod TaskSetters
+pub mod FewAnswers
+pub mod OutpacedTasks
+pub mod ChangedTasks
+pub mod PairFacts
+pub mod LimitChecks
+pub mod KindLaws
+pub mod ClashFacts
+pub mod PlaceLaws

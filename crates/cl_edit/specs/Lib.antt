@@ -5,3 +5,4 @@ pub mod Lines
 pub mod Reading
 pub mod Listed
 pub mod Inner
+pub mod FewChecks

@@ -1,5 +1,5 @@
 //! The model that an edit makes of another.
-ghost use Rattle.std.specs.Prelude.{◌≡◌, ◌++◌, nat_lt, length, OnOk, IfOk};
+ghost use Rattle.std.specs.Prelude.{◌≡◌, [], ◌++◌, nat_lt, length, OnOk, IfOk};
 ghost use Rattle.cl_model.specs.Answers.{Answers, Passes, Gives};
 ghost use Rattle.cl_model.specs.Named.{task_names, chain_names, kind_named};
 ghost use Rattle.cl_model.specs.Groups.{step_named};
@@ -13,6 +13,7 @@ ghost use Rattle.cl_edit.specs.Edited.{found, all_names, kind_found, task_number
 ghost use Rattle.cl_edit.specs.Inner.Kinds.{sets, with_numbers};
 
 use crate::changes;
+use crate::check::check_edit;
 use crate::edit::Edit;
 use crate::find::{found, found_step};
 use crate::kinds::kind_with;
@@ -207,6 +208,38 @@ fn validated(alloc: Global, model: SystemModel) -> Result<ValidModel, ModelFault
     }
 }
 
+/// The valid model that an edit makes of another, by the checks of the whole changed model.
+pub(crate) fn apply_whole(
+    alloc: Global,
+    model: &ValidModel,
+    edit: &Edit,
+) -> Result<ValidModel, ModelFault>
+    requires { IsEditInRange edit.now }
+    ensures { Gives result (edited model.now edit.now) }
+{
+    match changed(alloc, model.plain(), edit) {
+        Ok(changed) => validated(alloc, changed),
+        Err(fault) => Err(fault),
+    }
+}
+
+/// The valid model that an edit makes of another, once no check refuses it.
+fn apply_checked(
+    alloc: Global,
+    model: &ValidModel,
+    edit: &Edit,
+) -> Result<ValidModel, ModelFault>
+    requires in_range { IsEditInRange edit.now }
+    requires checked { edit_checks model.now edit.now ++ refusals_of (with_edit model.now edit.now) ≡ [] }
+    ensures { Gives result (edited model.now edit.now) }
+{
+    let changed = changed(alloc, model.plain(), edit)?;
+    match ValidModel::adopt(alloc, changed) {
+        Ok(valid) => Ok(valid),
+        Err((_, no_memory)) => Err(ModelFault::from(no_memory)),
+    }
+}
+
 /// The valid model that an edit makes of another. The model that it is lent stands. It is refused exactly where the
 /// edited model is: with E2 where the edit looks up a name that isn't there, with E3 where it doesn't set this kind of
 /// stimulus, with M10 where it adds a task or a chain to a full section, and then with the first refusal of the changed
@@ -215,8 +248,11 @@ pub fn apply_edit(alloc: Global, model: &ValidModel, edit: &Edit) -> Result<Vali
     requires { IsEditInRange edit.now }
     ensures { Gives result (edited model.now edit.now) }
 {
-    match changed(alloc, model.plain(), edit) {
-        Ok(changed) => validated(alloc, changed),
-        Err(fault) => Err(fault),
+    match edit {
+        Edit::Move { .. } => apply_whole(alloc, model, edit),
+        _ => {
+            check_edit(alloc, model, edit)?;
+            apply_checked(alloc, model, edit)
+        }
     }
 }

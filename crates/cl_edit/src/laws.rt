@@ -11,6 +11,8 @@ ghost use Rattle.cl_edit.specs.Reading.{AreEditsOf, IsBadEditLine, IsEditNamed};
 
 pub mod lists;
 
+pub mod few_checks;
+
 /// A text lists edits, or it has a first bad line.
 pub fn texts_have_an_answer()
     ensures { (text : List ℕ) → ((edits : List Edit) × AreEditsOf text edits) ⊎ ((line : ℕ) × IsBadEditLine text line) }

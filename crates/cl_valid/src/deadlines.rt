@@ -16,7 +16,8 @@ use cl_model::{
     kind_named, refuse_when,
 };
 
-fn spans_too_many(deadline: u64, above: StimulusKind) -> bool
+/// Whether a deadline, with the jitter of a task above, spans too many least distances of that task. Times are in ticks.
+pub fn spans_too_many(deadline: u64, above: StimulusKind) -> bool
     ensures { result ≡ spans_too_many deadline above }
 {
     let limit = u128::from(MOST_DISTANCES) * u128::from(above.least_distance());

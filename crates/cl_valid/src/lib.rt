@@ -14,10 +14,12 @@ mod stimuli;
 mod tasks;
 mod validation;
 
+pub use deadlines::spans_too_many;
 pub use ranges::{
     in_range, is_burst_count, is_chain_in_range, is_deadline_in_range, is_task_in_range, is_time,
 };
 pub use runnables::check_runnables;
+pub use stimuli::{has_late_offset, has_long_burst, has_no_distance};
 pub use validation::validate;
 
 /// Why a model isn't taken: its first refusal, or want of memory.

@@ -10,7 +10,8 @@ use cl_model::{
     Code, Key, ModelFault, Part, Place, StimulusDef, StimulusKind, SystemModel, refuse_when,
 };
 
-fn has_late_offset(kind: StimulusKind) -> bool
+/// Whether the offset isn't below the period.
+pub fn has_late_offset(kind: StimulusKind) -> bool
     ensures { result ≡ has_late_offset kind }
 {
     match kind {
@@ -20,7 +21,8 @@ fn has_late_offset(kind: StimulusKind) -> bool
     }
 }
 
-fn has_no_distance(kind: StimulusKind) -> bool
+/// Whether the least distance exceeds the greatest.
+pub fn has_no_distance(kind: StimulusKind) -> bool
     ensures { result ≡ has_no_distance kind }
 {
     match kind {
@@ -39,7 +41,8 @@ fn is_longer(count: u64, distance: u64, period: u64) -> bool
     }
 }
 
-fn has_long_burst(kind: StimulusKind) -> bool
+/// Whether a burst doesn't fit its period.
+pub fn has_long_burst(kind: StimulusKind) -> bool
     ensures { result ≡ has_long_burst kind }
 {
     match kind {

@@ -1,0 +1,148 @@
+-- Changes of when tasks run, and what the checks of deadlines see of each task after one. Times are in ticks.
+use Rattle.std.specs.Prelude.{◌≡◌, ℕ, ◌<◌, ◌≤◌, ◌⊎◌, Bool, true, ◌&&◌, ◌||◌, ◌==◌, nat_lt, nat_le, if◌then◌else◌, List, [], ◌∷◌, Option, Some, None, unwrap_or, length}
+use Rattle.std.specs.List.{list_any}
+use Rattle.cl_model.specs.declared.model.SystemModel.{SystemModel}
+use Rattle.cl_model.specs.declared.place.Key.TheVariants as key
+use Rattle.cl_model.specs.declared.refusal.Code.TheVariants.{M32, M33}
+use Rattle.cl_model.specs.declared.refusal.Refusal.{Refusal}
+use Rattle.cl_model.specs.declared.stimulus.StimulusKind.{StimulusKind}
+use Rattle.cl_model.specs.Changes.{stimulus_at, with_kind, with_deadline, with_swap, with_place}
+use Rattle.cl_model.specs.ByNumber.{task_at, core_at, core_of, stimulus_of, deadline_of}
+use Rattle.cl_model.specs.Named.{same_name, tasks_on}
+use Rattle.cl_model.specs.Refusals.{when, in_order, each}
+use Rattle.cl_model.specs.Timing.{least_distance, greatest_jitter}
+use Rattle.cl_model.specs.ValidTasks.{task_key, spans_too_many, is_outpaced_by}
+use Rattle.cl_edit.specs.declared.pace.Change.{Change}
+use Rattle.cl_edit.specs.declared.pace.Change.TheVariants as change
+use Rattle.cl_edit.specs.declared.pace.Pace.{Pace}
+
+-- ---- changes
+
+-- the model after a change
+abbrev pub with_change : SystemModel → Change → SystemModel
+with_change model (change.Deadline task deadline) = with_deadline model task deadline
+with_change model (change.Kind stimulus kind) = with_kind model stimulus (λ _. kind)
+with_change model (change.Swap one other) = with_swap model one other
+with_change model (change.Move task core priority) = with_place model task (core_at model core).name priority
+
+-- what a change names is there
+abbrev pub IsChangeOf : SystemModel → Change → Type 0
+IsChangeOf model (change.Deadline task deadline) = task < length model.tasks
+IsChangeOf model (change.Kind stimulus kind) = stimulus < length model.stimuli
+IsChangeOf model (change.Swap one other) = (one < length model.tasks) × (other < length model.tasks)
+IsChangeOf model (change.Move task core priority) = (task < length model.tasks) × (core < length model.cores)
+
+-- whether task k names stimulus s
+abbrev pub is_on : SystemModel → (s k : ℕ) → Bool
+is_on model s k = same_name (task_at model k).stimulus (stimulus_at model s).name
+
+-- whether a change is of task k, of its stimulus, or of nothing of it
+abbrev pub is_touched : SystemModel → Change → (k : ℕ) → Bool
+is_touched model (change.Deadline task deadline) k = k == task
+is_touched model (change.Kind stimulus kind) k = is_on model stimulus k
+is_touched model (change.Swap one other) k = (k == one) || (k == other)
+is_touched model (change.Move task core priority) k = k == task
+
+-- ---- what task k is after a change
+
+abbrev pub priority_after : SystemModel → Change → (k : ℕ) → ℕ
+priority_after model (change.Deadline task deadline) k = (task_at model k).priority
+priority_after model (change.Kind stimulus kind) k = (task_at model k).priority
+priority_after model (change.Swap one other) k =
+    if k == other then (task_at model one).priority else (if k == one then (task_at model other).priority else (task_at model k).priority)
+priority_after model (change.Move task core priority) k = if k == task then priority else (task_at model k).priority
+
+abbrev pub kind_after : SystemModel → Change → (k : ℕ) → StimulusKind
+kind_after model (change.Deadline task deadline) k = stimulus_of model k
+kind_after model (change.Kind stimulus kind) k = if is_on model stimulus k then kind else stimulus_of model k
+kind_after model (change.Swap one other) k = stimulus_of model k
+kind_after model (change.Move task core priority) k = stimulus_of model k
+
+abbrev pub given_after : SystemModel → Change → (k : ℕ) → Option ℕ
+given_after model (change.Deadline task deadline) k = if k == task then deadline else (task_at model k).deadline
+given_after model (change.Kind stimulus kind) k = (task_at model k).deadline
+given_after model (change.Swap one other) k = (task_at model k).deadline
+given_after model (change.Move task core priority) k = (task_at model k).deadline
+
+abbrev pub deadline_after : SystemModel → Change → (k : ℕ) → ℕ
+deadline_after model change k = unwrap_or (given_after model change k) (least_distance (kind_after model change k))
+
+abbrev pub core_after : SystemModel → Change → (k : ℕ) → ℕ
+core_after model (change.Deadline task deadline) k = core_of model k
+core_after model (change.Kind stimulus kind) k = core_of model k
+core_after model (change.Swap one other) k = core_of model k
+core_after model (change.Move task core priority) k = if k == task then core else core_of model k
+
+-- ---- paces
+
+-- what the check of deadlines sees of task k after a change
+abbrev pub pace_after : SystemModel → Change → (k : ℕ) → Pace
+pace_after model change k = record { priority = priority_after model change k; deadline = deadline_after model change k; kind = kind_after model change k }
+
+-- that of task k
+abbrev pub pace_of : SystemModel → (k : ℕ) → Pace
+pace_of model k = record { priority = (task_at model k).priority; deadline = deadline_of model k; kind = stimulus_of model k }
+
+-- whether a deadline spans too many least distances of a task above
+abbrev pub outpaces : Pace → Pace → Bool
+outpaces task other = nat_lt task.priority other.priority && spans_too_many task.deadline other.kind
+
+-- task j of the core of task k outpaces it
+pub record IsPair (model : SystemModel) (k j : ℕ) : Type 0 where
+  pub below : k < length model.tasks
+  pub above : j < length model.tasks
+  pub core : core_of model k ≡ core_of model j
+  pub outpaces : outpaces (pace_of model k) (pace_of model j) ≡ true
+
+-- whether M42 refuses task k
+abbrev pub is_outpaced : SystemModel → (k : ℕ) → Bool
+is_outpaced model k = list_any (is_outpaced_by model (task_at model k)) (tasks_on (task_at model k).core model.tasks)
+
+-- ---- the first task that is outpaced
+
+-- the lesser of a number, if there is one, and this one
+abbrev pub least_of : Option ℕ → ℕ → Option ℕ
+least_of None k = Some k
+least_of (Some first) k = (if nat_lt k first then Some k else Some first)
+
+-- the same, where a test passes
+abbrev pub noted : Option ℕ → Bool → ℕ → Option ℕ
+noted first test k = if test then least_of first k else first
+
+-- there is a number, and it is this one or a lesser one
+abbrev pub IsAtMost : Option ℕ → ℕ → Type 0
+IsAtMost None k = ⊥
+IsAtMost (Some first) k = first ≤ k
+
+-- a number, if there is one, is that of a task that M42 refuses
+abbrev pub IsOutpaced : SystemModel → Option ℕ → Type 0
+IsOutpaced model None = Unit {0}
+IsOutpaced model (Some k) = (k < length model.tasks) × (is_outpaced model k ≡ true)
+
+-- where two tasks are a pair, the number is at most that of the lower one
+pub record HasSeen (model : SystemModel) (first : Option ℕ) (k j : ℕ) : Type 0 where
+  pub below : IsPair model k j → IsAtMost first k
+  pub above : IsPair model j k → IsAtMost first j
+
+-- the tasks of a core of a model are the others of the core of a task after a change
+abbrev pub HasOthers : SystemModel → Change → (task core : ℕ) → Type 0
+HasOthers model change task core =
+    ((k : ℕ) → k < length model.tasks → core_of model k ≡ core → core_after model change k ≡ core)
+    × ((k : ℕ) → k < length model.tasks → core_after model change k ≡ core → (k ≡ task) ⊎ (core_of model k ≡ core))
+
+-- ---- refusals
+
+-- M32 and M33 for task k
+abbrev pub limit_checks : Pace → (k : ℕ) → List Refusal
+limit_checks pace k =
+    in_order (when (nat_lt (least_distance pace.kind) pace.deadline) M32 (task_key k key.Deadline)
+    ∷ when (nat_le pace.deadline (greatest_jitter pace.kind)) M33 (task_key k key.Stimulus)
+    ∷ [])
+
+-- the same, where it names stimulus s
+abbrev pub limits_on : SystemModel → Change → (s k : ℕ) → List Refusal
+limits_on model change s k = if is_on model s k then limit_checks (pace_after model change k) k else []
+
+-- M32 and M33 for each task that names it
+abbrev pub all_limits_on : SystemModel → Change → (s : ℕ) → List Refusal
+all_limits_on model change s = each (λ k task. limits_on model change s k) model.tasks
