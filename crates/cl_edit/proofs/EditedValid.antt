@@ -37,6 +37,14 @@ pub made_is : (model : SystemModel) (edit : Edit) (changed : SystemModel) → ed
 unfolding edited
 made_is model edit changed is = (none_of_answer (with_edit model edit) changed (edit_checks model edit ++ refusals_of (with_edit model edit)) is).1
 
+-- where no check refuses an edit, it is made
+pub made_unless : (model : SystemModel) (edit : Edit) → edit_checks model edit ++ refusals_of (with_edit model edit) ≡ [] → edited model edit ≡ Ok (with_edit model edit)
+unfolding edited
+made_unless model edit none = ap (λ refusals. answer refusals (with_edit model edit)) none
+
+pub valid_unless : (model : SystemModel) (edit : Edit) → IsValid model → IsEditInRange edit → edit_checks model edit ++ refusals_of (with_edit model edit) ≡ [] → IsValid (with_edit model edit)
+valid_unless model edit valid in_range none = edited_valid model edit (with_edit model edit) valid in_range (made_unless model edit none)
+
 -- a report keeps a valid model
 pub report_keeps : (model : SystemModel) → IsValid model → edited model Report ≡ Ok model
 unfolding edited edit_checks with_edit

@@ -9,9 +9,8 @@ ghost use Rattle.cl_edit.specs.Edited.{edited};
 ghost use Rattle.cl_edit.specs.Ranges.{IsEditInRange};
 ghost use Rattle.cl_edit.specs.Reading.{AreEditsOf, IsBadEditLine, IsEditNamed};
 
-pub mod lists;
-
 pub mod few_checks;
+pub mod lists;
 
 /// A text lists edits, or it has a first bad line.
 pub fn texts_have_an_answer()

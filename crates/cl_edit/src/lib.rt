@@ -3,9 +3,9 @@
 
 mod apply;
 mod changes;
+mod check;
 mod check_lists;
 mod check_new_task;
-mod check;
 mod check_sets;
 mod clash;
 mod edit;

@@ -58,11 +58,11 @@ steps : (old new : SystemModel) (task chain : ℕ) → ((t : ℕ) → IsChangedT
     → after + task + 2 * chain ≤ before + length new.tasks + 2 * length new.chains
 steps old new task chain tasks_from chains_from some_task some_chain before after asks =
     let of_tasks = few task (length new.tasks) asks.tasks asks.different_tasks
-        (λ k d within. tasks_from (get_or asks.tasks k d) (asks.changed_tasks k d within))
-        (λ k d within. (asks.changed_tasks k d within).is_task) some_task in
+    (λ k d within. tasks_from (get_or asks.tasks k d) (asks.changed_tasks k d within))
+    (λ k d within. (asks.changed_tasks k d within).is_task) some_task in
     let of_chains = few chain (length new.chains) asks.chains asks.different_chains
-        (λ k d within. chains_from (get_or asks.chains k d) (asks.changed_chains k d within))
-        (λ k d within. (asks.changed_chains k d within).is_chain) some_chain in
+    (λ k d within. chains_from (get_or asks.chains k d) (asks.changed_chains k d within))
+    (λ k d within. (asks.changed_chains k d within).is_chain) some_chain in
     omega (arith, of_tasks, of_chains, asks.few)
 
 -- ---- the tasks A and B on two cores
@@ -137,7 +137,7 @@ module _ (changed : SystemModel) (before after : ℕ) where
         tasks,
         chains,
         steps two_cores_model longer 1 0 (not_a longer named same) (λ c _. omega arith)
-        (omega (arith, tasks)) (omega arith) before after (asked two_cores_model longer_b is asks),
+            (omega (arith, tasks)) (omega arith) before after (asked two_cores_model longer_b is asks),
       )
 
   pub later_steps : edited two_cores_model later_b ≡ Ok changed → AsksForChanges two_cores_model changed before after → after ≤ before + 2
@@ -148,7 +148,7 @@ module _ (changed : SystemModel) (before after : ℕ) where
         tasks,
         chains,
         steps two_cores_model later 2 0 (not_b later named_a same_a named_b same_b) (λ c _. omega arith)
-        (omega (arith, tasks)) (omega arith) before after (asked two_cores_model later_b is asks),
+            (omega (arith, tasks)) (omega arith) before after (asked two_cores_model later_b is asks),
       )
 
   pub dropped_steps : edited two_cores_model no_chain_ab ≡ Ok changed → AsksForChanges two_cores_model changed before after → after ≤ before
@@ -159,7 +159,7 @@ module _ (changed : SystemModel) (before after : ℕ) where
         tasks,
         chains,
         steps two_cores_model dropped 2 0 (not_b dropped named_a same_a named_b same_b) (λ c _. omega arith)
-        (omega (arith, tasks)) (omega arith) before after (asked two_cores_model no_chain_ab is asks),
+            (omega (arith, tasks)) (omega arith) before after (asked two_cores_model no_chain_ab is asks),
       )
 
   pub swapped_steps : edited two_chains_model b_above_a ≡ Ok changed → AsksForChanges two_chains_model changed before after → after ≤ before + 6
@@ -170,5 +170,5 @@ module _ (changed : SystemModel) (before after : ℕ) where
         tasks,
         chains,
         steps two_chains_model swapped 0 0 (λ t _. omega arith) (λ c _. omega arith)
-        (omega arith) (omega arith) before after (asked two_chains_model b_above_a is asks),
+            (omega arith) (omega arith) before after (asked two_chains_model b_above_a is asks),
       )

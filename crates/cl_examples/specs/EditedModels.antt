@@ -15,22 +15,22 @@ two_cores_model = record {
   stimuli = record { name = codes "s10"; kind = Periodic 10 0 0 } ∷ record { name = codes "s20"; kind = Periodic 20 0 0 } ∷ [];
   labels = record { name = codes "x" } ∷ [];
   tasks = record {
-      name = codes "A";
-      core = codes "c0";
-      stimulus = codes "s10";
-      priority = 2;
-      access = Implicit;
-      deadline = None;
-      runnables = record { name = codes "a"; least = 2; greatest = 3; whole = false; reads = []; writes = codes "x" ∷ [] } ∷ [];
-    } ∷ record {
-      name = codes "B";
-      core = codes "c1";
-      stimulus = codes "s20";
-      priority = 1;
-      access = Implicit;
-      deadline = None;
-      runnables = record { name = codes "b"; least = 4; greatest = 5; whole = false; reads = codes "x" ∷ []; writes = [] } ∷ [];
-    } ∷ [];
+    name = codes "A";
+    core = codes "c0";
+    stimulus = codes "s10";
+    priority = 2;
+    access = Implicit;
+    deadline = None;
+    runnables = record { name = codes "a"; least = 2; greatest = 3; whole = false; reads = []; writes = codes "x" ∷ [] } ∷ [];
+  } ∷ record {
+    name = codes "B";
+    core = codes "c1";
+    stimulus = codes "s20";
+    priority = 1;
+    access = Implicit;
+    deadline = None;
+    runnables = record { name = codes "b"; least = 4; greatest = 5; whole = false; reads = codes "x" ∷ []; writes = [] } ∷ [];
+  } ∷ [];
   chains = chain_ab ∷ [];
   requirements = [];
 }
@@ -42,22 +42,22 @@ two_chains_model = record {
   stimuli = record { name = codes "s10"; kind = Periodic 10 0 0 } ∷ record { name = codes "s20"; kind = Periodic 20 0 0 } ∷ [];
   labels = record { name = codes "x" } ∷ record { name = codes "y" } ∷ [];
   tasks = record {
-      name = codes "A";
-      core = codes "c0";
-      stimulus = codes "s10";
-      priority = 2;
-      access = Implicit;
-      deadline = None;
-      runnables = record { name = codes "a"; least = 2; greatest = 3; whole = false; reads = codes "y" ∷ []; writes = codes "x" ∷ [] } ∷ [];
-    } ∷ record {
-      name = codes "B";
-      core = codes "c0";
-      stimulus = codes "s20";
-      priority = 1;
-      access = Implicit;
-      deadline = None;
-      runnables = record { name = codes "b"; least = 4; greatest = 5; whole = false; reads = codes "x" ∷ []; writes = codes "y" ∷ [] } ∷ [];
-    } ∷ [];
+    name = codes "A";
+    core = codes "c0";
+    stimulus = codes "s10";
+    priority = 2;
+    access = Implicit;
+    deadline = None;
+    runnables = record { name = codes "a"; least = 2; greatest = 3; whole = false; reads = codes "y" ∷ []; writes = codes "x" ∷ [] } ∷ [];
+  } ∷ record {
+    name = codes "B";
+    core = codes "c0";
+    stimulus = codes "s20";
+    priority = 1;
+    access = Implicit;
+    deadline = None;
+    runnables = record { name = codes "b"; least = 4; greatest = 5; whole = false; reads = codes "x" ∷ []; writes = codes "y" ∷ [] } ∷ [];
+  } ∷ [];
   chains = chain_ab ∷ record { name = codes "ba"; runnables = codes "b" ∷ codes "a" ∷ []; labels = codes "y" ∷ [] } ∷ [];
   requirements = [];
 }

@@ -32,11 +32,7 @@ pub fn report(alloc: Global, model: &ValidModel, findings: &Findings) -> Result<
 /// Puts the report of a model behind a text. The findings are those of the model.
 ///
 /// `NoMemory` comes where there is no memory for the longer text; it leaves the text as it was or longer.
-pub fn put_report(
-    text: &mut Text,
-    model: &ValidModel,
-    findings: &Findings,
-) -> Result<(), NoMemory>
+pub fn put_report(text: &mut Text, model: &ValidModel, findings: &Findings) -> Result<(), NoMemory>
     requires { AreFindings model.now findings.now }
     ensures { OnOk result (text.new ≡ text.old ++ report_text model.now findings.now) }
 {

@@ -13,7 +13,9 @@ ghost use Rattle.cl_top.specs.Outcome.{read_fault, long_file};
 ghost use Rattle.cl_top.specs.Run.{ComesTo, ComesToTold, IsWhole, IsCutShort, Ends, KeepsToTold, WritesOfFile};
 ghost use Rattle.cl_top.specs.Steps.{AreFewSteps};
 
-use crate::answering::{answer_model, apply_files, check_file, edit_files, replay_files, simulate_file};
+use crate::answering::{
+    answer_model, apply_files, check_file, edit_files, replay_files, simulate_file,
+};
 use crate::command::{Command, OfModel, read_command};
 use crate::commands::generate::generated;
 use crate::commands::help::{helped, named_version};

@@ -117,7 +117,12 @@ fn stopped(alloc: Global, text: Text, number: u64, fault: ModelFault) -> Result<
 }
 
 /// A text, and behind it the refusal of the line of a number.
-pub(crate) fn refused(alloc: Global, text: Text, number: u64, refusal: Refusal) -> Result<Outcome, NoMemory>
+pub(crate) fn refused(
+    alloc: Global,
+    text: Text,
+    number: u64,
+    refusal: Refusal,
+) -> Result<Outcome, NoMemory>
     ensures { IfOk result (λ outcome. outcome ≡ behind text (edits_refused number refusal)) }
 {
     let mut text = text;

@@ -6,7 +6,7 @@ use Rattle.cl_model.specs.Ranges.{IsInRange}
 use Rattle.cl_edit.specs.Edited.{edited}
 use Rattle.cl_edit.proofs.FoundFacts.{refused_first, answered_then}
 use Rattle.cl_edit.proofs.RangeFacts.{edits_keep_range}
-use Rattle.cl_edit.proofs.apply.apply_edit.Goals as goal
+use Rattle.cl_edit.proofs.apply.apply_whole.Goals as goal
 
 -- the changed model is in range
 pub validated-requires : goal.validated-requires
