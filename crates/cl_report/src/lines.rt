@@ -39,7 +39,8 @@ pub fn put_report(text: &mut Text, model: &ValidModel, findings: &Findings) -> R
     text.put(b"chainlat report 1\n")?;
     put_tasks(text, model, &findings.tasks)?;
     put_chains(text, model, findings)?;
-    put_requirements(text, model, &findings.verdicts)
+    put_requirements(text, model, &findings.verdicts)?;
+    Ok(())
 }
 
 /// Puts the lines of all tasks, one for each answer.

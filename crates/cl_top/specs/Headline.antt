@@ -1,4 +1,4 @@
--- What is printed is safe, from the bytes of the files to the bytes of the text (docs/headline.md).
+-- What is printed is safe, from the bytes of the files to the bytes of the text (docs/promises.md).
 use Rattle.std.specs.Prelude.{◌≡◌, ℕ, ◌<◌, ◌≤◌, List, [], ◌++◌, length, slice_index_or, Option, Some, Ok}
 use Rattle.std.specs.List.{concat}
 use Rattle.cl_io.specs.Shelf.{Held, MayBe}
