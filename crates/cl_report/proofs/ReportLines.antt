@@ -96,3 +96,7 @@ unfolding verdict_line
 judged requirement verdict t0 t1 t2 t3 t4 t5 t6 t7 =
     seven_pieces (codes "requirement ") requirement.name (codes " ") (kind_word requirement.kind) (codes " ") (verdict_words requirement.most verdict) (0x0A ∷ [])
     t0 t1 t2 t3 t4 t5 t6 t7
+
+-- pieces behind a text are one piece behind it
+pub behind_text : (text a b c d : List ℕ) → (((text ++ a) ++ b) ++ c) ++ d ≡ text ++ (((a ++ b) ++ c) ++ d)
+behind_text text a b c d = ap (λ t. (t ++ c) ++ d) (append_assoc text a b) ∙ ap (λ t. t ++ d) (append_assoc text (a ++ b) c) ∙ append_assoc text ((a ++ b) ++ c) d

@@ -1,7 +1,8 @@
-use Rattle.std.proofs.Common.{rules}
-use Rattle.std.proofs.lemmas.List.{append_assoc}
-use Rattle.cl_report.specs.Report.{report_text}
-use Rattle.cl_report.proofs.ReportLines.{tasks_found, verdicts_found}
+use Rattle.std.proofs.Common.{◌≡◌, ℕ, List, ◌++◌, length, codes, ap, ◌∙◌}
+use Rattle.std.specs.List.{flat_map, range_with_len}
+use Rattle.cl_text.specs.Line.{line}
+use Rattle.cl_report.specs.Report.{task_lines, chain_lines, requirement_lines, report_text}
+use Rattle.cl_report.proofs.ReportLines.{tasks_found, verdicts_found, behind_text}
 use Rattle.cl_report.proofs.lines.put_report.Goals as goal
 
 pub put_tasks-requires : goal.put_tasks-requires
@@ -12,4 +13,13 @@ put_requirements-requires c = verdicts_found c.args.model.now c.args.findings.no
 
 pub returns : goal.returns
 unfolding report_text
-returns c = search (rules, append_assoc)
+returns c =
+    let model = c.args.model.now in
+    let findings = c.args.findings.now in
+    let title : List ℕ = line (codes "chainlat report 1") in
+    let tasks : List ℕ = task_lines model findings.tasks in
+    let chains : List ℕ = flat_map (chain_lines model findings) (range_with_len 0 (length model.chains)) in
+    let last : List ℕ = requirement_lines model findings.verdicts in
+    c.in_ok-put_requirements.ensures
+    ∙ ap (λ t. t ++ last) (c.in_ok-put_chains.ensures ∙ ap (λ t. t ++ chains) (c.in_ok-put_tasks.ensures ∙ ap (λ t. t ++ tasks) c.in_ok-put.ensures.ok))
+    ∙ behind_text c.args.text.now title tasks chains last
