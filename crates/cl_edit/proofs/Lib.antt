@@ -18,3 +18,4 @@ pub mod BadEdits
 pub mod OneAnswer
 pub mod SomeAnswer
 pub mod EditedValid
+pub mod CheckedEdits
