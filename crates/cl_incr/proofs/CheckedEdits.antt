@@ -1,5 +1,5 @@
 -- What the checks of an edit say of the edited model.
-use Rattle.std.proofs.Common.{◌≡◌, ℕ, subst, sym}
+use Rattle.std.proofs.Common.{◌≡◌, ℕ, ap, ◌∙◌, subst, sym}
 use Rattle.std.specs.Prelude.{Result, Ok, Err, OnOk, IfErr}
 use Rattle.cl_model.specs.declared.model.SystemModel.{SystemModel}
 use Rattle.cl_model.specs.declared.model_fault.ModelFault.{ModelFault}
@@ -21,7 +21,7 @@ module _ (model : SystemModel) (edit : Edit) where
   pub refused_where_err : (result : Result (Unit {0}) ModelFault) → Passes result (checks_of_edit model edit)
       → IfErr result (λ fault. (refusal : Refusal) → fault ≡ Refused refusal → edited model edit ≡ Err refusal)
   refused_where_err (Ok done) passes = tt
-  refused_where_err (Err fault) passes refusal is =
+  refused_where_err (Err fault) passes = λ refusal is.
       refused_where_fault model edit refusal (subst (IsFaultOf (checks_of_edit model edit)) is passes)
 
   -- the steps that ask for the changes of the edited model ask for those of what the edit makes
@@ -32,3 +32,7 @@ module _ (model : SystemModel) (edit : Edit) where
   pub asks_changed : (changed : SystemModel) (before after : ℕ) → edited model edit ≡ Ok changed → AsksForChanges model (with_edit model edit) before after
       → AsksForChanges model changed before after
   asks_changed changed before after is = subst (λ (m : SystemModel). AsksForChanges model m before after) (changed_is model edit changed is)
+
+  -- what is made is what the edit makes
+  pub made_as_meant : (changed : SystemModel) → edited model edit ≡ Ok changed → edited model edit ≡ Ok (with_edit model edit)
+  made_as_meant changed is = is ∙ ap Ok (sym (changed_is model edit changed is))

@@ -131,6 +131,8 @@ impl Session {
         ensures unchanged { OnErr result (self.new ≡ self.old) }
         ensures steps { AsksForChanges self.old.model (with_edit self.old.model edit.now) steps.old steps.new }
     {
+        // the findings stay those of the model where there is no memory for another
+        let _findings = self.findings();
         let spare = self.take_spare()?;
         let model = change_valid(self.alloc, spare, edit)?;
         let findings = findings_of_edit(
