@@ -7,7 +7,8 @@ use Rattle.cl_incr.proofs.session.Session.make.Goals as goal
 
 pub returns-in_err-spare-clause-findings : goal.returns-in_err-spare-clause-findings
 returns-in_err-spare-clause-findings g c =
-    subst (λ (s : SessionState). AreFindings s.model s.findings) (sym c.take_spare.ensures.unchanged) c.findings.ensures.found
+    subst (λ (s : SessionState). AreFindings s.model s.findings) (sym c.take_spare.ensures.unchanged)
+    (subst (AreFindings c.args.self.now.model) c.findings-findings.ensures.findings c.findings-findings.ensures.found)
 
 pub returns-in_err-spare-clause-steps : goal.returns-in_err-spare-clause-steps
 returns-in_err-spare-clause-steps g c =
