@@ -46,3 +46,4 @@ pub mod LimitChecks
 pub mod KindLaws
 pub mod ClashFacts
 pub mod PlaceLaws
+pub mod CheckedEdits

@@ -224,7 +224,11 @@ pub(crate) fn apply_whole(
 }
 
 /// The valid model that an edit makes of another, once no check refuses it.
-fn apply_checked(alloc: Global, model: &ValidModel, edit: &Edit) -> Result<ValidModel, ModelFault>
+pub(crate) fn apply_checked(
+    alloc: Global,
+    model: &ValidModel,
+    edit: &Edit,
+) -> Result<ValidModel, ModelFault>
     requires in_range { IsEditInRange edit.now }
     requires checked { edit_checks model.now edit.now ++ refusals_of (with_edit model.now edit.now) ≡ [] }
     ensures { Gives result (edited model.now edit.now) }

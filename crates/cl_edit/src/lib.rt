@@ -2,6 +2,7 @@
 #![tactic(auto)]
 
 mod apply;
+mod change;
 mod changes;
 mod check;
 mod check_lists;
@@ -26,11 +27,13 @@ mod task_line;
 mod words;
 
 pub use apply::apply_edit;
+pub use change::change_valid;
 pub use check::check_edit;
 use cl_model::ModelFault;
 pub use edit::Edit;
 pub use edit_lines::EditLines;
 pub use fault::EditsFault;
+pub use find::found_step;
 pub use limits::{MOST_EDITS, MOST_REPORTS};
 pub use reading::read_edits;
 

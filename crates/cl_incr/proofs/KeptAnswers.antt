@@ -65,7 +65,7 @@ module _ (old new : SystemModel) (task : ℕ) where
 -- ---- chains
 
 -- an answer in a list of answers, by its place
-exact_at : (answers : List ExactAnswer) (chain : ℕ) (found : ExactAnswer) → chain < length answers → found ≡ get_or answers chain found
+pub exact_at : (answers : List ExactAnswer) (chain : ℕ) (found : ExactAnswer) → chain < length answers → found ≡ get_or answers chain found
     → found ≡ exact_answer_at answers chain
 exact_at answers chain found within at = at ∙ get_or_default answers chain found ChainLate within
 

@@ -8,3 +8,10 @@ pub mod SameQuestions
 pub mod SameTasks
 pub mod KeptAnswers
 pub mod Reports
+pub mod SameCores
+pub mod SameGroups
+pub mod SameChains
+pub mod Touching
+pub mod EditTouches
+pub mod Mended
+pub mod CheckedEdits

@@ -1,4 +1,5 @@
 pub mod Questions
 pub mod Changed
+pub mod Touched
 pub mod SessionState
 pub mod Inner

@@ -56,7 +56,7 @@ fn kept_findings(
 }
 
 /// What is found of a chain of the new model. Up to two steps are counted where its question is changed.
-fn find_chain<L: Ledger>(
+pub(crate) fn find_chain<L: Ledger>(
     old: &ValidModel,
     findings: &Findings,
     new: &ValidModel,

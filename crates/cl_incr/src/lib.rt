@@ -5,9 +5,11 @@
 mod chains;
 mod comparing;
 pub mod laws;
+mod mend;
 mod question;
 mod session;
 mod tasks;
+mod touch;
 
 pub use question::{GroupQuestion, HopLine};
 pub use session::Session;

@@ -2,38 +2,43 @@
 ghost use Rattle.std.specs.Prelude.{◌≡◌, ◌+◌, ◌*◌, ◌≤◌, length, Ok, Err, IfOk, IfErr, OnOk, OnErr};
 ghost use Rattle.cl_model.specs.declared.model.SystemModel.{SystemModel};
 ghost use Rattle.cl_model.specs.declared.refusal.Refusal.{Refusal};
-ghost use Rattle.cl_edit.specs.Edited.{edited};
+ghost use Rattle.cl_edit.specs.Edited.{with_edit, edited};
 ghost use Rattle.cl_edit.specs.Ranges.{IsEditInRange};
 ghost use Rattle.cl_analyse.specs.Findings.{AreFindings};
 ghost use Rattle.cl_incr.specs.Changed.{AsksForChanges};
 
 use crate::chains::find_chains;
+use crate::mend::mended;
 use crate::tasks::answer_tasks;
+use crate::touch::touched_tasks;
 use cl_analyse::{Findings, analyse, judge_all};
-use cl_edit::{Edit, apply_edit};
+use cl_edit::{Edit, change_valid, check_edit};
 use cl_model::{ModelFault, ValidModel};
 use cl_time::{NoMemory, Steps};
 use std::alloc::Global;
 use std::marker::Model;
+use std::mem;
 use std::sync::ledger::Ledger;
 
-/// A model that is edited, with its findings.
+/// A model that is edited, with its findings. Beside it stands the same model once more, where there was memory for it:
+/// the next edit changes that one in place, so that the questions of both can be compared.
 #[derive(Drop)]
 pub struct Session {
     alloc: Global,
     model: ValidModel,
     findings: Findings,
+    spare: Option<ValidModel>,
 }
 
 impl Model for Session {
-    ghost use Rattle.cl_analyse.specs.Findings.{AreFindings};
     ghost use Rattle.cl_incr.specs.SessionState.{SessionState};
+    ghost use Rattle.cl_incr.specs.Inner.IsSession.{IsSession};
 
     ghost Value = { SessionState };
 
     ghost view = { λ a. record { model = a.model; findings = a.findings } };
 
-    ghost invariant = { λ a. AreFindings a.model a.findings };
+    ghost invariant = { IsSession };
 }
 
 impl Session {
@@ -53,6 +58,7 @@ impl Session {
             alloc,
             model,
             findings,
+            spare: None,
         })
     }
 
@@ -111,23 +117,90 @@ impl Session {
             → AsksForChanges self.old.model changed steps.old steps.new }
         ensures refused_steps { (refusal : Refusal) → edited self.old.model edit.now ≡ Err refusal → steps.new ≡ steps.old }
     {
-        let model = apply_edit(self.alloc, &self.model, edit)?;
-        let findings = findings_after(self.alloc, &self.model, &self.findings, &model, steps)?;
-        self.put(model, findings);
+        check(self.alloc, &self.model, edit)?;
+        self.make(edit, steps)?;
         Ok(())
     }
 
-    /// Puts a model and its findings in place of what the session held.
-    fn put(&mut self, model: ValidModel, findings: Findings)
-        requires { AreFindings model findings }
+    /// Makes an edit that may be made.
+    fn make<L: Ledger>(&mut self, edit: &Edit, steps: &mut Steps<L>) -> Result<(), NoMemory>
+        requires in_range { IsEditInRange edit.now }
+        requires passes { edited self.old.model edit.now ≡ Ok (with_edit self.old.model edit.now) }
+        ensures model { OnOk result (edited self.old.model edit.now ≡ Ok self.new.model) }
+        ensures findings { AreFindings self.new.model self.new.findings }
+        ensures unchanged { OnErr result (self.new ≡ self.old) }
+        ensures steps { AsksForChanges self.old.model (with_edit self.old.model edit.now) steps.old steps.new }
+    {
+        // the findings stay those of the model where there is no memory for another
+        let _findings = self.findings();
+        let spare = self.take_spare()?;
+        let model = change_valid(self.alloc, spare, edit)?;
+        let findings = findings_of_edit(
+            self.alloc,
+            &self.model,
+            &self.findings,
+            &model,
+            edit,
+            steps,
+        )?;
+        self.turn_to(model, findings, edit);
+        Ok(())
+    }
+
+    /// The model once more: the one that stands beside it, or else a copy.
+    fn take_spare(&mut self) -> Result<ValidModel, NoMemory>
+        ensures spare { IfOk result (λ spare. spare ≡ self.old.model) }
+        ensures unchanged { self.new ≡ self.old }
+    {
+        match self.spare.take() {
+            Some(spare) => Ok(spare),
+            None => self.model.copy(self.alloc),
+        }
+    }
+
+    /// Puts the edited model and its findings in place of what the session held, and edits what it held for the next
+    /// time.
+    fn turn_to(&mut self, model: ValidModel, findings: Findings, edit: &Edit)
+        requires in_range { IsEditInRange edit.now }
+        requires made { edited self.old.model edit.now ≡ Ok model }
+        requires found { AreFindings model findings }
         ensures model { self.new.model ≡ model }
         ensures findings { self.new.findings ≡ findings }
     {
-        *self = Session {
-            alloc: self.alloc,
-            model,
-            findings,
-        };
+        let old = mem::replace(&mut self.model, model);
+        self.findings = findings;
+        self.spare = change_valid(self.alloc, old, edit).ok();
+    }
+}
+
+/// Whether an edit may be made of a model.
+fn check(alloc: Global, model: &ValidModel, edit: &Edit) -> Result<(), ModelFault>
+    requires { IsEditInRange edit.now }
+    ensures made { OnOk result (edited model.now edit.now ≡ Ok (with_edit model.now edit.now)) }
+    ensures refused { IfErr result (λ fault. (refusal : Refusal) → fault ≡ ModelFault.Refused refusal
+        → edited model.now edit.now ≡ Err refusal) }
+{
+    check_edit(alloc, model, edit)
+}
+
+/// The findings of the model that an edit makes, from those of the model that it is made of. Where each task and each
+/// chain keeps its number, only what the edit touches is asked.
+fn findings_of_edit<L: Ledger>(
+    alloc: Global,
+    old: &ValidModel,
+    findings: &Findings,
+    new: &ValidModel,
+    edit: &Edit,
+    steps: &mut Steps<L>,
+) -> Result<Findings, NoMemory>
+    requires findings { AreFindings old.now findings.now }
+    requires made { edited old.now edit.now ≡ Ok new.now }
+    ensures findings { IfOk result (AreFindings new.now) }
+    ensures steps { AsksForChanges old.now new.now steps.old steps.new }
+{
+    match touched_tasks(alloc, old, new, edit)? {
+        Some(touched) => mended(alloc, old, findings, new, &touched, steps),
+        None => findings_after(alloc, old, findings, new, steps),
     }
 }
 

@@ -53,7 +53,7 @@ fn kept_answer(
 }
 
 /// The answer for a task of the new model, which counts a step where its question is changed.
-fn answer_task<L: Ledger>(
+pub(crate) fn answer_task<L: Ledger>(
     alloc: Global,
     old: &ValidModel,
     answers: &List<TaskAnswer>,
