@@ -4,7 +4,7 @@ ghost use Rattle.cl_model.specs.Validity.{IsValid};
 ghost use Rattle.cl_runs.specs.SystemOf.{system_of};
 ghost use Rattle.cl_runs.specs.TaskTiming.{timing_at};
 ghost use Rattle.cl_resp.specs.Question.{either_question, IsQuestionInRange};
-ghost use Rattle.cl_resp.specs.Reached.{IsReached};
+ghost use Rattle.cl_resp.specs.Reached.{HasReached};
 ghost use Rattle.cl_resp.specs.Response.{response_to};
 ghost use Rattle.cl_bound.specs.declared.answer.TaskAnswer.TheVariants.{Late as LateAnswer};
 ghost use Rattle.cl_bound.specs.Answers.{answer_with};
@@ -42,9 +42,9 @@ pub fn answer_below<L: Ledger>(
     requires task { task < length model.now.tasks }
     requires question { question.now ≡ either_question own (system_of model.now) (timing_at (system_of model.now) task) }
     requires in_range { IsQuestionInRange question.now }
-    requires last { IfSome last.old (IsReached own (system_of model.now)) }
+    requires last { IfSome last.old (HasReached own (system_of model.now)) }
     ensures answer { result ≡ answer_with (response_to question.now) }
-    ensures last { IfSome last.new (IsReached own (system_of model.now)) }
+    ensures last { IfSome last.new (HasReached own (system_of model.now)) }
     ensures steps { steps.new ≡ steps.old + 1 }
 {
     match respond_below(model, task, own, question, last, steps) {

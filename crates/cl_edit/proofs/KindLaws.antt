@@ -20,7 +20,7 @@ use Rattle.cl_model.specs.Validity.{IsValid, refusals_of}
 use Rattle.cl_model.proofs.ListFacts.{same_tests}
 use Rattle.cl_edit.specs.declared.pace.Change.{Change}
 use Rattle.cl_edit.specs.declared.pace.Change.TheVariants as change
-use Rattle.cl_edit.specs.FewChecks.{names_stimulus, number_refusals, limit_refusals, kind_deadline_refusals, kind_refusals}
+use Rattle.cl_edit.specs.FewChecks.{is_on_stimulus, number_refusals, limit_refusals, kind_deadline_refusals, kind_refusals}
 use Rattle.cl_edit.specs.Inner.Paces.{is_on, IsPair, is_outpaced, pace_after, limit_checks, limits_on, all_limits_on}
 use Rattle.cl_edit.proofs.EachFacts.{each_alike}
 use Rattle.cl_edit.proofs.LimitChecks.{kind_left}
@@ -36,7 +36,7 @@ and_both a b e f = cc
 
 module _ (model : SystemModel) (valid : IsValid model) (s : ℕ) (kind : StimulusKind) (within : s < length model.stimuli) where
   one_limit : (k : ℕ) → limits_on model (change.Kind s kind) s k
-      ≡ cond (names_stimulus model s (task_at model k)) (in_order (late_check (Some kind) k (task_at model k) ∷ release_check (Some kind) k (task_at model k) ∷ [])) []
+      ≡ cond (is_on_stimulus model s (task_at model k)) (in_order (late_check (Some kind) k (task_at model k) ∷ release_check (Some kind) k (task_at model k) ∷ [])) []
   one_limit k =
       let task = task_at model k in
       let lists : StimulusKind → List Refusal = λ q. in_order (when (nat_lt (least_distance q) (unwrap_or task.deadline (least_distance q))) M32 (task_key k key.Deadline)
@@ -52,23 +52,23 @@ module _ (model : SystemModel) (valid : IsValid model) (s : ℕ) (kind : Stimulu
   -- where M42 refuses a task, it or one above it names the stimulus
   touched_pair : (k : ℕ) → k < length model.tasks
       → is_outpaced (with_kind model s (λ _. kind)) k
-      ≡ list_any (λ other. (names_stimulus model s (task_at model k) || names_stimulus model s other) && is_outpaced_by (with_kind model s (λ _. kind)) (task_at model k) other) (tasks_on (task_at model k).core model.tasks)
+      ≡ list_any (λ other. (is_on_stimulus model s (task_at model k) || is_on_stimulus model s other) && is_outpaced_by (with_kind model s (λ _. kind)) (task_at model k) other) (tasks_on (task_at model k).core model.tasks)
   touched_pair k known =
       let c : Change = change.Kind s kind in
       let new : SystemModel = with_kind model s (λ _. kind) in
       let task = task_at model k in
       let own : TaskDef → Bool = λ other. same_name task.core other.core in
       let out : TaskDef → Bool = is_outpaced_by new task in
-      let both : TaskDef → Bool = λ other. (names_stimulus model s task || names_stimulus model s other) && is_outpaced_by new task other in
+      let both : TaskDef → Bool = λ other. (is_on_stimulus model s task || is_on_stimulus model s other) && is_outpaced_by new task other in
       same_tests (list_any out (tasks_on task.core model.tasks)) (list_any both (tasks_on task.core model.tasks))
       (λ h.
       let a = among out own model.tasks no_task h in
       let pair : IsPair new k a.place = pair_of new (change_known model valid c within) k a.place known a.within a.passes ((bytes_decides task.core (task_at model a.place).core).0 a.kept) in
       any_among both own model.tasks a.place no_task a.within a.kept
-      (and_both (names_stimulus model s task || names_stimulus model s (task_at model a.place)) (out (task_at model a.place)) (pair_touched model valid c within k a.place pair) a.passes))
+      (and_both (is_on_stimulus model s task || is_on_stimulus model s (task_at model a.place)) (out (task_at model a.place)) (pair_touched model valid c within k a.place pair) a.passes))
       (λ h.
       let a = among both own model.tasks no_task h in
-      any_among out own model.tasks a.place no_task a.within a.kept (and_parts (names_stimulus model s task || names_stimulus model s (task_at model a.place)) (out (task_at model a.place)) a.passes).1)
+      any_among out own model.tasks a.place no_task a.within a.kept (and_parts (is_on_stimulus model s task || is_on_stimulus model s (task_at model a.place)) (out (task_at model a.place)) a.passes).1)
 
   deadlines_are_few : deadline_checks (with_kind model s (λ _. kind)) ≡ kind_deadline_refusals model s kind
   deadlines_are_few =

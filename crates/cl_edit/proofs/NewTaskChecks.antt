@@ -30,7 +30,7 @@ use Rattle.cl_edit.specs.declared.edit.Edit.TheVariants.{AddTask}
 use Rattle.cl_model.specs.Changes.{with_new_task}
 use Rattle.cl_edit.specs.Edited.{edit_checks}
 use Rattle.cl_edit.specs.FewListChecks.{new_task_name_check, new_runnables_check, below_new_check, new_task_checks}
-use Rattle.cl_edit.specs.Inner.NewTasks.{added_naming_checks, added_checks, all_checks, outpaced_by, is_below}
+use Rattle.cl_edit.specs.Inner.NewTasks.{added_naming_checks, added_checks, all_checks, outpaced_by, is_task_below}
 use Rattle.cl_edit.proofs.TaskAdded.{checks_among, checks_are, or_none}
 use Rattle.cl_edit.proofs.TaskLists.{list_any-filter}
 
@@ -67,13 +67,13 @@ module _ (model : SystemModel) (task : TaskDef) where
       and_false true = refl
       and_false false = refl
 
-  pub deadline_is : deadline_check (with_new_task model task) (length model.tasks) task ≡ when (list_any (is_below model task) model.tasks) M42 (task_key (length model.tasks) key.Deadline)
+  pub deadline_is : deadline_check (with_new_task model task) (length model.tasks) task ≡ when (list_any (is_task_below model task) model.tasks) M42 (task_key (length model.tasks) key.Deadline)
   deadline_is =
       let outpaced : TaskDef → Bool = is_outpaced_by model task in
       let on_core : TaskDef → Bool = λ other. same_name task.core other.core in
       ap (λ b. when b M42 (task_key (length model.tasks) key.Deadline))
-      (list_any-filter outpaced on_core (model.tasks ++ task ∷ []) ∙ list_any-append (is_below model task) model.tasks (task ∷ [])
-      ∙ ap (λ b. list_any (is_below model task) model.tasks || (b || false)) (own_none _) ∙ or_none (list_any (is_below model task) model.tasks))
+      (list_any-filter outpaced on_core (model.tasks ++ task ∷ []) ∙ list_any-append (is_task_below model task) model.tasks (task ∷ [])
+      ∙ ap (λ b. list_any (is_task_below model task) model.tasks || (b || false)) (own_none _) ∙ or_none (list_any (is_task_below model task) model.tasks))
 
 and_both : (a b c : Bool) → ((a && b) && c) ≡ (a && (b && c))
 and_both true b c = refl
@@ -81,7 +81,7 @@ and_both false b c = refl
 
 -- where these are what is known of both stimuli
 pub outpaced_is : (model : SystemModel) (task other : TaskDef) (kind other_kind : Option StimulusKind) → kind ≡ kind_named model task.stimulus → other_kind ≡ kind_named model other.stimulus
-    → outpaced_by task kind other other_kind ≡ is_below model task other
+    → outpaced_by task kind other other_kind ≡ is_task_below model task other
 outpaced_is model task other kind other_kind is other_is =
     let spans : Option StimulusKind → Option StimulusKind → Bool = λ one two. is_some_and one (λ k. is_some_and two (spans_too_many (deadline_under k task))) in
     and_both (same_name task.core other.core) (nat_lt task.priority other.priority) (spans kind other_kind)
@@ -116,11 +116,11 @@ few_counted model valid = let few = few_runnables model valid in omega (arith, s
 
 -- what is asked of a new task of number i
 pub deadline_asked : (model : SystemModel) (task : TaskDef) (i : ℕ) (late : Bool) (place : Place) (tasks : List TaskDef) → i ≡ length model.tasks → tasks ≡ model.tasks
-    → late ≡ list_any (is_below model task) tasks → place ≡ task_key i key.Deadline → when late M42 place ≡ deadline_check (with_new_task model task) i task
+    → late ≡ list_any (is_task_below model task) tasks → place ≡ task_key i key.Deadline → when late M42 place ≡ deadline_check (with_new_task model task) i task
 deadline_asked model task i late place tasks i_is same asked here =
     subst (λ (k : ℕ). when late M42 place ≡ deadline_check (with_new_task model task) k task) (sym i_is)
-    (ap (λ b. when b M42 place) (asked ∙ ap (list_any (is_below model task)) same)
-    ∙ ap (when (list_any (is_below model task) model.tasks) M42) (here ∙ ap (λ (k : ℕ). task_key k key.Deadline) i_is)
+    (ap (λ b. when b M42 place) (asked ∙ ap (list_any (is_task_below model task)) same)
+    ∙ ap (when (list_any (is_task_below model task) model.tasks) M42) (here ∙ ap (λ (k : ℕ). task_key k key.Deadline) i_is)
     ∙ sym (deadline_is model task))
 
 -- ---- the whole task

@@ -19,7 +19,7 @@ use Rattle.cl_model.specs.Validity.{IsValid}
 use Rattle.cl_model.proofs.NamePlaces.{known_named}
 use Rattle.cl_model.proofs.NamesKnown.{core_known, stimulus_known}
 use Rattle.cl_model.proofs.Refused.{when_none}
-use Rattle.cl_edit.specs.Inner.Paces.{pace_of, outpaces, IsPair, is_outpaced, IsOutpaced}
+use Rattle.cl_edit.specs.Inner.Paces.{pace_of, is_outpacing, IsPair, is_outpaced, IsOutpaced}
 use Rattle.cl_edit.proofs.EachFacts.{each_nothing}
 use Rattle.cl_edit.proofs.TaskChecks.{deadline_none}
 
@@ -92,7 +92,7 @@ some_test (Some kind) test h = refl
 
 module _ (model : SystemModel) (known : IsKnown model) where
   -- what M42 asks of two tasks
-  asked : (k j : ℕ) → k < length model.tasks → j < length model.tasks → is_outpaced_by model (task_at model k) (task_at model j) ≡ outpaces (pace_of model k) (pace_of model j)
+  asked : (k j : ℕ) → k < length model.tasks → j < length model.tasks → is_outpaced_by model (task_at model k) (task_at model j) ≡ is_outpacing (pace_of model k) (pace_of model j)
   asked k j hk hj =
       let task = task_at model k in
       let other = task_at model j in

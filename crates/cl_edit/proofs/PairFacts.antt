@@ -20,7 +20,7 @@ use Rattle.cl_model.proofs.NamesKnown.{core_known}
 use Rattle.cl_edit.specs.declared.pace.Change.{Change}
 use Rattle.cl_edit.specs.declared.pace.Change.TheVariants as change
 use Rattle.cl_edit.specs.declared.pace.Pace.{Pace}
-use Rattle.cl_edit.specs.Inner.Paces.{with_change, IsChangeOf, is_on, is_touched, priority_after, kind_after, given_after, core_after, pace_after, pace_of, outpaces, IsPair, is_outpaced, noted, IsAtMost, IsOutpaced, HasSeen, HasOthers}
+use Rattle.cl_edit.specs.Inner.Paces.{with_change, IsChangeOf, is_on, is_touched, priority_after, kind_after, given_after, core_after, pace_after, pace_of, is_outpacing, IsPair, is_outpaced, noted, IsAtMost, IsOutpaced, HasSeen, HasOthers}
 use Rattle.cl_edit.proofs.BareModels.{at_same}
 use Rattle.cl_edit.proofs.ChangedTasks.{set_at, kind_known, kind_after_change}
 use Rattle.cl_edit.proofs.OutpacedTasks.{IsKnown, pair_refused, refused_pair, no_pair}
@@ -202,10 +202,10 @@ pub record PairNoted (model : SystemModel) (first last : Option ℕ) (k j : ℕ)
   pub seen : HasSeen model last k j
 
 pub pair_noted : (model : SystemModel) (known : IsKnown model) (first : Option ℕ) (k j : ℕ) → k < length model.tasks → j < length model.tasks → core_of model k ≡ core_of model j → IsOutpaced model first
-    → PairNoted model first (noted (noted first (outpaces (pace_of model k) (pace_of model j)) k) (outpaces (pace_of model j) (pace_of model k)) j) k j
+    → PairNoted model first (noted (noted first (is_outpacing (pace_of model k) (pace_of model j)) k) (is_outpacing (pace_of model j) (pace_of model k)) j) k j
 pair_noted model known first k j hk hj core is =
-    let below = outpaces (pace_of model k) (pace_of model j) in
-    let above = outpaces (pace_of model j) (pace_of model k) in
+    let below = is_outpacing (pace_of model k) (pace_of model j) in
+    let above = is_outpacing (pace_of model j) (pace_of model k) in
     let mid = noted first below k in
     record {
       sound = outpaced_more model mid above j (outpaced_more model first below k is hk (λ e. pair_refused model known k j (record { below = hk; above = hj; core = core; outpaces = e }))) hj
@@ -281,7 +281,7 @@ pair_touched model valid c is k j pair =
           above = hj;
           core = sym (core_stays model valid k hk c e) ∙ sym (core_is model valid k hk c is) ∙ pair.core ∙ core_is model valid j hj c is ∙ core_stays model valid j hj c f;
           outpaces = ap (λ p. outpaces p (pace_of model j)) (sym (pace_stays model valid k hk c e) ∙ sym (pace_is model valid k hk c is))
-              ∙ ap (outpaces (pace_of new k)) (sym (pace_stays model valid j hj c f) ∙ sym (pace_is model valid j hj c is)) ∙ pair.outpaces;
+              ∙ ap (is_outpacing (pace_of new k)) (sym (pace_stays model valid j hj c f) ∙ sym (pace_is model valid j hj c is)) ∙ pair.outpaces;
         }))
       ] refl
     ] refl
@@ -308,9 +308,9 @@ of_pair model valid c is first mid last task other own its below above ht ho own
     let new = with_change model c in
     let p : own ≡ pace_of new task = own_is ∙ sym (pace_is model valid task ht c is) in
     let q : its ≡ pace_of new other = its_is ∙ sym (pace_is model valid other ho c is) in
-    let e : last ≡ noted (noted first (outpaces (pace_of new task) (pace_of new other)) task) (outpaces (pace_of new other) (pace_of new task)) other
-    = last_is ∙ ap (λ m. noted m above other) (mid_is ∙ ap (λ b. noted first b task) (below_is ∙ ap (λ x. outpaces x its) p ∙ ap (outpaces (pace_of new task)) q))
-    ∙ ap (λ b. noted (noted first (outpaces (pace_of new task) (pace_of new other)) task) b other) (above_is ∙ ap (λ x. outpaces x own) q ∙ ap (outpaces (pace_of new other)) p) in
+    let e : last ≡ noted (noted first (is_outpacing (pace_of new task) (pace_of new other)) task) (is_outpacing (pace_of new other) (pace_of new task)) other
+    = last_is ∙ ap (λ m. noted m above other) (mid_is ∙ ap (λ b. noted first b task) (below_is ∙ ap (λ x. outpaces x its) p ∙ ap (is_outpacing (pace_of new task)) q))
+    ∙ ap (λ b. noted (noted first (is_outpacing (pace_of new task) (pace_of new other)) task) b other) (above_is ∙ ap (λ x. outpaces x own) q ∙ ap (is_outpacing (pace_of new other)) p) in
     subst (λ l. PairNoted new first l task other) (sym e)
     (pair_noted new (change_known model valid c is) first task other (omega (arith, ht, tasks_kept model c)) (omega (arith, ho, tasks_kept model c)) core sound)
 

@@ -21,7 +21,8 @@ use Rattle.cl_model.specs.Named.{same_name, has_name, index_of, core_names, stim
 use Rattle.cl_model.specs.Place.{entry_of, at_key, at_sub}
 use Rattle.cl_model.specs.Refusals.{when, unless, in_order, each}
 use Rattle.cl_model.specs.ValidNames.{name_checks, stimulus_checks}
-use Rattle.cl_model.specs.ValidTasks.{task_key, core_check, stimulus_check, priority_check, late_check, release_check, room_check, empty_check, naming_checks, times_check, reads_check, writes_check, twice_check, contest_check, runnable_checks, body_check, body_checks, count_check, task_check, task_checks, spans_too_many, is_outpaced_by, deadline_check, deadline_checks}
+use Rattle.cl_model.specs.ValidTasks.{task_key, core_check, stimulus_check, priority_check, late_check, release_check, room_check, empty_check, naming_checks, times_check, reads_check, writes_check}
+use Rattle.cl_model.specs.ValidTasks.{twice_check, contest_check, runnable_checks, body_check, body_checks, count_check, task_check, task_checks, spans_too_many, is_outpaced_by, deadline_check, deadline_checks}
 use Rattle.cl_model.specs.Timing.{deadline_under}
 use Rattle.cl_model.specs.Validity.{IsValid, refusals_of, chain_check, requirement_check}
 use Rattle.cl_model.proofs.NoRefusals.{all_none}

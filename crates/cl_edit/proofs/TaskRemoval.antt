@@ -19,7 +19,8 @@ use Rattle.cl_model.specs.Named.{same_name, has_name, core_names, label_names, t
 use Rattle.cl_model.specs.Place.{entry_of, at_key, at_sub, at_spot}
 use Rattle.cl_model.specs.Refusals.{each}
 use Rattle.cl_model.specs.ValidNames.{section_repeats, repeat_check, runnable_repeats, stimulus_checks, name_checks}
-use Rattle.cl_model.specs.ValidTasks.{core_check, stimulus_check, priority_check, late_check, release_check, room_check, empty_check, naming_checks, label_check, writer_check, times_check, reads_check, writes_check, twice_check, contest_check, runnable_checks, body_check, body_checks, count_check, task_check, task_checks, is_outpaced_by, deadline_check, deadline_checks}
+use Rattle.cl_model.specs.ValidTasks.{core_check, stimulus_check, priority_check, late_check, release_check, room_check, empty_check, naming_checks, label_check, writer_check, times_check, reads_check}
+use Rattle.cl_model.specs.ValidTasks.{writes_check, twice_check, contest_check, runnable_checks, body_check, body_checks, count_check, task_check, task_checks, is_outpaced_by, deadline_check, deadline_checks}
 use Rattle.cl_model.specs.Validity.{IsValid, refusals_of}
 use Rattle.cl_model.proofs.NamePlaces.{found_below, known_place}
 use Rattle.cl_model.proofs.NamesApart.{tasks_apart, runnables_pass}

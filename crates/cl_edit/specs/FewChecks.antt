@@ -40,19 +40,19 @@ number_refusals s kind =
     ∷ [])
 
 -- whether a task names stimulus s
-abbrev pub names_stimulus : SystemModel → (s : ℕ) → TaskDef → Bool
-names_stimulus model s task = same_name task.stimulus (stimulus_at model s).name
+abbrev pub is_on_stimulus : SystemModel → (s : ℕ) → TaskDef → Bool
+is_on_stimulus model s task = same_name task.stimulus (stimulus_at model s).name
 
 -- for each task that names it, the deadline doesn't exceed the least distance and lies past the jitter
 abbrev pub limit_refusals : SystemModel → (s : ℕ) → StimulusKind → List Refusal
 limit_refusals model s kind =
-    each (λ i task. if names_stimulus model s task then in_order (late_check (Some kind) i task ∷ release_check (Some kind) i task ∷ []) else []) model.tasks
+    each (λ i task. if is_on_stimulus model s task then in_order (late_check (Some kind) i task ∷ release_check (Some kind) i task ∷ []) else []) model.tasks
 
 -- no deadline spans too many distances of a task above, where one of the two names it
 abbrev pub kind_deadline_refusals : SystemModel → (s : ℕ) → StimulusKind → List Refusal
 kind_deadline_refusals model s kind =
     let changed = with_kind model s (λ _. kind) in
-    each (λ i task. when (list_any (λ other. (names_stimulus model s task || names_stimulus model s other) && is_outpaced_by changed task other) (tasks_on task.core model.tasks)) M42 (task_key i key.Deadline)) model.tasks
+    each (λ i task. when (list_any (λ other. (is_on_stimulus model s task || is_on_stimulus model s other) && is_outpaced_by changed task other) (tasks_on task.core model.tasks)) M42 (task_key i key.Deadline)) model.tasks
 
 -- another kind of stimulus s
 abbrev pub kind_refusals : SystemModel → (s : ℕ) → StimulusKind → List Refusal

@@ -14,7 +14,7 @@ ghost use Rattle.cl_edit.specs.declared.edit.Edit.TheVariants as edits;
 ghost use Rattle.cl_model.specs.Changes.{with_new_task};
 ghost use Rattle.cl_edit.specs.Edited.{all_names, edit_checks, with_edit};
 ghost use Rattle.cl_edit.specs.FewListChecks.{new_task_name_check, new_runnables_check, below_new_check, new_task_checks};
-ghost use Rattle.cl_edit.specs.Inner.NewTasks.{added_naming_checks, added_count_check, added_checks, all_checks, outpaced_by, is_below};
+ghost use Rattle.cl_edit.specs.Inner.NewTasks.{added_naming_checks, added_count_check, added_checks, all_checks, outpaced_by, is_task_below};
 
 use crate::check_lists::{entry_of, step_named};
 use crate::find::found;

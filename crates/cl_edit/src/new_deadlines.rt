@@ -9,7 +9,7 @@ ghost use Rattle.cl_model.specs.Timing.{deadline_under};
 ghost use Rattle.cl_model.specs.ValidTasks.{spans_too_many, deadline_check};
 ghost use Rattle.cl_model.specs.Validity.{IsValid};
 ghost use Rattle.cl_edit.specs.FewListChecks.{below_new_check};
-ghost use Rattle.cl_edit.specs.Inner.NewTasks.{outpaced_by, is_below};
+ghost use Rattle.cl_edit.specs.Inner.NewTasks.{outpaced_by, is_task_below};
 
 use crate::check_new_task::task_key;
 use cl_model::{
@@ -104,7 +104,7 @@ fn is_above(
     requires item { i < 2 ^ 32 }
     requires task { slice_get model.now.tasks i ≡ Some task.now }
     requires kind { kind ≡ kind_named model.now new.now.stimulus }
-    ensures { result ≡ is_below model.now new.now task.now }
+    ensures { result ≡ is_task_below model.now new.now task.now }
 {
     is_outpaced_by(new, kind, task, Some(model.stimulus_of(i as u32)))
 }
@@ -115,7 +115,7 @@ fn is_late(model: &ValidModel, new: &TaskDef, kind: Option<StimulusKind>, tasks:
     requires tasks { tasks.now ≡ model.now.tasks }
     requires count { length tasks.now < 2 ^ 32 }
     requires kind { kind ≡ kind_named model.now new.now.stimulus }
-    ensures { result ≡ list_any (is_below model.now new.now) tasks.now }
+    ensures { result ≡ list_any (is_task_below model.now new.now) tasks.now }
 {
     for (i, task) in tasks.iter().enumerate() {
         if is_above(model, new, kind, i, task) {

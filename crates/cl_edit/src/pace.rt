@@ -4,7 +4,7 @@ ghost use Rattle.cl_model.specs.Answers.{Answers, Passes};
 ghost use Rattle.cl_model.specs.ByNumber.{core_of};
 ghost use Rattle.cl_model.specs.ValidTasks.{deadline_checks};
 ghost use Rattle.cl_model.specs.Validity.{IsValid};
-ghost use Rattle.cl_edit.specs.Inner.Paces.{with_change, IsChangeOf, is_on, outpaces, least_of, noted, IsAtMost, IsOutpaced, HasSeen, limit_checks, limits_on, all_limits_on, priority_after, kind_after, given_after, core_after, pace_after, is_outpaced, HasOthers};
+ghost use Rattle.cl_edit.specs.Inner.Paces.{with_change, IsChangeOf, is_on, is_outpacing, least_of, noted, IsAtMost, IsOutpaced, HasSeen, limit_checks, limits_on, all_limits_on, priority_after, kind_after, given_after, core_after, pace_after, is_outpaced, HasOthers};
 
 use crate::check_sets::task_key;
 use cl_model::{Code, Key, ModelFault, StimulusKind, ValidModel, refuse_when};
@@ -41,7 +41,7 @@ pub(crate) fn is_on(model: &ValidModel, stimulus: u32, task: u32) -> bool
 }
 
 fn outpaces(task: Pace, other: Pace) -> bool
-    ensures { result ≡ outpaces task other }
+    ensures { result ≡ is_outpacing task other }
 {
     task.priority < other.priority && spans_too_many(task.deadline, other.kind)
 }

@@ -13,7 +13,7 @@ use Rattle.cl_stim.specs.Releases.{most_releases}
 use Rattle.cl_resp.specs.declared.question.Above.{Above}
 use Rattle.cl_resp.specs.declared.question.Question.{Question}
 use Rattle.cl_resp.specs.Response.{demand}
-use Rattle.cl_resp.specs.Inner.Rising.{taken_in, AreKept}
+use Rattle.cl_resp.specs.Inner.Rising.{taken_in, AreTaken}
 
 -- a task above takes the same of each window between two that release as many
 pub takes_between : (above : Above) (narrow wide width : ℕ) → most_releases (kind_of above.stimulus) wide ≡ most_releases (kind_of above.stimulus) narrow
@@ -24,9 +24,9 @@ takes_between above narrow wide width as_many from until =
     omega (arith, as_many, most_rises kind narrow width from, most_rises kind width wide until) in
     ap (λ n. n * above.time) same
 
-module _ (above : List Above) (ticks until : List ℕ) (from : ℕ) (kept : AreKept above ticks until from) where
+module _ (above : List Above) (ticks until : List ℕ) (from : ℕ) (kept : AreTaken above ticks until from) where
   -- of wider windows
-  pub kept_wider : (wider : ℕ) → from ≤ wider → AreKept above ticks until wider
+  pub kept_wider : (wider : ℕ) → from ≤ wider → AreTaken above ticks until wider
   kept_wider wider le = record {
     takes = λ k d known width low high. kept.takes k d known width (omega (arith, le, low)) high;
     few = kept.few;
@@ -35,7 +35,7 @@ module _ (above : List Above) (ticks until : List ℕ) (from : ℕ) (kept : AreK
   -- with what one of them takes counted anew
   pub kept_anew : (place : ℕ) (e : Above) (taken widest : ℕ) → place < length ticks → place < length until → taken ≤ MOST_TICKS
       → ((d : Above) (width : ℕ) → from ≤ width → width ≤ widest → taken_in (get_or above place d) width ≡ taken)
-      → AreKept above (set ticks place taken) (set until place widest) from
+      → AreTaken above (set ticks place taken) (set until place widest) from
   kept_anew place e taken widest in_ticks in_until small takes = record {
     takes = λ k d known width low high. elim (cases_eq k place) [
       | inl same ↦ ap (λ n. taken_in (get_or above n d) width) same
@@ -52,7 +52,7 @@ module _ (above : List Above) (ticks until : List ℕ) (from : ℕ) (kept : AreK
 
   -- so that it takes that of the window
   pub record IsCountedAnew (place : ℕ) (item : Above) (new_ticks new_until : List ℕ) : Type 0 where
-    pub still : AreKept above new_ticks new_until from
+    pub still : AreTaken above new_ticks new_until from
     pub here : slice_index new_ticks place ≡ taken_in item from
 
   pub counted_anew : (place taken widest : ℕ) (item : Above) (new_ticks new_until : List ℕ) → place < length ticks → place < length until → place < length above
@@ -60,7 +60,7 @@ module _ (above : List Above) (ticks until : List ℕ) (from : ℕ) (kept : AreK
       → from ≤ widest → most_releases (kind_of item.stimulus) widest ≡ most_releases (kind_of item.stimulus) from
       → new_ticks ≡ set ticks place taken → new_until ≡ set until place widest → IsCountedAnew place item new_ticks new_until
   counted_anew place taken widest item new_ticks new_until in_ticks in_until known is takes small wide as_many ticks_are until_are = record {
-    still = subst (λ (l : List ℕ). AreKept above l new_until from) (sym ticks_are) (subst (λ (l : List ℕ). AreKept above (set ticks place taken) l from) (sym until_are)
+    still = subst (λ (l : List ℕ). AreTaken above l new_until from) (sym ticks_are) (subst (λ (l : List ℕ). AreTaken above (set ticks place taken) l from) (sym until_are)
         (kept_anew place item taken widest in_ticks in_until small
         (λ d width low high. ap (λ (a : Above). taken_in a width) (get_or_default above place d item known ∙ sym is) ∙ takes_between item from widest width as_many low high ∙ sym takes)));
     here = ap (λ (l : List ℕ). get_or l place 0) ticks_are ∙ get_or-set_at ticks place place taken 0 refl in_ticks ∙ takes;
@@ -70,12 +70,12 @@ module _ (above : List Above) (ticks until : List ℕ) (from : ℕ) (kept : AreK
   pub counted_before : (place : ℕ) (item : Above) (new_ticks new_until : List ℕ) → place < length above → item ≡ get_or above place item
       → from ≤ slice_index until place → new_ticks ≡ ticks → new_until ≡ until → IsCountedAnew place item new_ticks new_until
   counted_before place item new_ticks new_until known is wide ticks_are until_are = record {
-    still = subst (λ (l : List ℕ). AreKept above l new_until from) (sym ticks_are) (subst (λ (l : List ℕ). AreKept above ticks l from) (sym until_are) kept);
+    still = subst (λ (l : List ℕ). AreTaken above l new_until from) (sym ticks_are) (subst (λ (l : List ℕ). AreTaken above ticks l from) (sym until_are) kept);
     here = ap (λ (l : List ℕ). get_or l place 0) ticks_are ∙ sym (kept.takes place item known from (omega arith) wide) ∙ ap (λ (a : Above). taken_in a from) (sym is);
   }
 
 -- at first nothing is
-pub none_kept : (above : List Above) (n from : ℕ) → 1 ≤ from → AreKept above (replicate n 0) (replicate n 0) from
+pub none_kept : (above : List Above) (n from : ℕ) → 1 ≤ from → AreTaken above (replicate n 0) (replicate n 0) from
 none_kept above n from some = record {
   takes = λ k d known width low high. absurd (omega (arith, some, low, high, zeros k));
   few = λ k. omega (arith, zeros k);

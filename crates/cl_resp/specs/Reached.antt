@@ -6,7 +6,7 @@ use Rattle.cl_resp.specs.Question.{either_question}
 use Rattle.cl_resp.specs.Response.{NoneServesBelow}
 
 -- no width below what was reached holds the demand of the question of its task, which is blocked for so long
-pub record IsReached (own : Bool) (system : System) (reached : Reached) : Type 0 where
+pub record HasReached (own : Bool) (system : System) (reached : Reached) : Type 0 where
   pub is_task : reached.task < length system.tasks
   pub block : reached.block ≡ (either_question own system (timing_at system reached.task)).block
   pub none : NoneServesBelow (either_question own system (timing_at system reached.task)) reached.width

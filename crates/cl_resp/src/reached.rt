@@ -6,7 +6,7 @@ ghost use Rattle.cl_runs.specs.SystemOf.{system_of};
 ghost use Rattle.cl_runs.specs.TaskTiming.{timing_at};
 ghost use Rattle.cl_resp.specs.Promises.{AnswersFor};
 ghost use Rattle.cl_resp.specs.Question.{is_above, either_question, IsQuestionInRange};
-ghost use Rattle.cl_resp.specs.Reached.{IsReached};
+ghost use Rattle.cl_resp.specs.Reached.{HasReached};
 ghost use Rattle.cl_resp.specs.Response.{response_to, NoneServesBelow};
 
 use crate::answering::respond_from;
@@ -40,12 +40,12 @@ pub fn respond_below<L: Ledger>(
     requires task { task < length model.now.tasks }
     requires question { question.now ≡ either_question own (system_of model.now) (timing_at (system_of model.now) task) }
     requires in_range { IsQuestionInRange question.now }
-    requires last { IfSome last.old (IsReached own (system_of model.now)) }
+    requires last { IfSome last.old (HasReached own (system_of model.now)) }
     ensures response { MatchResult result
         (λ settled. response_to question.now ≡ Some settled)
         (λ _. response_to question.now ≡ None) }
     ensures finishing { IfOk result (λ settled. AnswersFor question.now settled.response) }
-    ensures last { IfSome last.new (IsReached own (system_of model.now)) }
+    ensures last { IfSome last.new (HasReached own (system_of model.now)) }
     ensures steps { steps.new ≡ steps.old + 1 }
 {
     let answer = respond_from(question, start_of(model, task, own, question, *last), steps);
@@ -90,7 +90,7 @@ fn start_of(
     requires task { task < length model.now.tasks }
     requires question { question.now ≡ either_question own (system_of model.now) (timing_at (system_of model.now) task) }
     requires in_range { IsQuestionInRange question.now }
-    requires last { IfSome last (IsReached own (system_of model.now)) }
+    requires last { IfSome last (HasReached own (system_of model.now)) }
     ensures { NoneServesBelow question.now result }
 {
     let Some(last) = last else {

@@ -3,7 +3,7 @@ ghost use Rattle.std.specs.Prelude.{◌≡◌, ℕ, ◌<◌, ◌≤◌, List, Ma
 ghost use Rattle.cl_resp.specs.declared.question.Above.{Above};
 ghost use Rattle.cl_resp.specs.Question.{IsQuestionInRange};
 ghost use Rattle.cl_resp.specs.Response.{demand};
-ghost use Rattle.cl_resp.specs.Inner.Rising.{AreKept};
+ghost use Rattle.cl_resp.specs.Inner.Rising.{AreTaken};
 
 use crate::answering::taken;
 use crate::question::Question;
@@ -20,7 +20,7 @@ pub(crate) struct Rising {
 
 impl Rising {
     pub(crate) fn new() -> Rising
-        ensures { (above : List Above) (from : ℕ) → 1 ≤ from → AreKept above result.ticks result.until from }
+        ensures { (above : List Above) (from : ℕ) → 1 ≤ from → AreTaken above result.ticks result.until from }
     {
         Rising {
             ticks: [0; MOST_TASKS_OF_CORE],
@@ -34,11 +34,11 @@ impl Rising {
         requires in_range { IsQuestionInRange question.now }
         requires width { width ≤ end }
         requires end { end ≤ MOST_TICKS }
-        requires kept { AreKept question.now.above self.old.ticks self.old.until width }
+        requires kept { AreTaken question.now.above self.old.ticks self.old.until width }
         ensures demand { MatchOption result
             (end < demand question.now width)
             (λ needed. needed ≡ demand question.now width) }
-        ensures kept { AreKept question.now.above self.new.ticks self.new.until width }
+        ensures kept { AreTaken question.now.above self.new.ticks self.new.until width }
     {
         let mut needed = question.block + question.time;
         for (place, above) in question.above.as_slice().iter().enumerate() {

@@ -53,8 +53,8 @@ outpaced_by task kind other other_kind =
     && is_some_and kind (λ kind. is_some_and other_kind (spans_too_many (deadline_under kind task)))
 
 -- the same, by the model
-abbrev pub is_below : SystemModel → TaskDef → TaskDef → Bool
-is_below model task other = same_name task.core other.core && is_outpaced_by model task other
+abbrev pub is_task_below : SystemModel → TaskDef → TaskDef → Bool
+is_task_below model task other = same_name task.core other.core && is_outpaced_by model task other
 
 -- ---- all together
 

@@ -84,15 +84,15 @@ abbrev pub pace_of : SystemModel → (k : ℕ) → Pace
 pace_of model k = record { priority = (task_at model k).priority; deadline = deadline_of model k; kind = stimulus_of model k }
 
 -- whether a deadline spans too many least distances of a task above
-abbrev pub outpaces : Pace → Pace → Bool
-outpaces task other = nat_lt task.priority other.priority && spans_too_many task.deadline other.kind
+abbrev pub is_outpacing : Pace → Pace → Bool
+is_outpacing task other = nat_lt task.priority other.priority && spans_too_many task.deadline other.kind
 
 -- task j of the core of task k outpaces it
 pub record IsPair (model : SystemModel) (k j : ℕ) : Type 0 where
   pub below : k < length model.tasks
   pub above : j < length model.tasks
   pub core : core_of model k ≡ core_of model j
-  pub outpaces : outpaces (pace_of model k) (pace_of model j) ≡ true
+  pub outpaces : is_outpacing (pace_of model k) (pace_of model j) ≡ true
 
 -- whether M42 refuses task k
 abbrev pub is_outpaced : SystemModel → (k : ℕ) → Bool

@@ -11,7 +11,7 @@ taken_in above width = most_releases (kind_of above.stimulus) width * above.time
 
 -- each of the tasks above takes what is kept of it, of any window no narrower than `from` and as wide as is kept of it
 -- at most, and that is few ticks
-pub record AreKept (above : List Above) (ticks until : List ℕ) (from : ℕ) : Type 0 where
+pub record AreTaken (above : List Above) (ticks until : List ℕ) (from : ℕ) : Type 0 where
   pub takes : (k : ℕ) (d : Above) → k < length above → (width : ℕ) → from ≤ width → width ≤ slice_index until k
       → taken_in (slice_index_or above k d) width ≡ slice_index ticks k
   pub few : (k : ℕ) → slice_index ticks k ≤ MOST_TICKS

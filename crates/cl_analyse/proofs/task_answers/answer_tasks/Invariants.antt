@@ -3,7 +3,7 @@ use Rattle.std.specs.Prelude.{IfSome}
 use Rattle.cl_runs.specs.SystemOf.{system_of}
 use Rattle.cl_runs.specs.TaskTiming.{Timing}
 use Rattle.cl_resp.specs.Question.{either_question}
-use Rattle.cl_resp.specs.Reached.{IsReached}
+use Rattle.cl_resp.specs.Reached.{HasReached}
 use Rattle.cl_resp.specs.Response.{response_to}
 use Rattle.cl_bound.specs.Answers.{answer_with}
 use Rattle.cl_analyse.proofs.TaskAnswers.{AreAnswered}
@@ -13,6 +13,6 @@ use Rattle.cl_analyse.proofs.task_answers.answer_tasks.Given as goal
 abbrev pub invariant-loop-task : goal.invariant-loop-task
 invariant-loop-task g l = record {
   answered : AreAnswered (λ (timing : Timing). answer_with (response_to (either_question l.own (system_of l.model) timing))) (system_of l.model).tasks l.task-items l.task-index l.answers;
-  last : IfSome l.last (IsReached l.own (system_of l.model));
+  last : IfSome l.last (HasReached l.own (system_of l.model));
   steps : l.steps ≤ l.initial.steps + l.task-index;
 }
