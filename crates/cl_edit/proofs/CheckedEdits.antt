@@ -45,6 +45,10 @@ module _ (model : SystemModel) (edit : Edit) where
   unfolding edited
   refused_where_fault refusal is = refused_where_first checks_of_edit (with_edit model edit) refusal is
 
+  pub gives_where_fault : (fault : ModelFault) → IsFaultOf checks_of_edit fault → Gives (Err fault) (edited model edit)
+  gives_where_fault (Refused refusal) is = refused_where_fault refusal is
+  gives_where_fault NoMemory is = is
+
   -- the answer that follows
   pub passed_result : (result : Result (Unit {0}) ModelFault) (changed : SystemModel) → result ≡ Ok tt → edited model edit ≡ Ok changed
       → Passes result checks_of_edit

@@ -280,7 +280,7 @@ pair_touched model valid c is k j pair =
           below = hk;
           above = hj;
           core = sym (core_stays model valid k hk c e) ∙ sym (core_is model valid k hk c is) ∙ pair.core ∙ core_is model valid j hj c is ∙ core_stays model valid j hj c f;
-          outpaces = ap (λ p. outpaces p (pace_of model j)) (sym (pace_stays model valid k hk c e) ∙ sym (pace_is model valid k hk c is))
+          outpaces = ap (λ p. is_outpacing p (pace_of model j)) (sym (pace_stays model valid k hk c e) ∙ sym (pace_is model valid k hk c is))
               ∙ ap (is_outpacing (pace_of new k)) (sym (pace_stays model valid j hj c f) ∙ sym (pace_is model valid j hj c is)) ∙ pair.outpaces;
         }))
       ] refl
@@ -301,16 +301,16 @@ least_of_all model valid c is first seen k lt outpaced =
 
 -- one more pair
 pub of_pair : (model : SystemModel) → IsValid model → (c : Change) → IsChangeOf model c → (first mid last : Option ℕ) (task other : ℕ) (own its : Pace) (below above : Bool)
-    → task < length model.tasks → other < length model.tasks → own ≡ pace_after model c task → its ≡ pace_after model c other → below ≡ outpaces own its → mid ≡ noted first below task
-    → above ≡ outpaces its own → last ≡ noted mid above other → core_of (with_change model c) task ≡ core_of (with_change model c) other → IsOutpaced (with_change model c) first
+    → task < length model.tasks → other < length model.tasks → own ≡ pace_after model c task → its ≡ pace_after model c other → below ≡ is_outpacing own its → mid ≡ noted first below task
+    → above ≡ is_outpacing its own → last ≡ noted mid above other → core_of (with_change model c) task ≡ core_of (with_change model c) other → IsOutpaced (with_change model c) first
     → PairNoted (with_change model c) first last task other
 of_pair model valid c is first mid last task other own its below above ht ho own_is its_is below_is mid_is above_is last_is core sound =
     let new = with_change model c in
     let p : own ≡ pace_of new task = own_is ∙ sym (pace_is model valid task ht c is) in
     let q : its ≡ pace_of new other = its_is ∙ sym (pace_is model valid other ho c is) in
     let e : last ≡ noted (noted first (is_outpacing (pace_of new task) (pace_of new other)) task) (is_outpacing (pace_of new other) (pace_of new task)) other
-    = last_is ∙ ap (λ m. noted m above other) (mid_is ∙ ap (λ b. noted first b task) (below_is ∙ ap (λ x. outpaces x its) p ∙ ap (is_outpacing (pace_of new task)) q))
-    ∙ ap (λ b. noted (noted first (is_outpacing (pace_of new task) (pace_of new other)) task) b other) (above_is ∙ ap (λ x. outpaces x own) q ∙ ap (is_outpacing (pace_of new other)) p) in
+    = last_is ∙ ap (λ m. noted m above other) (mid_is ∙ ap (λ b. noted first b task) (below_is ∙ ap (λ x. is_outpacing x its) p ∙ ap (is_outpacing (pace_of new task)) q))
+    ∙ ap (λ b. noted (noted first (is_outpacing (pace_of new task) (pace_of new other)) task) b other) (above_is ∙ ap (λ x. is_outpacing x own) q ∙ ap (is_outpacing (pace_of new other)) p) in
     subst (λ l. PairNoted new first l task other) (sym e)
     (pair_noted new (change_known model valid c is) first task other (omega (arith, ht, tasks_kept model c)) (omega (arith, ho, tasks_kept model c)) core sound)
 

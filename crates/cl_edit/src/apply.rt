@@ -240,6 +240,17 @@ pub(crate) fn apply_checked(
     }
 }
 
+/// The valid model that an edit makes of another, by few checks.
+fn apply_few(alloc: Global, model: &ValidModel, edit: &Edit) -> Result<ValidModel, ModelFault>
+    requires { IsEditInRange edit.now }
+    ensures { Gives result (edited model.now edit.now) }
+{
+    match check_edit(alloc, model, edit) {
+        Ok(()) => apply_checked(alloc, model, edit),
+        Err(fault) => Err(fault),
+    }
+}
+
 /// The valid model that an edit makes of another. The model that it is lent stands. It is refused exactly where the
 /// edited model is: with E2 where the edit looks up a name that isn't there, with E3 where it doesn't set this kind of
 /// stimulus, with M10 where it adds a task or a chain to a full section, and then with the first refusal of the changed
@@ -250,9 +261,6 @@ pub fn apply_edit(alloc: Global, model: &ValidModel, edit: &Edit) -> Result<Vali
 {
     match edit {
         Edit::Move { .. } => apply_whole(alloc, model, edit),
-        _ => {
-            check_edit(alloc, model, edit)?;
-            apply_checked(alloc, model, edit)
-        }
+        _ => apply_few(alloc, model, edit),
     }
 }

@@ -27,7 +27,7 @@ pub(crate) fn applied(alloc: Global, model: ValidModel, text: &[u8]) -> Result<O
 /// What the edits of these lines come to, of which the first is line 2 of its text.
 fn apply_lines(alloc: Global, model: ValidModel, lines: EditLines<'_>) -> Result<Outcome, NoMemory>
     requires { ListsSome lines }
-    ensures { IfOk result (LinesApplyTo 2 model lines) }
+    ensures { IfOk result (LinesApplyTo 2 model lines.entry) }
 {
     let mut model = model;
     let mut lines = lines;

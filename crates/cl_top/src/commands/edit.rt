@@ -46,8 +46,8 @@ fn report_edited<L: Ledger>(
     steps: &mut Steps<L>,
 ) -> Result<Outcome, NoMemory>
     requires { ListsSome lines }
-    ensures outcome { IfOk result (λ found. OfLines lines (λ edits. AreEditedTo model edits found)) }
-    ensures steps { OfLines lines (λ edits. HaveAsked edits model steps.old steps.new) }
+    ensures outcome { IfOk result (λ found. OfLines lines.entry (λ edits. AreEditedTo model edits found)) }
+    ensures steps { OfLines lines.entry (λ edits. HaveAsked edits model steps.old steps.new) }
 {
     let session = Session::start(alloc, model, steps)?;
     report_on(alloc, session, lines, steps)
@@ -61,8 +61,8 @@ fn report_on<L: Ledger>(
     steps: &mut Steps<L>,
 ) -> Result<Outcome, NoMemory>
     requires { ListsSome lines }
-    ensures outcome { IfOk result (λ found. OfLines lines (λ edits. AreEditedTo session.model edits found)) }
-    ensures steps { OfLines lines (λ edits. AskForChanges edits session.model steps.old steps.new) }
+    ensures outcome { IfOk result (λ found. OfLines lines.entry (λ edits. AreEditedTo session.model edits found)) }
+    ensures steps { OfLines lines.entry (λ edits. AskForChanges edits session.model steps.old steps.new) }
 {
     let mut session = session;
     let mut lines = lines;
