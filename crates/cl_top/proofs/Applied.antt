@@ -149,13 +149,13 @@ to_each number model (edit ∷ edits) found (inr refused) =
 -- from the first edit, which stands in line 2
 module _ (model : SystemModel) (edits : List Edit) (found : Outcome) where
   pub applied_of : ApplyTo 2 model edits found → AreApplied model edits found
+  unfolding after
   applied_of is = elim (from_each 2 model edits found is) [
     | inl all ↦ inl all
     | inr refused ↦ inr (whole refused)
   ]
     where
       whole : IsRefusedFrom 2 model edits found → IsOneRefused model edits found
-      unfolding after
       whole refused = record {
         count = refused.count;
         one_more = refused.one_more;
@@ -167,11 +167,11 @@ module _ (model : SystemModel) (edits : List Edit) (found : Outcome) where
       }
 
   each_of_applied : AreApplied model edits found → ApplyTo 2 model edits found
+  unfolding after
   each_of_applied (inl all) = to_each 2 model edits found (inl all)
   each_of_applied (inr refused) = to_each 2 model edits found (inr (whole refused))
     where
       whole : IsOneRefused model edits found → IsRefusedFrom 2 model edits found
-      unfolding after
       whole refused = record {
         count = refused.count;
         one_more = refused.one_more;

@@ -20,7 +20,6 @@ pub mod OfEdit
 pub mod OfApply
 pub mod Applied
 pub mod LinesLeft
-pub mod EditedSoFar
 pub mod EditsOnce
 pub mod EditSteps
 pub mod ReportLines

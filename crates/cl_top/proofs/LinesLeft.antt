@@ -1,5 +1,5 @@
 -- Edits that are read one at a time: what those that are left come to.
-use Rattle.std.proofs.Common.{◌≡◌, ℕ, ◌+◌, ◌≤◌, List, [], ◌∷◌, length, Option, Some, None, Result, Ok, Err, refl, sym, ap, ◌∙◌, subst, arith}
+use Rattle.std.proofs.Common.{◌≡◌, ℕ, ◌+◌, ◌<◌, ◌≤◌, List, [], ◌∷◌, ◌++◌, length, Option, Some, None, Result, Ok, Err, refl, sym, ap, ◌∙◌, subst, arith}
 use Rattle.std.specs.Prelude.{All}
 use Rattle.std.proofs.lemmas.List.Elements.{All-head, All-tail}
 use Rattle.cl_model.specs.declared.model.SystemModel.{SystemModel}
@@ -7,10 +7,11 @@ use Rattle.cl_model.specs.declared.refusal.Refusal.{Refusal}
 use Rattle.cl_edit.specs.declared.edit.Edit.{Edit}
 use Rattle.cl_edit.specs.declared.limits.TheConstants.{MOST_EDITS}
 use Rattle.cl_edit.specs.Edited.{edited}
-use Rattle.cl_edit.specs.Lines.{edit_lines}
+use Rattle.cl_edit.specs.Lines.{edit_line, edit_lines}
 use Rattle.cl_edit.specs.Listed.{ListsSome, IsFirstOf, GivesNext}
 use Rattle.cl_edit.specs.Ranges.{IsEditInRange}
 use Rattle.cl_edit.specs.Reading.{IsLineEdit}
+use Rattle.cl_edit.proofs.Listings.{line_shortens}
 use Rattle.cl_write.specs.Texts.{IsTextOf}
 use Rattle.cl_top.specs.declared.outcome.Outcome.{Outcome}
 use Rattle.cl_top.specs.Commands.Edit.{edits_refused}
@@ -29,6 +30,12 @@ next_lists edit left rest some next =
     let first = next some.edits some.are some.written in
     let count : length some.edits ≡ length first.0 + 1 = ap length first.1 ∙ omega arith in
     (record { edits = first.0; are = All-tail IsLineEdit edit first.0 (subst (All IsLineEdit) first.1 some.are); few = omega (arith, some.few, count); written = first.2 }, count)
+
+-- they are shorter
+pub next_shorter : (edit : Edit) (left rest : List ℕ) → ListsSome left → GivesNext (Some edit) left rest → length rest < length left
+next_shorter edit left rest some next =
+    let first = next some.edits some.are some.written in
+    line_shortens left rest edit (some.written ∙ ap edit_lines first.1 ∙ ap (λ t. edit_line edit ++ t) (sym first.2))
 
 -- What the edits of the lines that are left come to is what those of all lines come to.
 pub record MoreApply (first : SystemModel) (all : List ℕ) (number : ℕ) (model : SystemModel) (left : List ℕ) : Type 0 where

@@ -1,10 +1,10 @@
 -- What edits come to that are applied one after the other.
-use Rattle.std.specs.Prelude.{◌≡◌, ℕ, ◌+◌, List, [], ◌∷◌, Result, Ok, Err}
+use Rattle.std.specs.Prelude.{◌≡◌, ℕ, ◌+◌, List, [], ◌∷◌, Option, Some, None, Result, Ok, Err}
 use Rattle.cl_model.specs.declared.model.SystemModel.{SystemModel}
 use Rattle.cl_model.specs.declared.refusal.Refusal.{Refusal}
 use Rattle.cl_edit.specs.declared.edit.Edit.{Edit}
 use Rattle.cl_edit.specs.Edited.{edited}
-use Rattle.cl_edit.specs.Listed.{OfLines}
+use Rattle.cl_edit.specs.Listed.{OfLines, GivesNext}
 use Rattle.cl_write.specs.Texts.{IsTextOf}
 use Rattle.cl_top.specs.declared.outcome.Outcome.{Outcome}
 use Rattle.cl_top.specs.Commands.Edit.{edits_refused}
@@ -23,3 +23,12 @@ ApplyTo number model (edit ∷ edits) found = OrRefused number (edited model edi
 -- so do the edits of these lines
 abbrev pub LinesApplyTo : (number : ℕ) → SystemModel → (lines : List ℕ) → Outcome → Type 0
 LinesApplyTo number model lines found = OfLines lines (λ edits. ApplyTo number model edits found)
+
+-- the next edit of the lines makes this of the model, where there is one
+abbrev pub MakesNext : SystemModel → (before after : List ℕ) → Option SystemModel → Type 0
+MakesNext model before after None = GivesNext None before after
+MakesNext model before after (Some changed) = (edit : Edit) × GivesNext (Some edit) before after × (edited model edit ≡ Ok changed)
+
+-- the next edit of the lines is refused of the model
+abbrev pub RefusesNext : SystemModel → (before after : List ℕ) → Refusal → Type 0
+RefusesNext model before after refusal = (edit : Edit) × GivesNext (Some edit) before after × (edited model edit ≡ Err refusal)

@@ -1,13 +1,15 @@
-ghost use Rattle.std.specs.Prelude.{IfOk};
+ghost use Rattle.std.specs.Prelude.{◌≡◌, Err, IfOk};
+ghost use Rattle.cl_model.specs.declared.refusal.Refusal.{Refusal as ModelRefusal};
 ghost use Rattle.cl_edit.specs.Listed.{ListsSome};
 ghost use Rattle.cl_top.specs.Commands.Apply.{IsOfApply};
-ghost use Rattle.cl_top.specs.Inner.Applying.{LinesApplyTo};
+ghost use Rattle.cl_top.specs.Commands.Edit.{edits_refused};
+ghost use Rattle.cl_top.specs.Inner.Applying.{MakesNext, RefusesNext, LinesApplyTo};
 
 use super::edit::{bad_line, refused};
 use super::migrate::migrated;
 use crate::Outcome;
 use cl_edit::{EditLines, EditsFault, apply_edit};
-use cl_model::{ModelFault, ValidModel};
+use cl_model::{ModelFault, Refusal, ValidModel};
 use cl_text::Text;
 use cl_time::NoMemory;
 use std::alloc::Global;
@@ -24,6 +26,29 @@ pub(crate) fn applied(alloc: Global, model: ValidModel, text: &[u8]) -> Result<O
     }
 }
 
+/// The model after the next edit. There is none where no edit is left.
+fn apply_next(
+    alloc: Global,
+    model: &ValidModel,
+    lines: &mut EditLines<'_>,
+) -> Result<Option<ValidModel>, ModelFault>
+    requires { ListsSome lines.old }
+    ensures made { IfOk result (MakesNext model.now lines.old lines.new) }
+    ensures refused { (refusal : ModelRefusal) → result ≡ Err (ModelFault.Refused refusal) → RefusesNext model.now lines.old lines.new refusal }
+{
+    match lines.next(alloc)? {
+        Some(edit) => Ok(Some(apply_edit(alloc, model, &edit)?)),
+        None => Ok(None),
+    }
+}
+
+/// The refusal of the line of a number, with nothing before it.
+fn refused_alone(alloc: Global, number: u64, refusal: Refusal) -> Result<Outcome, NoMemory>
+    ensures { IfOk result (λ outcome. outcome ≡ edits_refused number refusal) }
+{
+    refused(alloc, Text::new(alloc), number, refusal)
+}
+
 /// What the edits of these lines come to, of which the first is line 2 of its text.
 fn apply_lines(alloc: Global, model: ValidModel, lines: EditLines<'_>) -> Result<Outcome, NoMemory>
     requires { ListsSome lines }
@@ -32,15 +57,15 @@ fn apply_lines(alloc: Global, model: ValidModel, lines: EditLines<'_>) -> Result
     let mut model = model;
     let mut lines = lines;
     let mut number = 2;
-    while let Some(edit) = lines.next(alloc)? {
-        model = match apply_edit(alloc, &model, &edit) {
-            Ok(changed) => changed,
+    loop {
+        match apply_next(alloc, &model, &mut lines) {
+            Ok(Some(changed)) => model = changed,
+            Ok(None) => return migrated(alloc, &model),
             Err(ModelFault::Refused(refusal)) => {
-                return refused(alloc, Text::new(alloc), number, refusal);
+                return refused_alone(alloc, number, refusal);
             }
             Err(ModelFault::NoMemory) => return Err(NoMemory),
-        };
+        }
         number += 1;
     }
-    migrated(alloc, &model)
 }

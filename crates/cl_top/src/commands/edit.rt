@@ -1,15 +1,14 @@
-ghost use Rattle.std.specs.Prelude.{◌≡◌, ℕ, ◌++◌, List, Ok, Err, IfOk, OnOk};
+ghost use Rattle.std.specs.Prelude.{◌≡◌, ℕ, ◌++◌, List, Ok, Err, All, IfOk, OnOk};
 ghost use Rattle.cl_model.specs.Place.{top};
 ghost use Rattle.cl_model.specs.declared.refusal.Refusal.{Refusal};
 ghost use Rattle.cl_edit.specs.Edited.{edited};
-ghost use Rattle.cl_edit.specs.Listed.{ListsSome, OfLines};
 ghost use Rattle.cl_edit.specs.Ranges.{IsEditInRange};
 ghost use Rattle.cl_top.specs.Commands.Edit.{edits_refused, behind, IsWrittenBy, AreEditedTo, IsOfEdits};
 ghost use Rattle.cl_top.specs.Inner.Edits.{IsMade, HasAsked, HaveAsked};
 ghost use Rattle.cl_top.specs.Steps.{AskForChanges, AreFewOfEdits};
 
 use crate::{Outcome, status};
-use cl_edit::{Edit, EditLines, EditsFault};
+use cl_edit::{Edit, EditsFault, read_edits};
 use cl_incr::Session;
 use cl_model::{Code, ModelFault, Place, Refusal, ValidModel};
 use cl_report::put_report;
@@ -31,48 +30,45 @@ pub(crate) fn edited<L: Ledger>(
     ensures outcome { IfOk result (IsOfEdits model text.now) }
     ensures steps { AreFewOfEdits (Ok model) text.now steps.old steps.new }
 {
-    match EditLines::of(alloc, text) {
-        Ok(lines) => report_edited(alloc, model, lines, steps),
+    match read_edits(alloc, text) {
+        Ok(edits) => report_edited(alloc, model, edits.as_slice(), steps),
         Err(EditsFault::BadLine { line }) => bad_line(alloc, line),
         Err(EditsFault::NoMemory) => Err(NoMemory),
     }
 }
 
-/// The reports of a model as it is edited, one line after the other.
+/// The reports of a model as it is edited.
 fn report_edited<L: Ledger>(
     alloc: Global,
     model: ValidModel,
-    lines: EditLines<'_>,
+    edits: &[Edit],
     steps: &mut Steps<L>,
 ) -> Result<Outcome, NoMemory>
-    requires { ListsSome lines }
-    ensures outcome { IfOk result (λ found. OfLines lines.entry (λ edits. AreEditedTo model edits found)) }
-    ensures steps { OfLines lines.entry (λ edits. HaveAsked edits model steps.old steps.new) }
+    requires { All IsEditInRange edits.now }
+    ensures outcome { IfOk result (AreEditedTo model edits.now) }
+    ensures steps { HaveAsked edits.now model steps.old steps.new }
 {
     let session = Session::start(alloc, model, steps)?;
-    report_on(alloc, session, lines, steps)
+    report_on(alloc, session, edits, steps)
 }
 
-/// The reports of a session's model as it is edited, one line after the other, of which the first is line 2 of its text.
+/// The reports of a session's model as it is edited.
 fn report_on<L: Ledger>(
     alloc: Global,
     session: Session,
-    lines: EditLines<'_>,
+    edits: &[Edit],
     steps: &mut Steps<L>,
 ) -> Result<Outcome, NoMemory>
-    requires { ListsSome lines }
-    ensures outcome { IfOk result (λ found. OfLines lines.entry (λ edits. AreEditedTo session.model edits found)) }
-    ensures steps { OfLines lines.entry (λ edits. AskForChanges edits session.model steps.old steps.new) }
+    requires { All IsEditInRange edits.now }
+    ensures outcome { IfOk result (AreEditedTo session.model edits.now) }
+    ensures steps { AskForChanges edits.now session.model steps.old steps.new }
 {
     let mut session = session;
-    let mut lines = lines;
     let mut text = Text::new(alloc);
-    let mut number = 2;
-    while let Some(edit) = lines.next(alloc)? {
-        if let Err(fault) = make_edit(&mut session, &edit, &mut text, steps) {
-            return stopped(alloc, text, number, fault);
+    for (place, edit) in edits.iter().enumerate() {
+        if let Err(fault) = make_edit(&mut session, edit, &mut text, steps) {
+            return stopped(alloc, text, place as u64 + 2, fault);
         }
-        number += 1;
     }
     Ok(Outcome::done(text))
 }

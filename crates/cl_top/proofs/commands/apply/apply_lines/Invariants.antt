@@ -3,8 +3,8 @@ use Rattle.cl_top.proofs.LinesLeft.{MoreApply}
 use Rattle.cl_top.proofs.commands.apply.apply_lines.Given as goal
 
 -- what the edits that are left come to is what all of them come to
-abbrev pub invariant-loop : goal.invariant-loop
-invariant-loop l = MoreApply l.fn.model l.fn.lines l.number l.model l.lines
+abbrev pub invariant-loop-changed : goal.invariant-loop-changed
+invariant-loop-changed l = MoreApply l.fn.model l.fn.lines l.number l.model l.lines
 
-abbrev pub decreases-loop : goal.decreases-loop
-decreases-loop l = length l.lines
+abbrev pub decreases-loop-changed : goal.decreases-loop-changed
+decreases-loop-changed l = length l.lines
