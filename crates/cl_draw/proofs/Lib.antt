@@ -1,0 +1,16 @@
+pub mod Pushed
+pub mod Filtered
+pub mod SpanFacts
+pub mod CursorFacts
+pub mod PartEnds
+pub mod PartFacts
+pub mod WorkFacts
+pub mod SpansOfRun
+pub mod FirstItems
+pub mod PlaceFacts
+pub mod ItemFacts
+pub mod StopFacts
+pub mod ReactionFacts
+pub mod DrawnFacts
+pub mod HeadFacts
+pub mod PictureFacts

@@ -1,0 +1,12 @@
+use Rattle.std.proofs.Common.{ℕ, ◌++◌, ap, ◌∙◌, arith, Option}
+use Rattle.std.specs.Option.{option_to_list}
+use Rattle.cl_picture.specs.Window.{is_inside}
+use Rattle.cl_draw.specs.Marks.{due_of}
+use Rattle.cl_draw.proofs.Filtered.{kept_item, kept_all}
+use Rattle.cl_draw.proofs.marks.dues_in.Goals as goal
+
+pub loop-job-preserved : goal.loop-job-preserved
+loop-job-preserved c = kept_item (is_inside c.args.window) (due_of c.args.deadline) c.args.jobs.now _ _ _ _ c.loop-job.job-index (omega arith) c.job-item.is c.loop-job.invariant (c.in_ok-keep.ensures ∙ ap (λ (o : Option ℕ). c.loop-job.found ++ option_to_list o) c.due_in.ensures)
+
+pub returns : goal.returns
+returns c = kept_all (is_inside c.args.window) (due_of c.args.deadline) c.args.jobs.now _ c.loop-job.job-index (omega arith) c.loop-job.invariant

@@ -1,0 +1,11 @@
+pub mod Parts
+pub mod Items
+pub mod Rows
+pub mod Marks
+pub mod MarkLines
+pub mod RowLines
+pub mod Places
+pub mod Reactions
+pub mod ChainLines
+pub mod Picture
+pub mod Inner

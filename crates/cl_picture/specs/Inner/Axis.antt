@@ -1,0 +1,10 @@
+-- The ticks of an axis, as the code keeps them.
+use Rattle.std.specs.Prelude.{◌≡◌}
+use Rattle.cl_picture.specs.declared.window.Window.{Window}
+use Rattle.cl_picture.specs.declared.axis.Axis.{Axis}
+use Rattle.cl_picture.specs.Axis.{window_step, first_tick, tick_count}
+
+pub record IsAxis (window : Window) (axis : Axis) : Type 0 where
+  pub step : axis.step ≡ window_step window
+  pub first : axis.first ≡ first_tick window
+  pub count : axis.count ≡ tick_count window

@@ -1,0 +1,6 @@
+pub mod Pieces
+pub mod Window
+pub mod Bars
+pub mod Axis
+pub mod Frame
+pub mod Inner

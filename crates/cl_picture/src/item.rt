@@ -1,0 +1,49 @@
+//! What a row shows for some ticks, and the bars that are drawn for it. Times are in ticks.
+
+/// What a row shows for some ticks: a part of a stretch, or the band of a job.
+#[derive(Clone, Copy, Debug, PartialEq, Eq)]
+pub struct Item {
+    /// The job, counted from 0.
+    pub job: u64,
+    pub from: u64,
+    pub to: u64,
+    /// The class that it is drawn in: 0, 1 or 2.
+    pub kind: u8,
+    pub rest: Rest,
+}
+
+/// What is said of an item beside its job.
+#[derive(Clone, Copy, Debug, PartialEq, Eq)]
+pub enum Rest {
+    /// The runnable that a part executes, by its place in the task.
+    Part {
+        place: usize,
+    },
+    /// When the job of a band arrives and is due, and whether the band ends with the job's finish.
+    Band {
+        arrival: u64,
+        due: u64,
+        finished: bool,
+    },
+}
+
+/// The end of an item.
+#[derive(Clone, Copy, Debug, PartialEq, Eq)]
+pub struct End {
+    /// The job, counted from 0.
+    pub job: u64,
+    pub to: u64,
+}
+
+/// A bar of one item or several. Its sides are lengths.
+#[derive(Clone, Copy, Debug, PartialEq, Eq)]
+pub struct Bar {
+    pub left: u64,
+    pub right: u64,
+    /// The greatest class of its items.
+    pub kind: u8,
+    /// The first item.
+    pub first: Item,
+    /// The last item, where there are several.
+    pub last: Option<End>,
+}

@@ -1,0 +1,16 @@
+//! Pictures as SVG: lines of pieces, lengths of ticks, bars of what a row shows, the axis, and what frames a picture.
+#![tactic(auto)]
+
+mod axis;
+mod bars;
+mod frame;
+mod item;
+mod pieces;
+mod window;
+
+pub use axis::put_axis;
+pub use bars::bars_of;
+pub use frame::{put_begin, put_end, put_shift};
+pub use item::{Bar, End, Item, Rest};
+pub use pieces::{Piece, put_line, put_pieces};
+pub use window::{MOST_WINDOW, Window};
