@@ -1,4 +1,4 @@
-ghost use Rattle.std.specs.Prelude.{◌≡◌, ℕ, List, [], ◌++◌, OnOk, OnErr, decimal};
+ghost use Rattle.std.specs.Prelude.{◌≡◌, ℕ, List, [], ◌++◌, IfOk, OnOk, OnErr, decimal};
 
 use cl_time::NoMemory;
 use itoa::Buffer;
@@ -25,6 +25,15 @@ impl Text {
         Text {
             bytes: Vec::new(alloc),
         }
+    }
+
+    /// The empty text, with room for so many bytes: while it has no more, appending to it takes no memory.
+    pub fn with_room(alloc: Global, room: usize) -> Result<Text, NoMemory>
+        ensures { IfOk result (λ text. text ≡ []) }
+    {
+        Ok(Text {
+            bytes: Vec::with_capacity(alloc, room)?,
+        })
     }
 
     /// Appends the piece. `NoMemory` leaves the text as it was.
