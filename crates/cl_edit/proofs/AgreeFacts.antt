@@ -26,7 +26,7 @@ use Rattle.cl_model.specs.ValidTasks.{label_check, writer_check, times_check, re
 use Rattle.cl_model.proofs.ListFacts.{list_any-flat_map}
 use Rattle.cl_valid.proofs.UsesByTask.{flat_more}
 use Rattle.cl_edit.specs.Inner.NewTasks.{labels_of, AreAlike, AgreeOn}
-use Rattle.cl_edit.proofs.EachChecked.{each_alike}
+use Rattle.cl_edit.proofs.EachChecked.{each_same}
 
 -- ---- lists that grow
 
@@ -136,12 +136,12 @@ module _ (task : TaskDef) (known all written done : List (List ℕ)) (knows : Ag
     known_alike : (code : Code) (place : Place) (labels : List (List ℕ)) → ((label : List ℕ) → has_name label labels ≡ true → has_name label (labels_of task.runnables) ≡ true)
         → each (label_check code place known) labels ≡ each (label_check code place all) labels
     known_alike code place labels are_own =
-        each_alike (label_check code place known) (label_check code place all) labels
+        each_same (label_check code place known) (label_check code place all) labels
         (λ k d k_lt. ap (λ b. unless b code (at_spot k place)) (knows (get_or labels k d) (are_own (get_or labels k d) (stands labels k d k_lt))))
 
     contest_alike : (place : Place) (more : List (List ℕ)) → each (writer_check place (written ++ more)) own.writes ≡ each (writer_check place (done ++ more)) own.writes
     contest_alike place more =
-        each_alike (writer_check place (written ++ more)) (writer_check place (done ++ more)) own.writes
+        each_same (writer_check place (written ++ more)) (writer_check place (done ++ more)) own.writes
         (λ k d k_lt.
         let label = get_or own.writes k d in
         ap (λ b. when b M40 (at_spot k place))
@@ -160,7 +160,7 @@ module _ (task : TaskDef) (known all written done : List (List ℕ)) (knows : Ag
 
   pub body_alike : (place : Place) → body_checks known written place task ≡ body_checks all done place task
   body_alike place =
-      each_alike (body_check known written place task) (body_check all done place task) task.runnables
+      each_same (body_check known written place task) (body_check all done place task) task.runnables
       (λ p d lt. subst (λ r. body_check known written place task p r ≡ body_check all done place task p r) (get_or_default task.runnables p no_runnable d lt) (runnable_alike p lt place))
 
 -- what is asked over the labels of one's own is what is asked over all

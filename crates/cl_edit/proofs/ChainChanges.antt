@@ -25,7 +25,7 @@ use Rattle.cl_model.specs.Changes.{with_new_chain, without_chain}
 use Rattle.cl_edit.specs.Edited.{chain_number, edit_checks, with_edit}
 use Rattle.cl_edit.specs.FewListChecks.{new_chain_name_check, new_chain_checks, kept_chain_check, dropped_chain_checks}
 use Rattle.cl_edit.proofs.CheckParts.{name_parts, chain_names_left, names_and_chains_left, requirements_left, chain_moves}
-use Rattle.cl_edit.proofs.EachChecked.{each_more, each_alike, none_of_each, each_moves, unless_true, unless_not}
+use Rattle.cl_edit.proofs.EachChecked.{each_more, each_same, none_of_each, each_moves, unless_true, unless_not}
 use Rattle.cl_edit.proofs.NameChecks.{apart_pass, repeats_more, map-remove, left_names, known_longer}
 use Rattle.cl_edit.proofs.Removals.{stood_at, apart_removed}
 
@@ -142,7 +142,7 @@ module _ (model : SystemModel) (valid : IsValid model) (name : List ℕ) (c : �
       let chains : List ChainDef = remove model.chains c in
       requirements_left left names_none (stimuli_stay model chains ∙ stimuli_pass model valid) (tasks_stay model chains ∙ tasks_pass model valid)
       (deadlines_stay model chains ∙ deadlines_pass model valid) chains_stay
-      ∙ each_alike (requirement_check left) (kept_chain_check name) model.requirements requirement_left
+      ∙ each_same (requirement_check left) (kept_chain_check name) model.requirements requirement_left
 
 pub dropped_chain_refused : (model : SystemModel) (name : List ℕ) → IsValid model → edit_checks model (DropChain name) ≡ []
     → refusals_of (with_edit model (DropChain name)) ≡ dropped_chain_checks model name

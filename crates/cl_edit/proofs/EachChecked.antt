@@ -6,6 +6,7 @@ use Rattle.cl_model.specs.declared.refusal.Code.{Code}
 use Rattle.cl_model.specs.declared.refusal.Refusal.{Refusal}
 use Rattle.cl_model.specs.Refusals.{when, unless, each_from, each}
 use Rattle.cl_model.proofs.Refused.{none_before, none_behind, when_none}
+use Rattle.cl_edit.proofs.EachFacts.{each_alike, each_nothing}
 
 -- ---- one item more
 
@@ -23,27 +24,17 @@ each_more check items x = each_from_more 0 check items x (length items) (omega a
 
 -- ---- checks item by item
 
-each_from_alike : {X : Type 0} (n : ℕ) (f g : ℕ → X → List Refusal) (items : List X)
-    → ((k j : ℕ) (d : X) → j ≡ n + k → k < length items → f j (get_or items k d) ≡ g j (get_or items k d)) → each_from n f items ≡ each_from n g items
-each_from_alike n f g [] alike = refl
-each_from_alike n f g (x ∷ items) alike =
-    ap (λ l. l ++ each_from (n + 1) f items) (alike 0 n x (omega arith) (omega arith))
-    ∙ ap (λ l. g n x ++ l) (each_from_alike (n + 1) f g items (λ k j d at lt. alike (suc k) j d (omega arith) (omega arith)))
-
 -- checks that refuse the same of each item of a list refuse the same of all
-pub each_alike : {X : Type 0} (f g : ℕ → X → List Refusal) (items : List X)
+pub each_same : {X : Type 0} (f g : ℕ → X → List Refusal) (items : List X)
     → ((k : ℕ) (d : X) → k < length items → f k (get_or items k d) ≡ g k (get_or items k d)) → each f items ≡ each g items
-each_alike f g items alike =
-    each_from_alike 0 f g items (λ k j d at lt. let here : k ≡ j = omega arith in subst (λ m. f m (get_or items k d) ≡ g m (get_or items k d)) here (alike k d lt))
-
-each_from_empty : {X : Type 0} (n : ℕ) (items : List X) → each_from n (λ k x. []) items ≡ []
-each_from_empty n [] = refl
-each_from_empty n (x ∷ items) = each_from_empty (n + 1) items
+each_same f g [] same = refl
+each_same f g (x ∷ items) same = each_alike f g (x ∷ items) (x ∷ items) x x refl (λ k lt. same k x lt)
 
 -- where nothing is refused of each item, nothing is of all
 pub none_of_each : {X : Type 0} (check : ℕ → X → List Refusal) (items : List X)
     → ((k : ℕ) (d : X) → k < length items → check k (get_or items k d) ≡ []) → each check items ≡ []
-none_of_each check items none = each_alike check (λ k x. []) items none ∙ each_from_empty 0 items
+none_of_each check [] none = refl
+none_of_each check (x ∷ items) none = each_nothing check (x ∷ items) x (λ k lt. none k x lt)
 
 -- ---- checks at another place
 

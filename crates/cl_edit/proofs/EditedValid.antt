@@ -9,6 +9,7 @@ use Rattle.cl_edit.specs.declared.edit.Edit.{Edit}
 use Rattle.cl_edit.specs.declared.edit.Edit.TheVariants.{Report}
 use Rattle.cl_edit.specs.Edited.{edit_checks, with_edit, edited}
 use Rattle.cl_edit.specs.Ranges.{IsEditInRange}
+use Rattle.cl_edit.proofs.CheckedEdits.{made_where_passes}
 use Rattle.cl_edit.proofs.RangeFacts.{edits_keep_range}
 
 -- the model that is answered, or this one
@@ -21,7 +22,7 @@ none_of_answer : (meaning model : SystemModel) (refusals : List Refusal) → ans
 none_of_answer meaning model [] is = (refl, ap (model_or meaning) is)
 none_of_answer meaning model (refusal ∷ refusals) is = absurd cc
 
-first_none : {X : Type 0} (xs ys : List X) → xs ++ ys ≡ [] → (xs ≡ []) × (ys ≡ [])
+pub first_none : {X : Type 0} (xs ys : List X) → xs ++ ys ≡ [] → (xs ≡ []) × (ys ≡ [])
 first_none [] ys none = (refl, none)
 first_none (x ∷ xs) ys none = absurd cc
 
@@ -37,13 +38,9 @@ pub made_is : (model : SystemModel) (edit : Edit) (changed : SystemModel) → ed
 unfolding edited
 made_is model edit changed is = (none_of_answer (with_edit model edit) changed (edit_checks model edit ++ refusals_of (with_edit model edit)) is).1
 
--- where no check refuses an edit, it is made
-pub made_unless : (model : SystemModel) (edit : Edit) → edit_checks model edit ++ refusals_of (with_edit model edit) ≡ [] → edited model edit ≡ Ok (with_edit model edit)
-unfolding edited
-made_unless model edit none = ap (λ refusals. answer refusals (with_edit model edit)) none
-
+-- where no check refuses an edit, the changed model is valid
 pub valid_unless : (model : SystemModel) (edit : Edit) → IsValid model → IsEditInRange edit → edit_checks model edit ++ refusals_of (with_edit model edit) ≡ [] → IsValid (with_edit model edit)
-valid_unless model edit valid in_range none = edited_valid model edit (with_edit model edit) valid in_range (made_unless model edit none)
+valid_unless model edit valid in_range none = edited_valid model edit (with_edit model edit) valid in_range (made_where_passes model edit none)
 
 -- a report keeps a valid model
 pub report_keeps : (model : SystemModel) → IsValid model → edited model Report ≡ Ok model

@@ -33,7 +33,9 @@ use Rattle.cl_edit.specs.FewChecks.{number_refusals}
 use Rattle.cl_edit.specs.Inner.Paces.{pace_after, limit_checks, all_limits_on}
 use Rattle.cl_edit.proofs.FoundFacts.{kind_passes, kind_fails, kind_changed}
 use Rattle.cl_edit.proofs.LimitChecks.{deadline_left, kind_left}
-use Rattle.cl_edit.specs.Edited.{found, kind_found, all_names, task_number, stimulus_number, edit_checks, with_edit, edited}
+use Rattle.cl_model.specs.ByNumber.{stimulus_number}
+use Rattle.cl_edit.proofs.CheckedEdits.{passes_where_made, fault_where_refused}
+use Rattle.cl_edit.specs.Edited.{found, kind_found, all_names, task_number, edit_checks, with_edit, edited}
 
 -- ---- results
 
@@ -52,24 +54,7 @@ passes_from (Err fault) refusals h = h
 
 -- ---- a changed copy
 
-answer_none : (refusals : List Refusal) (meaning changed : SystemModel) → answer refusals meaning ≡ Ok changed → refusals ≡ []
-answer_none [] meaning changed is = refl
-answer_none (refusal ∷ refusals) meaning changed is = absurd cc
-
-answer_first : (refusals : List Refusal) (meaning : SystemModel) (r : Refusal) → answer refusals meaning ≡ Err r → first refusals ≡ Some r
-answer_first [] meaning r is = absurd cc
-answer_first (refusal ∷ refusals) meaning r is = cc
-
-pub copy_passes : (model : SystemModel) (edit : Edit) (changed : SystemModel) → edited model edit ≡ Ok changed → edit_checks model edit ++ refusals_of (with_edit model edit) ≡ []
-unfolding edited
-copy_passes model edit changed is = answer_none (edit_checks model edit ++ refusals_of (with_edit model edit)) (with_edit model edit) changed is
-
-pub copy_refused : (model : SystemModel) (edit : Edit) (fault : ModelFault) → Gives {X = SystemModel} (Err fault) (edited model edit) → IsFaultOf (edit_checks model edit ++ refusals_of (with_edit model edit)) fault
-unfolding edited
-copy_refused model edit (Refused r) is = answer_first (edit_checks model edit ++ refusals_of (with_edit model edit)) (with_edit model edit) r is
-copy_refused model edit NoMemory is = tt
-
-pub ruleset copies = (copy_passes, copy_refused)
+pub ruleset copies = (passes_where_made, fault_where_refused)
 
 -- ---- what is found
 

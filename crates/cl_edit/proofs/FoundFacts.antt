@@ -16,16 +16,18 @@ use Rattle.cl_model.specs.Refusals.{first, answer, unless}
 use Rattle.cl_model.specs.Answers.{IsFaultOf, Gives, Answers}
 use Rattle.cl_model.specs.Validity.{refusals_of}
 use Rattle.cl_edit.specs.declared.edit.Edit.{Edit}
+use Rattle.cl_model.specs.ByNumber.{stimulus_number}
 use Rattle.cl_edit.specs.Edited.{edit_checks, with_edit, edited}
 use Rattle.cl_edit.specs.declared.edit.Edit.TheVariants.{Period, Offset, Jitter, Distances, Burst}
 use Rattle.cl_edit.specs.Inner.Kinds.{sets}
 use Rattle.cl_model.proofs.NamePlaces.{known_place, found_below, found_stands, stands_known}
 use Rattle.cl_model.specs.Changes.{stimulus_at, with_kind}
-use Rattle.cl_edit.specs.Edited.{found, all_names, kind_found, stimulus_number}
+use Rattle.cl_edit.specs.Edited.{found, all_names, kind_found}
 use Rattle.cl_edit.specs.Inner.Steps.{step_search}
 use Rattle.cl_edit.proofs.StepFacts.{search_is}
 use Rattle.cl_model.specs.declared.group.Step.{Step}
 use Rattle.cl_model.specs.Groups.{step_from, step_named, IsStepOf}
+use Rattle.cl_model.proofs.NamesKnown.{kind_there}
 use Rattle.cl_model.proofs.StepFacts.{step_stands_in}
 
 not_true : (b : Bool) → (b ≡ true → ⊥) → b ≡ false
@@ -54,13 +56,6 @@ pub number_from : (o : Option ℕ) (k : ℕ) → o ≡ Some k → unwrap_or o 0 
 number_from o k e = ap (λ x. unwrap_or x 0) e
 
 -- ---- kinds of stimuli
-
-pub kind_there : (model : SystemModel) (name : List ℕ) (s : ℕ) → index_of name (stimulus_names model) ≡ Some s → kind_named model name ≡ Some (stimulus_at model s).kind
-kind_there model name s e =
-    let within : s < length (stimulus_names model) = found_below name (stimulus_names model) s e in
-    let short : s < length model.stimuli = subst (λ n. s < n) (length-map model.stimuli (λ stimulus. stimulus.name)) within in
-    ap (λ o. option_map (λ stimulus. stimulus.kind) (option_and_then (slice_get model.stimuli) o)) e
-    ∙ ap (option_map (λ stimulus. stimulus.kind)) (slice_get-get_or model.stimuli s _ short)
 
 pub kind_passes : (model : SystemModel) (name : List ℕ) (s : ℕ) (sets : StimulusKind → Bool) → index_of name (stimulus_names model) ≡ Some s
     → sets (stimulus_at model s).kind ≡ true → kind_found (kind_named model name) sets ≡ []

@@ -16,7 +16,7 @@ use Rattle.cl_model.specs.NameSets.{AreDistinctNames}
 use Rattle.cl_model.specs.Refusals.{when}
 use Rattle.cl_model.specs.ValidNames.{repeat_check, repeats}
 use Rattle.cl_model.proofs.NamePlaces.{known_stands, found_below, found_named, one_place}
-use Rattle.cl_edit.proofs.EachChecked.{each_more, each_alike, none_of_each, when_false}
+use Rattle.cl_edit.proofs.EachChecked.{each_more, each_same, none_of_each, when_false}
 use Rattle.cl_edit.proofs.Removals.{stood_at}
 use Rattle.cl_edit.proofs.StepFacts.{place_is}
 
@@ -48,7 +48,7 @@ repeats_more code place before names name =
     let all : List (List ℕ) = names ++ name ∷ [] in
     each_more (repeat_check code place before all) names name
     ∙ ap (λ l. l ++ repeat_check code place before all (length names) name)
-    (each_alike (repeat_check code place before all) (repeat_check code place before names) names
+    (each_same (repeat_check code place before all) (repeat_check code place before names) names
     (λ k d lt. ap (λ l. when (has_name (get_or names k d) (before ++ l)) code (place k)) (take-append-le k names (name ∷ []) (omega arith))))
     ∙ ap (λ l. repeats code place before names ++ when (has_name name (before ++ l)) code (place (length names))) (take_at names (name ∷ []) (length names) refl)
 

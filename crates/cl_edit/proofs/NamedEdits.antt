@@ -9,13 +9,13 @@ use Rattle.cl_model.specs.declared.task.RunnableDef.{RunnableDef}
 use Rattle.cl_model.specs.declared.task.TaskDef.{TaskDef}
 use Rattle.cl_model.specs.declared.chain.ChainDef.{ChainDef}
 use Rattle.cl_model.specs.AreNamed.{IsRunnableNamed, IsTaskNamed, IsChainNamed, AreNamed}
-use Rattle.cl_model.specs.ByNumber.{no_task, no_runnable}
+use Rattle.cl_model.specs.ByNumber.{stimulus_number, no_task, no_runnable}
 use Rattle.cl_model.specs.Groups.{step_named}
 use Rattle.cl_model.specs.Name.{IsName}
 use Rattle.cl_edit.specs.declared.edit.Edit.{Edit}
 use Rattle.cl_edit.specs.declared.edit.Edit.TheVariants.{Range, Whole, Period, Offset, Jitter, Distances, Burst, Deadline, Swap, Move, Kind, AddTask, DropTask, AddChain, DropChain, Report}
 use Rattle.cl_model.specs.Changes.{no_stimulus_def, with_period, with_offset, with_jitter, with_distances, with_burst}
-use Rattle.cl_edit.specs.Edited.{with_edit, edited, task_number, chain_number, stimulus_number}
+use Rattle.cl_edit.specs.Edited.{with_edit, edited, task_number, chain_number}
 use Rattle.cl_edit.specs.Reading.{IsEditNamed}
 use Rattle.cl_edit.proofs.EditedValid.{made_is}
 use Rattle.cl_edit.proofs.RangeFacts.{changed_all, removed_all}

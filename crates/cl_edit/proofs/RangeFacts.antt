@@ -15,7 +15,7 @@ use Rattle.cl_model.specs.declared.stimulus.StimulusDef.{StimulusDef}
 use Rattle.cl_model.specs.declared.task.RunnableDef.{RunnableDef}
 use Rattle.cl_model.specs.declared.task.TaskDef.{TaskDef}
 use Rattle.cl_model.specs.declared.chain.ChainDef.{ChainDef}
-use Rattle.cl_model.specs.ByNumber.{no_task, no_runnable}
+use Rattle.cl_model.specs.ByNumber.{stimulus_number, no_task, no_runnable}
 use Rattle.cl_model.specs.Groups.{step_named}
 use Rattle.cl_model.specs.Place.{section_place}
 use Rattle.cl_model.specs.Ranges.{IsTime, IsBurstCount, IsKindInRange, IsRunnableInRange, IsTaskInRange, IsChainInRange, IsInRange}
@@ -24,7 +24,7 @@ use Rattle.cl_edit.specs.declared.edit.Edit.{Edit}
 use Rattle.cl_edit.specs.declared.edit.Edit.TheVariants.{Range, Whole, Period, Offset, Jitter, Distances, Burst, Deadline, Swap, Move, Kind, AddTask, DropTask, AddChain, DropChain, Report}
 use Rattle.cl_edit.specs.Ranges.{IsEditInRange}
 use Rattle.cl_model.specs.Changes.{no_stimulus_def, with_period, with_offset, with_jitter, with_distances, with_burst}
-use Rattle.cl_edit.specs.Edited.{edit_checks, with_edit, task_number, chain_number, stimulus_number}
+use Rattle.cl_edit.specs.Edited.{edit_checks, with_edit, task_number, chain_number}
 
 -- ---- lists
 

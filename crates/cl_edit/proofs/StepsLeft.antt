@@ -30,7 +30,7 @@ use Rattle.cl_model.proofs.StepsApart.{one_of_name, own_step}
 use Rattle.cl_model.specs.Changes.{without_task}
 use Rattle.cl_edit.specs.FewListChecks.{kept_step_check, kept_steps_check}
 use Rattle.cl_edit.proofs.CheckParts.{chain_lists}
-use Rattle.cl_edit.proofs.EachChecked.{each_alike, each_moves, when_fewer, unless_not}
+use Rattle.cl_edit.proofs.EachChecked.{each_same, each_moves, when_fewer, unless_not}
 use Rattle.cl_edit.proofs.FoundFacts.{found_known}
 use Rattle.cl_edit.proofs.NameChecks.{any_removed, only_other}
 use Rattle.cl_edit.proofs.Removals.{stood_at}
@@ -134,7 +134,7 @@ module _ (model : SystemModel) (valid : IsValid model) (t : ℕ) (known : t < le
       let labels : Place = at_key key.Labels (entry_of part.Chain c) in
       middle_left (lengths_check c chain) (each (step_check left steps) chain.runnables) (each (hop_check left chain labels) chain.labels) parts.0
       (each_moves (hop_check model chain labels) (hop_check left chain labels) chain.labels (hop_stays chain labels) parts.1.1.0)
-      ∙ each_alike (step_check left steps) (kept_step_check (task_at model t) steps) chain.runnables
+      ∙ each_same (step_check left steps) (kept_step_check (task_at model t) steps) chain.runnables
       (λ k d lt.
       let name = get_or chain.runnables k d in
       ap (λ b. unless b M44 (at_spot k steps)) (left_where name (unless_none _ _ _ (each_none (step_check model steps) chain.runnables k d parts.1.0 lt)))
@@ -142,5 +142,5 @@ module _ (model : SystemModel) (valid : IsValid model) (t : ℕ) (known : t < le
 
   pub chains_without : each (chain_check left) model.chains ≡ each (kept_steps_check (task_at model t)) model.chains
   chains_without =
-      each_alike (chain_check left) (kept_steps_check (task_at model t)) model.chains
+      each_same (chain_check left) (kept_steps_check (task_at model t)) model.chains
       (λ c d lt. chain_left c (get_or model.chains c d) (each_none (chain_check model) model.chains c d (chains_pass model valid) lt))

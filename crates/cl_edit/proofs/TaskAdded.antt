@@ -34,7 +34,7 @@ use Rattle.cl_model.specs.Changes.{with_new_task}
 use Rattle.cl_edit.specs.Edited.{with_edit}
 use Rattle.cl_edit.specs.FewListChecks.{new_task_name_check, new_runnables_check, below_new_check, new_task_checks}
 use Rattle.cl_edit.proofs.CheckParts.{name_parts, task_names_left, names_tasks_deadlines_left, chain_lists}
-use Rattle.cl_edit.proofs.EachChecked.{each_more, each_alike, each_moves, unless_true}
+use Rattle.cl_edit.proofs.EachChecked.{each_more, each_same, each_moves, unless_true}
 use Rattle.cl_edit.proofs.NameChecks.{apart_pass, repeats_more, known_longer, index_longer}
 use Rattle.cl_edit.proofs.TaskLists.{list_any-filter}
 
@@ -83,7 +83,7 @@ module _ (model : SystemModel) (valid : IsValid model) (task : TaskDef) where
       let place : ℕ → Place = λ p. at_key key.Name (at_sub p (entry_of part.Task (length model.tasks))) in
       each_more (runnable_repeats tasks) model.tasks task
       ∙ ap (λ l. l ++ runnable_repeats tasks (length model.tasks) task)
-      (each_alike (runnable_repeats tasks) (runnable_repeats model.tasks) model.tasks
+      (each_same (runnable_repeats tasks) (runnable_repeats model.tasks) model.tasks
       (λ k d lt.
       ap (λ (earlier : List TaskDef). repeats M24 (λ p. at_key key.Name (at_sub p (entry_of part.Task k))) (runnable_names (all_runnables earlier)) (runnable_names (get_or model.tasks k d).runnables))
       (take-append-le k model.tasks (task ∷ []) (omega (arith, lt))))
@@ -103,7 +103,7 @@ module _ (model : SystemModel) (valid : IsValid model) (task : TaskDef) where
   tasks_new : task_checks changed ≡ task_check changed (length model.tasks) task
   tasks_new =
       each_more (task_check changed) model.tasks task
-      ∙ ap (λ l. l ++ task_check changed (length model.tasks) task) (each_alike (task_check changed) (task_check model) model.tasks task_stays ∙ tasks_pass model valid)
+      ∙ ap (λ l. l ++ task_check changed (length model.tasks) task) (each_same (task_check changed) (task_check model) model.tasks task_stays ∙ tasks_pass model valid)
 
   -- ---- deadlines
 
@@ -121,7 +121,7 @@ module _ (model : SystemModel) (valid : IsValid model) (task : TaskDef) where
   deadlines_new : deadline_checks changed ≡ each (below_new_check model task) model.tasks ++ deadline_check changed (length model.tasks) task
   deadlines_new =
       each_more (deadline_check changed) model.tasks task
-      ∙ ap (λ l. l ++ deadline_check changed (length model.tasks) task) (each_alike (deadline_check changed) (below_new_check model task) model.tasks deadline_new)
+      ∙ ap (λ l. l ++ deadline_check changed (length model.tasks) task) (each_same (deadline_check changed) (below_new_check model task) model.tasks deadline_new)
 
   -- ---- chains
 

@@ -7,8 +7,8 @@ use Rattle.cl_model.specs.declared.refusal.Refusal.{Refusal}
 use Rattle.cl_model.specs.declared.model.SystemModel.{SystemModel}
 use Rattle.cl_model.specs.declared.stimulus.StimulusKind.{StimulusKind}
 use Rattle.cl_model.specs.declared.stimulus.StimulusKind.TheVariants as pattern
-use Rattle.cl_model.specs.Named.{has_name, index_of, stimulus_names, task_names, chain_names, runnable_names, all_runnables, kind_named}
-use Rattle.cl_model.specs.ByNumber.{task_named, chain_named}
+use Rattle.cl_model.specs.Named.{has_name, task_names, chain_names, runnable_names, all_runnables, kind_named}
+use Rattle.cl_model.specs.ByNumber.{stimulus_number, task_named, chain_named}
 use Rattle.cl_model.specs.Groups.{step_named}
 use Rattle.cl_model.specs.Place.{top, section_place}
 use Rattle.cl_model.specs.Refusals.{refuse, unless, answer}
@@ -69,15 +69,12 @@ edit_checks model Report = []
 
 -- ---- the change
 
--- the number of the task, the chain, the stimulus of that name: 0 where there is none
+-- the number of the task, the chain of that name: 0 where there is none
 abbrev pub task_number : SystemModel → List ℕ → ℕ
 task_number model name = unwrap_or (task_named model name) 0
 
 abbrev pub chain_number : SystemModel → List ℕ → ℕ
 chain_number model name = unwrap_or (chain_named model name) 0
-
-abbrev pub stimulus_number : SystemModel → List ℕ → ℕ
-stimulus_number model name = unwrap_or (index_of name (stimulus_names model)) 0
 
 -- the model with the change of an edit that passes the first checks
 unfoldable pub with_edit : SystemModel → Edit → SystemModel

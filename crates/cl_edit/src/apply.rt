@@ -9,10 +9,10 @@ ghost use Rattle.cl_model.specs.Ranges.{IsInRange};
 ghost use Rattle.cl_model.specs.Validity.{refusals_of};
 ghost use Rattle.cl_edit.specs.Ranges.{IsEditInRange};
 ghost use Rattle.cl_model.specs.Changes.{with_range, with_whole, with_kind, with_deadline, with_swap, with_place, with_access, with_new_task, without_task, with_new_chain, without_chain};
-ghost use Rattle.cl_edit.specs.Edited.{found, all_names, kind_found, task_number, chain_number, stimulus_number, edit_checks, with_edit, edited};
+ghost use Rattle.cl_model.specs.ByNumber.{stimulus_number}
+ghost use Rattle.cl_edit.specs.Edited.{found, all_names, kind_found, task_number, chain_number, edit_checks, with_edit, edited};
 ghost use Rattle.cl_edit.specs.Inner.Kinds.{sets, with_numbers};
 
-use crate::changes;
 use crate::check::check_edit;
 use crate::edit::Edit;
 use crate::find::{found, found_step};
@@ -35,7 +35,7 @@ fn set_range(
     ensures change { OnOk result (model.new ≡ with_range model.old (step_named model.old runnable.now) least greatest) }
 {
     let step = found_step(model, runnable)?;
-    changes::set_range(model, step, least, greatest);
+    model.set_range(step, least, greatest);
     Ok(())
 }
 
@@ -45,7 +45,7 @@ fn set_whole(model: &mut SystemModel, runnable: &Name, whole: bool) -> Result<()
     ensures change { OnOk result (model.new ≡ with_whole model.old (step_named model.old runnable.now) whole) }
 {
     let step = found_step(model, runnable)?;
-    changes::set_whole(model, step, whole);
+    model.set_whole(step, whole);
     Ok(())
 }
 
@@ -58,7 +58,7 @@ fn set_stimulus(model: &mut SystemModel, name: &Name, edit: &Edit) -> Result<(),
     let kind = model.stimuli.as_slice()[number].kind;
     match kind_with(kind, edit) {
         Some(kind) => {
-            changes::set_kind(model, number, kind);
+            model.set_kind(number, kind);
             Ok(())
         }
         None => Err(ModelFault::refused(Code::E3, Place::top())),
@@ -74,7 +74,7 @@ fn set_deadline(
     ensures change { OnOk result (model.new ≡ with_deadline model.old (task_number model.old task.now) deadline) }
 {
     let number = found(model.tasks.as_slice(), task)?;
-    changes::set_deadline(model, number, deadline);
+    model.set_deadline(number, deadline);
     Ok(())
 }
 
@@ -84,7 +84,7 @@ fn swap(model: &mut SystemModel, one: &Name, other: &Name) -> Result<(), ModelFa
 {
     let one = found(model.tasks.as_slice(), one)?;
     let other = found(model.tasks.as_slice(), other)?;
-    changes::swap_priorities(model, one, other);
+    model.swap_priorities(one, other);
     Ok(())
 }
 
@@ -98,7 +98,7 @@ fn set_place(
     ensures change { OnOk result (model.new ≡ with_place model.old (task_number model.old task.now) core.now priority) }
 {
     let number = found(model.tasks.as_slice(), task)?;
-    changes::set_place(model, number, core, priority);
+    model.set_place(number, core, priority);
     Ok(())
 }
 
@@ -107,7 +107,7 @@ fn set_access(model: &mut SystemModel, task: &Name, access: AccessKind) -> Resul
     ensures change { OnOk result (model.new ≡ with_access model.old (task_number model.old task.now) access) }
 {
     let number = found(model.tasks.as_slice(), task)?;
-    changes::set_access(model, number, access);
+    model.set_access(number, access);
     Ok(())
 }
 
@@ -116,7 +116,7 @@ fn drop_task(model: &mut SystemModel, task: &Name) -> Result<(), ModelFault>
     ensures change { OnOk result (model.new ≡ without_task model.old (task_number model.old task.now)) }
 {
     let number = found(model.tasks.as_slice(), task)?;
-    changes::drop_task(model, number);
+    model.drop_task(number);
     Ok(())
 }
 
@@ -125,7 +125,7 @@ fn drop_chain(model: &mut SystemModel, chain: &Name) -> Result<(), ModelFault>
     ensures change { OnOk result (model.new ≡ without_chain model.old (chain_number model.old chain.now)) }
 {
     let number = found(model.chains.as_slice(), chain)?;
-    changes::drop_chain(model, number);
+    model.drop_chain(number);
     Ok(())
 }
 
@@ -151,7 +151,11 @@ fn add_chain(alloc: Global, model: &mut SystemModel, chain: &ChainDef) -> Result
 
 /// Makes the change of an edit, unless one of its first checks refuses it: E2, E3, M10.
 #[tactic(auto, unfolding(crate::specs::Edited::edit_checks, crate::specs::Edited::with_edit))]
-fn change(alloc: Global, model: &mut SystemModel, edit: &Edit) -> Result<(), ModelFault>
+pub(crate) fn change(
+    alloc: Global,
+    model: &mut SystemModel,
+    edit: &Edit,
+) -> Result<(), ModelFault>
     requires { IsInRange model.old }
     ensures checks { Passes result (edit_checks model.old edit.now) }
     ensures change { OnOk result (model.new ≡ with_edit model.old edit.now) }

@@ -15,39 +15,17 @@ ghost use Rattle.cl_edit.specs.declared.edit.Edit.TheVariants as edits;
 ghost use Rattle.cl_edit.specs.Edited.{found, all_names, edit_checks, with_edit};
 ghost use Rattle.cl_edit.specs.FewListChecks.{new_chain_name_check, new_chain_checks, kept_chain_check, dropped_chain_checks, kept_step_check, kept_steps_check, dropped_task_checks};
 
-use crate::find::{not_found, step_search};
+use crate::find::not_found;
 use cl_model::{
     ChainDef, Code, Key, MOST_CHAINS, ModelFault, Name, Part, Place, RequirementDef, RunnableDef,
     Step, TaskDef, ValidModel, refuse_unless, refuse_when,
 };
-
-pub(crate) fn entry_of(section: Part, item: usize) -> Place
-    requires { item < 2 ^ 32 }
-    ensures { result ≡ place.entry_of section item }
-{
-    section.section_place().at_item(item as u32)
-}
-
-pub(crate) fn at_spot(array: Place, spot: usize) -> Place
-    requires { spot < 2 ^ 32 }
-    ensures { result ≡ place.at_spot spot array }
-{
-    array.at_spot(spot as u32)
-}
+use cl_valid::{at_spot, entry_of};
 
 pub(crate) fn contains(labels: &[Name], label: &Name) -> bool
     ensures { result ≡ has_name label.now labels.now }
 {
     labels.iter().any(|other| label == other)
-}
-
-/// The runnable of that name. There is none exactly where no runnable has it.
-pub(crate) fn step_named(model: &ValidModel, name: &Name) -> Option<Step>
-    ensures found { is_some result ≡ has_name name.now (all_names model.now) }
-    ensures step { IfSome result (λ step. step ≡ step_named model.now name.now) }
-    ensures within { IfSome result (IsStepOf model.now) }
-{
-    step_search(model.plain().tasks.as_slice(), name)
 }
 
 // ---- a new chain
@@ -56,7 +34,7 @@ pub(crate) fn step_named(model: &ValidModel, name: &Name) -> Option<Step>
 fn runnable_named<'a>(model: &'a ValidModel, name: &Name) -> Option<&'a RunnableDef>
     ensures { option_copied result ≡ runnable_named model.now name.now }
 {
-    match step_named(model, name) {
+    match model.step_named(name) {
         Some(step) => Some(&model.task(step.task).runnables.as_slice()[step.place as usize]),
         None => None,
     }
@@ -113,7 +91,7 @@ fn check_step(model: &ValidModel, place: Place, k: usize, name: &Name) -> Result
     requires { k < 2 ^ 32 }
     ensures { Answers result (step_check model.now place k name.now) tt }
 {
-    let is_known = step_named(model, name).is_some();
+    let is_known = model.step_named(name).is_some();
     refuse_unless(is_known, Code::M44, at_spot(place, k))
 }
 

@@ -16,7 +16,6 @@ ghost use Rattle.cl_edit.specs.Edited.{all_names, edit_checks, with_edit};
 ghost use Rattle.cl_edit.specs.FewListChecks.{new_task_name_check, new_runnables_check, below_new_check, new_task_checks};
 ghost use Rattle.cl_edit.specs.Inner.NewTasks.{added_naming_checks, added_count_check, added_checks, all_checks, outpaced_by, is_task_below};
 
-use crate::check_lists::{entry_of, step_named};
 use crate::find::found;
 use crate::new_deadlines::check_deadlines;
 use crate::new_labels::check_labels;
@@ -25,8 +24,10 @@ use cl_model::{
     NameSet, Part, Place, RunnableDef, StimulusKind, TaskDef, ValidModel, add_new, refuse_unless,
     refuse_when,
 };
+use cl_valid::entry_of;
 use std::alloc::Global;
 
+/// A key of a task.
 pub(crate) fn task_key(i: usize, key: Key) -> Place
     requires { i < 2 ^ 32 }
     ensures { result ≡ task_key i key }
@@ -68,7 +69,7 @@ fn check_new_name(
     ensures checked { Answers result (when (has_name name.now (all_names model.now ++ new.old)) Code.M24 place) tt }
     ensures names { OnOk result (new.new ≡ new.old ++ name.now ∷ []) }
 {
-    let is_taken = step_named(model, name).is_some();
+    let is_taken = model.step_named(name).is_some();
     refuse_when(is_taken, Code::M24, place)?;
     add_new(new, name, Code::M24, place)
 }

@@ -6,14 +6,15 @@ ghost use Rattle.cl_model.specs.Named.{task_names, kind_named};
 ghost use Rattle.cl_model.specs.Validity.{IsValid, refusals_of};
 ghost use Rattle.cl_model.specs.ValidTasks.{task_key, deadline_checks};
 ghost use Rattle.cl_model.specs.Changes.{with_range, with_whole, with_kind, with_deadline, with_swap, with_access};
-ghost use Rattle.cl_edit.specs.Edited.{found, all_names, kind_found, task_number, stimulus_number};
+ghost use Rattle.cl_model.specs.ByNumber.{stimulus_number}
+ghost use Rattle.cl_edit.specs.Edited.{found, all_names, kind_found, task_number};
 ghost use Rattle.cl_edit.specs.Inner.Kinds.{sets, with_numbers};
 ghost use Rattle.cl_edit.specs.Inner.Paces.{all_limits_on};
 ghost use Rattle.cl_edit.specs.FewChecks.{range_refusals, number_refusals};
 
 use crate::clash::check_swapped;
 use crate::edit::Edit;
-use crate::find::{self, found_step, not_found};
+use crate::find::{self, not_found};
 use crate::kinds::kind_with;
 use crate::pace::Change;
 use cl_model::{
@@ -21,13 +22,6 @@ use cl_model::{
     refuse_when,
 };
 use cl_valid::{has_late_offset, has_long_burst, has_no_distance};
-
-/// A key of a task.
-pub(crate) fn task_key(task: u32, key: Key) -> Place
-    ensures { result ≡ task_key task key }
-{
-    Part::Task.section_place().at_item(task).at_key(key)
-}
 
 /// The number of the task of that name. E2 where no task has it.
 #[tactic(auto, using(crate::proofs::FoundFacts::finding))]
@@ -41,6 +35,19 @@ pub(crate) fn found_task(model: &ValidModel, name: &Name) -> Result<u32, ModelFa
     let _valid = model.plain();
     match model.task_named(name) {
         Some(number) => Ok(number),
+        None => Err(not_found()),
+    }
+}
+
+/// The runnable of that name. E2 where none has it.
+fn found_runnable(model: &ValidModel, name: &Name) -> Result<Step, ModelFault>
+    ensures checked { Passes result (found name.now (all_names model.now)) }
+    ensures step { IfOk result (λ step. step ≡ step_named model.now name.now) }
+    ensures valid { IsValid model.now }
+{
+    let _valid = model.plain();
+    match model.step_named(name) {
+        Some(step) => Ok(step),
         None => Err(not_found()),
     }
 }
@@ -64,7 +71,7 @@ pub(crate) fn check_range(
 ) -> Result<(), ModelFault>
     ensures { Passes result (found runnable.now (all_names model.now) ++ refusals_of (with_range model.now (step_named model.now runnable.now) least greatest)) }
 {
-    let step = found_step(model.plain(), runnable)?;
+    let step = found_runnable(model, runnable)?;
     check_times(step, least, greatest)
 }
 
@@ -75,7 +82,7 @@ pub(crate) fn check_whole(
 ) -> Result<(), ModelFault>
     ensures { Passes result (found runnable.now (all_names model.now) ++ refusals_of (with_whole model.now (step_named model.now runnable.now) whole)) }
 {
-    let _step = found_step(model.plain(), runnable)?;
+    let _step = found_runnable(model, runnable)?;
     Ok(())
 }
 

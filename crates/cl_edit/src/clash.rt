@@ -9,7 +9,7 @@ ghost use Rattle.cl_edit.specs.declared.pace.Change.TheVariants.{Swap};
 ghost use Rattle.cl_edit.specs.Inner.Paces.{with_change, IsChangeOf, core_after, HasOthers, IsAtMost};
 ghost use Rattle.cl_edit.specs.Inner.Clashes.{clash_checks, IsClashing, HasMet};
 
-use crate::check_sets::task_key;
+use crate::check_new_task::task_key;
 use crate::pace::{Change, noted};
 use cl_model::{Code, Key, ModelFault, ValidModel};
 
@@ -89,7 +89,7 @@ fn check_swap(model: &ValidModel, one: u32, other: u32) -> Result<(), ModelFault
     let change = Change::Swap { one, other };
     let first = change.clash_beside(model, None, one, model.core_of(one));
     match change.clash_beside(model, first, other, model.core_of(other)) {
-        Some(task) => Err(ModelFault::refused(Code::M31, task_key(task, Key::Priority))),
+        Some(task) => Err(ModelFault::refused(Code::M31, task_key(task as usize, Key::Priority))),
         None => Ok(()),
     }
 }

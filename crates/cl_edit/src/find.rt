@@ -61,7 +61,7 @@ pub(crate) fn step_search(tasks: &[TaskDef], name: &Name) -> Option<Step>
 }
 
 /// The runnable of that name. E2 where none has it.
-pub fn found_step(model: &SystemModel, name: &Name) -> Result<Step, ModelFault>
+pub(crate) fn found_step(model: &SystemModel, name: &Name) -> Result<Step, ModelFault>
     requires { IsInRange model.now }
     ensures checked { Passes result (found name.now (all_names model.now)) }
     ensures step { IfOk result (λ step. step ≡ step_named model.now name.now) }

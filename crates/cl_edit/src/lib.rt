@@ -3,7 +3,7 @@
 
 mod apply;
 mod change;
-mod changes;
+mod change_sets;
 mod check;
 mod check_lists;
 mod check_new_task;
@@ -33,7 +33,6 @@ use cl_model::ModelFault;
 pub use edit::Edit;
 pub use edit_lines::EditLines;
 pub use fault::EditsFault;
-pub use find::found_step;
 pub use limits::{MOST_EDITS, MOST_REPORTS};
 pub use reading::read_edits;
 

@@ -12,16 +12,8 @@ ghost use Rattle.cl_edit.specs.FewListChecks.{below_new_check};
 ghost use Rattle.cl_edit.specs.Inner.NewTasks.{outpaced_by, is_task_below};
 
 use crate::check_new_task::task_key;
-use cl_model::{
-    Code, Key, MOST_DISTANCES, ModelFault, StimulusKind, TaskDef, ValidModel, refuse_when,
-};
-
-fn spans_too_many(deadline: u64, above: StimulusKind) -> bool
-    ensures { result ≡ spans_too_many deadline above }
-{
-    let limit = u128::from(MOST_DISTANCES) * u128::from(above.least_distance());
-    limit < u128::from(deadline) + u128::from(above.greatest_jitter())
-}
+use cl_model::{Code, Key, ModelFault, StimulusKind, TaskDef, ValidModel, refuse_when};
+use cl_valid::spans_too_many;
 
 /// Whether the deadline of a task spans too many distances of another one, where both stimuli are known.
 fn spans_distances(

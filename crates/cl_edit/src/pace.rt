@@ -6,7 +6,7 @@ ghost use Rattle.cl_model.specs.ValidTasks.{deadline_checks};
 ghost use Rattle.cl_model.specs.Validity.{IsValid};
 ghost use Rattle.cl_edit.specs.Inner.Paces.{with_change, IsChangeOf, is_on, is_outpacing, least_of, noted, IsAtMost, IsOutpaced, HasSeen, limit_checks, limits_on, all_limits_on, priority_after, kind_after, given_after, core_after, pace_after, is_outpaced, HasOthers};
 
-use crate::check_sets::task_key;
+use crate::check_new_task::task_key;
 use cl_model::{Code, Key, ModelFault, StimulusKind, ValidModel, refuse_when};
 use cl_valid::spans_too_many;
 
@@ -68,9 +68,9 @@ fn check_limits(pace: Pace, task: u32) -> Result<(), ModelFault>
     ensures { Answers result (limit_checks pace task) tt }
 {
     let is_late = pace.kind.least_distance() < pace.deadline;
-    refuse_when(is_late, Code::M32, task_key(task, Key::Deadline))?;
+    refuse_when(is_late, Code::M32, task_key(task as usize, Key::Deadline))?;
     let is_released_late = pace.deadline <= pace.kind.greatest_jitter();
-    refuse_when(is_released_late, Code::M33, task_key(task, Key::Stimulus))?;
+    refuse_when(is_released_late, Code::M33, task_key(task as usize, Key::Stimulus))?;
     Ok(())
 }
 
@@ -295,7 +295,7 @@ impl Change {
         ensures { Passes result (deadline_checks (with_change model.now self)) }
     {
         match self.first_outpaced(model) {
-            Some(task) => Err(ModelFault::refused(Code::M42, task_key(task, Key::Deadline))),
+            Some(task) => Err(ModelFault::refused(Code::M42, task_key(task as usize, Key::Deadline))),
             None => Ok(()),
         }
     }

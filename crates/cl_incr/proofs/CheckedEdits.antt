@@ -9,7 +9,7 @@ use Rattle.cl_model.specs.Answers.{IsFaultOf, Passes}
 use Rattle.cl_edit.specs.declared.edit.Edit.{Edit}
 use Rattle.cl_edit.specs.Edited.{with_edit, edited}
 use Rattle.cl_incr.specs.Changed.{AsksForChanges}
-use Rattle.cl_incr.proofs.Touching.{changed_is}
+use Rattle.cl_edit.proofs.EditedValid.{made_is}
 use Rattle.cl_edit.proofs.CheckedEdits.{checks_of_edit, made_where_passes, refused_where_fault}
 
 module _ (model : SystemModel) (edit : Edit) where
@@ -27,12 +27,12 @@ module _ (model : SystemModel) (edit : Edit) where
   -- the steps that ask for the changes of the edited model ask for those of what the edit makes
   pub asks_made : (changed : SystemModel) (before after : ℕ) → edited model edit ≡ Ok changed → AsksForChanges model changed before after
       → AsksForChanges model (with_edit model edit) before after
-  asks_made changed before after is = subst (λ (m : SystemModel). AsksForChanges model m before after) (sym (changed_is model edit changed is))
+  asks_made changed before after is = subst (λ (m : SystemModel). AsksForChanges model m before after) (sym (made_is model edit changed is))
 
   pub asks_changed : (changed : SystemModel) (before after : ℕ) → edited model edit ≡ Ok changed → AsksForChanges model (with_edit model edit) before after
       → AsksForChanges model changed before after
-  asks_changed changed before after is = subst (λ (m : SystemModel). AsksForChanges model m before after) (changed_is model edit changed is)
+  asks_changed changed before after is = subst (λ (m : SystemModel). AsksForChanges model m before after) (made_is model edit changed is)
 
   -- what is made is what the edit makes
   pub made_as_meant : (changed : SystemModel) → edited model edit ≡ Ok changed → edited model edit ≡ Ok (with_edit model edit)
-  made_as_meant changed is = is ∙ ap Ok (sym (changed_is model edit changed is))
+  made_as_meant changed is = is ∙ ap Ok (sym (made_is model edit changed is))

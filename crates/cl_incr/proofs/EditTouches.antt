@@ -4,15 +4,16 @@ use Rattle.std.specs.Prelude.{All, Option, Result, IfOk, IfSome, Err, Some, None
 use Rattle.cl_model.specs.declared.model.SystemModel.{SystemModel}
 use Rattle.cl_model.specs.declared.stimulus.StimulusKind.{StimulusKind}
 use Rattle.cl_model.specs.declared.task.AccessKind.{AccessKind}
-use Rattle.cl_model.specs.ByNumber.{task_at, runnable_at, stimulus_of}
+use Rattle.cl_model.specs.ByNumber.{stimulus_number, task_at, runnable_at, stimulus_of}
 use Rattle.cl_model.specs.declared.group.Step.{Step}
 use Rattle.cl_model.specs.Groups.{step_named}
 use Rattle.cl_edit.specs.declared.edit.Edit.{Edit}
 use Rattle.cl_edit.specs.declared.edit.Edit.TheVariants.{Range, Whole, Period, Offset, Jitter, Distances, Burst, Deadline, Swap, Move, Kind}
 use Rattle.cl_model.specs.Changes.{with_range, with_whole, with_kind, with_period, with_offset, with_jitter, with_distances, with_burst, with_deadline, with_swap, with_place, with_access}
-use Rattle.cl_edit.specs.Edited.{task_number, stimulus_number, with_edit, edited}
+use Rattle.cl_edit.specs.Edited.{task_number, with_edit, edited}
 use Rattle.cl_incr.specs.Touched.{IsAmong, Touches}
-use Rattle.cl_incr.proofs.Touching.{changed_is, task_touches, runnable_touches, swap_touches, kind_touches}
+use Rattle.cl_edit.proofs.EditedValid.{made_is}
+use Rattle.cl_incr.proofs.Touching.{task_touches, runnable_touches, swap_touches, kind_touches}
 
 -- a fact of what is found, if something is, follows from another
 pub if_found : {X E : Type 0} (P Q : X → Type 0) (result : Result (Option X) E) → ((x : X) → P x → Q x) → IfOk result (λ found. IfSome found P)
@@ -23,7 +24,7 @@ if_found P Q (Err e) then is = is
 
 module _ (model changed : SystemModel) (edit : Edit) (made : edited model edit ≡ Ok changed) where
   touches_by : (tasks : List ℕ) (meaning : SystemModel) → with_edit model edit ≡ meaning → Touches model meaning tasks → Touches model changed tasks
-  touches_by tasks meaning is = subst (λ m. Touches model m tasks) (sym is ∙ changed_is model edit changed made)
+  touches_by tasks meaning is = subst (λ m. Touches model m tasks) (sym is ∙ made_is model edit changed made)
 
   -- ---- runnables
 
@@ -123,7 +124,7 @@ module _ (model changed : SystemModel) (edit : Edit) (made : edited model edit �
 
   module _ (sets : SetsKind) where
     kind_is : with_kind model sets.number sets.change ≡ changed
-    kind_is = sym sets.is ∙ changed_is model edit changed made
+    kind_is = sym sets.is ∙ made_is model edit changed made
 
     pub same_tasks : length model.tasks ≡ length changed.tasks
     same_tasks = ap (λ (m : SystemModel). length m.tasks) kind_is

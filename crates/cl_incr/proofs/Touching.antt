@@ -106,15 +106,6 @@ module _ (model : SystemModel) (s : ℕ) (change : StimulusKind → StimulusKind
 
 -- ---- edits
 
--- where a model is answered, it is the meaning
-is_meaning : (meaning model : SystemModel) (refusals : List Refusal) → answer refusals meaning ≡ Ok model → meaning ≡ model
-is_meaning meaning model [] is = cc
-is_meaning meaning model (refusal ∷ refusals) is = absurd cc
-
-pub changed_is : (model : SystemModel) (edit : Edit) (changed : SystemModel) → edited model edit ≡ Ok changed → with_edit model edit ≡ changed
-unfolding edited
-changed_is model edit changed is = is_meaning (with_edit model edit) changed (edit_checks model edit ++ refusals_of (with_edit model edit)) is
-
 -- a list of one task, and one of two
 all_but_one : (old new : SystemModel) (i : ℕ) → ((k : ℕ) → k < length new.tasks → k ≢ i → HasSameTiming old new k) → ChangesOnly (i ∷ []) old new
 all_but_one old new i others k within = elim (eqb_tells k i) [

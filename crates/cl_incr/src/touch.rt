@@ -6,7 +6,7 @@ ghost use Rattle.cl_model.specs.Groups.{step_named};
 ghost use Rattle.cl_edit.specs.Edited.{task_number, edited};
 ghost use Rattle.cl_incr.specs.Touched.{IsAmong, Touches, TouchesOnly, is_marked};
 
-use cl_edit::{Edit, found_step};
+use cl_edit::Edit;
 use cl_model::{List, Name, StimulusKind, ValidModel};
 use cl_time::NoMemory;
 use std::alloc::Global;
@@ -37,9 +37,9 @@ fn task_of_runnable(
     ensures { IfOk result (λ found. IfSome found (λ tasks.
         (tasks ≡ (step_named model.now runnable.now).task ∷ []) × ((step_named model.now runnable.now).task < length model.now.tasks))) }
 {
-    match found_step(model.plain(), runnable) {
-        Ok(step) => Ok(Some(one_task(alloc, step.task)?)),
-        Err(_) => Ok(None),
+    match model.step_named(runnable) {
+        Some(step) => Ok(Some(one_task(alloc, step.task)?)),
+        None => Ok(None),
     }
 }
 

@@ -27,7 +27,7 @@ use Rattle.cl_model.proofs.ListFacts.{same_tests}
 -- ---- the lists of the tasks of each core
 
 -- one more task
-below_more : (model : SystemModel) (n core : ℕ) → tasks_of_core_below model (n + 1) core ≡ tasks_of_core_below model n core ++ cond (core_of model n == core) (n ∷ []) []
+pub below_more : (model : SystemModel) (n core : ℕ) → tasks_of_core_below model (n + 1) core ≡ tasks_of_core_below model n core ++ cond (core_of model n == core) (n ∷ []) []
 below_more model n core =
     let on_core : ℕ → Bool = λ i. core_of model i == core in
     ap (filter on_core) (sym (map-id (range_with_len 0 (n + 1)))) ∙ filter_of_map_range_with_len_more on_core (λ i. i) 0 n n (omega arith)

@@ -20,3 +20,4 @@ pub mod GroupsOfParts
 pub mod DocumentTexts
 pub mod ValidTasks
 pub mod CoreTasks
+pub mod KeptLookUps

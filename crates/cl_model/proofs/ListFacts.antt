@@ -33,6 +33,11 @@ list_any-flat_map test f (x ∷ xs) =
 
 -- ---- mapped lists
 
+-- to map, item by item
+pub maps_agree : {X Y : Type 0} (f g : X → Y) → ((x : X) → f x ≡ g x) → (xs : List X) → map f xs ≡ map g xs
+maps_agree f g same [] = refl
+maps_agree f g same (x ∷ xs) = ap (λ y. y ∷ map f xs) (same x) ∙ ap (λ ys. g x ∷ ys) (maps_agree f g same xs)
+
 -- what stands at a place of a mapped list
 pub mapped_at : {X Y : Type 0} (f : X → Y) (xs : List X) (d : X) (mapped : List Y) (i : ℕ) (y : Y) → mapped ≡ map f xs → i < length xs → y ≡ get_or mapped i y → y ≡ f (get_or xs i d)
 mapped_at f xs d mapped i y is within at = at ∙ ap (λ ys. get_or ys i y) is ∙ get_or-map f xs i d y within

@@ -1,18 +1,22 @@
 -- The names that tasks and chains of a valid model name are known.
-use Rattle.std.proofs.Common.{◌≡◌, ℕ, ◌+◌, ◌<◌, true, List, [], length, get_or, sym, ap, ◌∙◌, arith}
-use Rattle.std.specs.Prelude.{Option, None, is_some, All}
+use Rattle.std.proofs.Common.{◌≡◌, ℕ, ◌+◌, ◌<◌, true, List, [], length, get_or, refl, sym, subst, ap, ◌∙◌, arith}
+use Rattle.std.specs.Prelude.{Option, Some, None, is_some, slice_get, unwrap_or, All}
+use Rattle.std.specs.Option.{option_map, option_and_then}
 use Rattle.cl_model.specs.declared.chain.ChainDef.{ChainDef}
 use Rattle.cl_model.specs.declared.model.SystemModel.{SystemModel}
 use Rattle.cl_model.specs.declared.place.Part.TheVariants as part
 use Rattle.cl_model.specs.declared.stimulus.StimulusKind.{StimulusKind}
 use Rattle.cl_model.specs.declared.task.TaskDef.{TaskDef}
 use Rattle.std.proofs.lemmas.Bool.{eqb-true}
+use Rattle.std.proofs.lemmas.Option.{slice_get-get_or}
+use Rattle.std.proofs.lemmas.List.{get_or_default}
 use Rattle.std.proofs.Math.ListN.{length-map}
-use Rattle.cl_model.proofs.NamePlaces.{place_within}
+use Rattle.cl_model.proofs.NamePlaces.{place_within, found_below}
 use Rattle.cl_model.specs.declared.place.Key.TheVariants as key
 use Rattle.cl_model.specs.Place.{entry_of, at_key}
-use Rattle.cl_model.specs.Named.{has_name, core_names, kind_named, runnable_names, all_runnables}
-use Rattle.cl_model.specs.ByNumber.{no_task, core_of}
+use Rattle.cl_model.specs.Named.{has_name, index_of, core_names, stimulus_names, kind_named, runnable_names, all_runnables}
+use Rattle.cl_model.specs.ByNumber.{no_stimulus, no_task, task_at, core_of, stimulus_number, stimulus_of}
+use Rattle.cl_model.specs.Changes.{stimulus_at}
 use Rattle.cl_model.specs.Refusals.{each}
 use Rattle.cl_model.specs.ValidTasks.{naming_checks, task_checks}
 use Rattle.cl_model.specs.Validity.{IsValid, lengths_check, step_check, chain_check}
@@ -68,3 +72,32 @@ stimulus_missing model valid tasks i task found same lt at is none =
 pub core_within : (model : SystemModel) → IsValid model → (i : ℕ) → i < length model.tasks → core_of model i < length model.cores
 core_within model valid i lt =
     omega (arith, place_within (get_or model.tasks i no_task).core (core_names model) (core_known model valid i no_task lt), length-map model.cores (λ core. core.name))
+
+-- ---- the kind of a stimulus by its number
+
+-- the kind that a name stands for is that of its number
+pub kind_there : (model : SystemModel) (name : List ℕ) (s : ℕ) → index_of name (stimulus_names model) ≡ Some s → kind_named model name ≡ Some (stimulus_at model s).kind
+kind_there model name s e =
+    let within : s < length (stimulus_names model) = found_below name (stimulus_names model) s e in
+    let short : s < length model.stimuli = subst (λ n. s < n) (length-map model.stimuli (λ stimulus. stimulus.name)) within in
+    ap (λ o. option_map (λ stimulus. stimulus.kind) (option_and_then (slice_get model.stimuli) o)) e
+    ∙ ap (option_map (λ stimulus. stimulus.kind)) (slice_get-get_or model.stimuli s _ short)
+
+-- a task of a valid model names a stimulus that has a number
+pub stimulus_unnumbered : (model : SystemModel) → IsValid model → (tasks : List TaskDef) (i : ℕ) (task : TaskDef) (names : List (List ℕ)) (number : Option ℕ) → tasks ≡ model.tasks → i < length tasks → task ≡ get_or tasks i task
+    → names ≡ stimulus_names model → number ≡ index_of task.stimulus names → number ≡ None → ⊥
+stimulus_unnumbered model valid tasks i task names number same lt at is numbered none =
+    let nowhere : index_of task.stimulus (stimulus_names model) ≡ None = ap (index_of task.stimulus) (sym is) ∙ sym numbered ∙ none in
+    stimulus_missing model valid tasks i task (kind_named model task.stimulus) same lt at refl
+    (ap (λ o. option_map (λ stimulus. stimulus.kind) (option_and_then (slice_get model.stimuli) o)) nowhere)
+
+-- the kind of the stimulus of a task of a valid model is that of its number
+pub stimulus_numbered : (model : SystemModel) → IsValid model → (i : ℕ) → i < length model.tasks
+    → (stimulus_number model (task_at model i).stimulus < length model.stimuli) × (stimulus_of model i ≡ (stimulus_at model (stimulus_number model (task_at model i).stimulus)).kind)
+stimulus_numbered model valid i lt =
+    let name = (task_at model i).stimulus in
+    elim (index_of name (stimulus_names model)) as (λ o. index_of name (stimulus_names model) ≡ o → (unwrap_or o 0 < length model.stimuli) × (stimulus_of model i ≡ (stimulus_at model (unwrap_or o 0)).kind)) [
+      | None ↦ λ e. absurd (stimulus_unnumbered model valid model.tasks i (task_at model i) (stimulus_names model) None refl lt (get_or_default model.tasks i no_task _ lt) refl (sym e) refl)
+      | Some s ↦ λ e.
+          (omega (arith, found_below name (stimulus_names model) s e, length-map model.stimuli (λ stimulus. stimulus.name)), ap (λ o. unwrap_or o no_stimulus) (kind_there model name s e))
+    ] refl

@@ -4,7 +4,7 @@ use Rattle.std.specs.Prelude.{unwrap_or, slice_get, Some}
 use Rattle.std.specs.Option.{option_and_then}
 use Rattle.std.proofs.lemmas.Option.{slice_get-get_or}
 use Rattle.std.proofs.lemmas.Bool.{ltb-false, ltb-true}
-use Rattle.std.proofs.lemmas.List.{append-nil, length-append, length-map, get_or-map, get_or_append_left, get_or-append_right}
+use Rattle.std.proofs.lemmas.List.{append-nil, length-append, length-map, get_or-map, get_or_append_left, get_or-append_right, get_or_default}
 use Rattle.std.proofs.lemmas.List.FromFn.{length-map-range_with_len, get_or-map-range_with_len, map-range_with_len_more}
 use Rattle.cl_model.specs.declared.group.Step.{Step}
 use Rattle.cl_model.specs.declared.groups.StepTable.{StepTable}
@@ -15,7 +15,7 @@ use Rattle.cl_model.specs.Groups.{step_from, step_named, no_step, IsStepOf}
 use Rattle.cl_model.specs.Named.{has_name, index_of, runnable_names, all_runnables, runnable_named}
 use Rattle.cl_model.specs.ByNumber.{no_task, no_runnable, task_at, runnable_at}
 use Rattle.cl_model.specs.Inner.StepTable.{steps_in, steps_from, step_in, AreStepsOf}
-use Rattle.cl_model.proofs.NamePlaces.{place_within, known_place, known_named}
+use Rattle.cl_model.proofs.NamePlaces.{place_within, known_place, known_named, found_below}
 
 -- ---- the steps of all runnables
 
@@ -163,3 +163,18 @@ runnable_found model name known =
     let n = unwrap_or (index_of name (runnable_names (all_runnables model.tasks))) 0 in
     ap (option_and_then (slice_get (all_runnables model.tasks))) (known_place name (runnable_names (all_runnables model.tasks)) known)
     ∙ slice_get-get_or (all_runnables model.tasks) n no_runnable (known_within model.tasks name known) ∙ ap (λ r. Some r) (numbered_runnable model name known)
+
+-- ---- looked up in a table
+
+module _ (model : SystemModel) (table : StepTable) (kept : AreStepsOf model.tasks table) (name : List ℕ) (number : ℕ) (known : has_name name table.names ≡ true) (at : index_of name table.names ≡ Some number) where
+  pub looked_up_within : number < length table.steps.items
+  looked_up_within = omega (arith, found_below name table.names number at, table_paired model.tasks table kept)
+
+  pub looked_up_is : (step : Step) → step ≡ get_or table.steps.items number step → step ≡ step_named model name
+  looked_up_is step is =
+      is ∙ get_or_default table.steps.items number step no_step looked_up_within
+      ∙ ap (λ n. get_or table.steps.items n no_step) (sym (ap (λ o. unwrap_or o 0) at))
+      ∙ step_in_is model table name kept (rw kept.names at known)
+
+  pub looked_up_stands : (step : Step) → step ≡ get_or table.steps.items number step → IsStepOf model step
+  looked_up_stands step is = rw (looked_up_is step is) (step_stands_in model name (rw kept.names at known))

@@ -10,7 +10,7 @@ use Rattle.cl_model.specs.declared.stimulus.StimulusKind.TheVariants.{Sporadic}
 use Rattle.cl_model.specs.declared.task.AccessKind.TheVariants.{Explicit}
 use Rattle.cl_model.specs.declared.task.RunnableDef.{RunnableDef}
 use Rattle.cl_model.specs.declared.task.TaskDef.{TaskDef}
-use Rattle.cl_model.specs.Named.{index_of, core_names, task_names, chain_names, kind_named}
+use Rattle.cl_model.specs.Named.{index_of, core_names, stimulus_names, task_names, chain_names, kind_named}
 use Rattle.cl_model.specs.Timing.{greatest_jitter, deadline_under}
 
 -- stands for a task past the last one
@@ -52,6 +52,10 @@ core_at model core = slice_index_or model.cores core no_core
 -- the number of the core that a task names
 abbrev pub core_number : SystemModel → TaskDef → ℕ
 core_number model task = unwrap_or (index_of task.core (core_names model)) 0
+
+-- the number of the stimulus of that name: 0 where there is none
+abbrev pub stimulus_number : SystemModel → List ℕ → ℕ
+stimulus_number model name = unwrap_or (index_of name (stimulus_names model)) 0
 
 -- the kind of the stimulus that a task names
 abbrev pub stimulus_kind : SystemModel → TaskDef → StimulusKind

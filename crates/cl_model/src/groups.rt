@@ -20,9 +20,9 @@ use std::alloc::Global;
 
 /// The runnables of a model by name: the number of a name is the place of its step.
 #[derive(Drop)]
-struct StepTable {
-    names: NameSet,
-    steps: Vec<Step>,
+pub struct StepTable {
+    pub names: NameSet,
+    pub steps: Vec<Step>,
 }
 
 fn names_of_runnables(alloc: Global, tasks: &[TaskDef]) -> Result<NameSet, NoMemory>
@@ -57,7 +57,8 @@ fn steps_of_tasks(alloc: Global, tasks: &[TaskDef]) -> Result<Vec<Step>, NoMemor
     Ok(steps)
 }
 
-fn step_table(alloc: Global, model: &SystemModel) -> Result<StepTable, NoMemory>
+/// The runnables of a valid model by name.
+pub fn step_table(alloc: Global, model: &SystemModel) -> Result<StepTable, NoMemory>
     requires { IsValid model.now }
     ensures { IfOk result (AreStepsOf model.now.tasks) }
 {
@@ -105,14 +106,18 @@ pub fn groups(alloc: Global, steps: &[Step]) -> Result<List<Group>, NoMemory>
 }
 
 /// The groups of each chain, in time linear in the size of the model.
-pub fn groups_of_chains(alloc: Global, model: &SystemModel) -> Result<Vec<List<Group>>, NoMemory>
-    requires { IsValid model.now }
+pub fn groups_of_chains(
+    alloc: Global,
+    model: &SystemModel,
+    table: &StepTable,
+) -> Result<Vec<List<Group>>, NoMemory>
+    requires valid { IsValid model.now }
+    requires table { AreStepsOf model.now.tasks table.now }
     ensures { IfOk result (λ lists. lists.items ≡ map (groups_of model.now) model.now.chains) }
 {
-    let table = step_table(alloc, model)?;
     let mut all = Vec::new(alloc);
     for chain in model.chains.as_slice() {
-        let steps = steps_named(alloc, &table, chain.runnables.as_slice())?;
+        let steps = steps_named(alloc, table, chain.runnables.as_slice())?;
         all.push(groups(alloc, steps.as_slice())?)?;
     }
     Ok(all)

@@ -2,6 +2,7 @@
 #![tactic(auto)]
 
 mod chain;
+mod changes;
 mod copying;
 mod entries;
 mod group;

@@ -2,14 +2,14 @@
 ghost use Rattle.std.specs.Prelude.{◌≡◌, ◌<◌, ◌^◌, [], ◌∷◌, ◌++◌, length, map, replicate, slice_index_or, slice_set, IfOk, OnOk, All};
 ghost use Rattle.std.specs.List.{range_with_len};
 ghost use Rattle.cl_model.specs.Named.{stimulus_names, kind_named};
-ghost use Rattle.cl_model.specs.ByNumber.{core_number, stimulus_kind, greatest_time, tasks_of_core};
+ghost use Rattle.cl_model.specs.ByNumber.{core_number, stimulus_number, greatest_time, tasks_of_core};
 ghost use Rattle.cl_model.specs.Ranges.{IsTaskInRange};
 ghost use Rattle.cl_model.specs.Inner.LookUps.{AreLookUpsOf};
 ghost use Rattle.cl_model.specs.Validity.{IsValid};
 
 use crate::entries::name_numbers;
 use crate::group::Group;
-use crate::groups::groups_of_chains;
+use crate::groups::{StepTable, groups_of_chains, step_table};
 use crate::list::List;
 use crate::model::SystemModel;
 use crate::name::Name;
@@ -44,22 +44,23 @@ fn core_numbers(alloc: Global, model: &SystemModel) -> Result<Vec<u32>, NoMemory
     Ok(numbers)
 }
 
-fn stimulus_kinds(alloc: Global, model: &SystemModel) -> Result<Vec<StimulusKind>, NoMemory>
+fn stimulus_numbers(alloc: Global, model: &SystemModel) -> Result<Vec<u32>, NoMemory>
     requires { IsValid model.now }
-    ensures { IfOk result (λ kinds. kinds.items ≡ map (stimulus_kind model.now) model.now.tasks) }
+    ensures { IfOk result (λ numbers. numbers.items ≡ map (λ task. stimulus_number model.now task.stimulus) model.now.tasks) }
 {
     let stimuli = name_numbers(alloc, model.stimuli.as_slice())?;
-    let mut kinds = Vec::new(alloc);
+    let mut numbers = Vec::new(alloc);
     for task in model.tasks.as_slice() {
-        let Some(kind) = kind_named(model, &stimuli, &task.stimulus) else {
+        let Some(number) = stimuli.number_of(&task.stimulus) else {
             unreachable!();
         };
-        kinds.push(kind)?;
+        numbers.push(number as u32)?;
     }
-    Ok(kinds)
+    Ok(numbers)
 }
 
-fn greatest_time(task: &TaskDef) -> u64
+/// The greatest execution time of a job of a task.
+pub fn greatest_time(task: &TaskDef) -> u64
     requires { greatest_time task.now < 2 ^ 64 }
     ensures { result ≡ greatest_time task.now }
 {
@@ -118,8 +119,8 @@ fn tasks_of_cores(
 pub struct LookUps {
     /// The number of the core of each task.
     pub cores: Vec<u32>,
-    /// The kind of the stimulus of each task.
-    pub stimuli: Vec<StimulusKind>,
+    /// The number of the stimulus of each task.
+    pub stimuli: Vec<u32>,
     /// The names of the tasks.
     pub tasks: NameSet,
     /// The names of the chains.
@@ -128,6 +129,8 @@ pub struct LookUps {
     pub times: Vec<u64>,
     /// The numbers of the tasks of each core.
     pub on_cores: Vec<List<u32>>,
+    /// The runnables by name.
+    pub steps: StepTable,
     /// The groups of each chain.
     pub groups: Vec<List<Group>>,
 }
@@ -140,13 +143,16 @@ pub fn look_ups_of(alloc: Global, model: &SystemModel) -> Result<LookUps, NoMemo
     let tasks = model.tasks.as_slice();
     let cores = core_numbers(alloc, model)?;
     let on_cores = tasks_of_cores(alloc, model, cores.as_slice())?;
+    let steps = step_table(alloc, model)?;
+    let groups = groups_of_chains(alloc, model, &steps)?;
     Ok(LookUps {
         cores,
-        stimuli: stimulus_kinds(alloc, model)?,
+        stimuli: stimulus_numbers(alloc, model)?,
         tasks: name_numbers(alloc, tasks)?,
         chains: name_numbers(alloc, model.chains.as_slice())?,
         times: greatest_times(alloc, tasks)?,
         on_cores,
-        groups: groups_of_chains(alloc, model)?,
+        steps,
+        groups,
     })
 }

@@ -1,12 +1,16 @@
 //! Valid models, which answer in constant time.
-ghost use Rattle.std.specs.Prelude.{◌≡◌, ◌<◌, ◌≤◌, length, slice_index_or, IfOk, IfErr, IfSome, All};
+ghost use Rattle.std.specs.Prelude.{◌≡◌, ◌<◌, ◌≤◌, length, slice_index_or, IfOk, IfErr, IfSome, is_some, All};
 ghost use Rattle.cl_model.specs.declared.limits.TheConstants.{MOST_STEPS};
-ghost use Rattle.cl_model.specs.Groups.{no_group, groups_at, IsGroupOf};
+ghost use Rattle.cl_model.specs.Groups.{no_group, step_named, groups_at, IsStepOf, IsGroupOf};
 ghost use Rattle.cl_model.specs.ByNumber.{task_at, chain_at, core_at, core_of, stimulus_of, deadline_of, jitter_of, time_of, tasks_of_core, task_named, chain_named};
+ghost use Rattle.cl_model.specs.Changes.{stimulus_at};
+ghost use Rattle.cl_model.specs.Named.{has_name, runnable_names, all_runnables};
 ghost use Rattle.cl_model.specs.Validity.{IsValid};
 
+mod changes;
+
 use crate::chain::ChainDef;
-use crate::group::Group;
+use crate::group::{Group, Step};
 use crate::look_ups::{LookUps, look_ups_of};
 use crate::model::{CoreDef, SystemModel};
 use crate::name::Name;
@@ -55,6 +59,14 @@ impl ValidModel {
         ensures valid { IsValid self.now }
     {
         &self.model
+    }
+
+    /// The model itself, without what is kept beside it.
+    pub fn into_plain(self) -> SystemModel
+        ensures plain { result ≡ self }
+        ensures valid { IsValid self }
+    {
+        self.model
     }
 
     /// The number of tasks.
@@ -117,12 +129,22 @@ impl ValidModel {
         self.look_ups.cores[task as usize]
     }
 
+    /// The number of the stimulus of a task.
+    fn stimulus_number(&self, task: u32) -> u32
+        requires { task < length self.now.tasks }
+        ensures within { result < length self.now.stimuli }
+        ensures kind { stimulus_of self.now task ≡ (stimulus_at self.now result).kind }
+    {
+        self.look_ups.stimuli[task as usize]
+    }
+
     /// The kind of the stimulus of a task.
     pub fn stimulus_of(&self, task: u32) -> StimulusKind
         requires { task < length self.now.tasks }
         ensures { result ≡ stimulus_of self.now task }
     {
-        self.look_ups.stimuli[task as usize]
+        let number = self.stimulus_number(task);
+        self.model.stimuli.as_slice()[number as usize].kind
     }
 
     /// The deadline of a task in ticks from its arrival: the one that is given, or the least distance between arrivals.
@@ -204,6 +226,17 @@ impl ValidModel {
     {
         let number = self.look_ups.chains.number_of(name)?;
         Some(number as u32)
+    }
+
+    /// The runnable of that name. There is none exactly where no runnable has it.
+    pub fn step_named(&self, name: &Name) -> Option<Step>
+        ensures found { is_some result ≡ has_name name.now (runnable_names (all_runnables self.now.tasks)) }
+        ensures step { IfSome result (λ step. step ≡ step_named self.now name.now) }
+        ensures within { IfSome result (IsStepOf self.now) }
+    {
+        let steps = &self.look_ups.steps;
+        let number = steps.names.number_of(name)?;
+        Some(steps.steps[number])
     }
 
     /// An equal model.

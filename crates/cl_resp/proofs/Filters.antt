@@ -14,11 +14,6 @@ by_number xs d =
     let within : k < length xs = omega (arith, lt, length-map-range_with_len (λ i. get_or xs i d) 0 (length xs)) in
     get_or-map-range_with_len (λ i. get_or xs i d) 0 (length xs) k k e within (omega arith) ∙ get_or_default xs k d e within)
 
--- to map, item by item
-pub maps_agree : {X Y : Type 0} (f g : X → Y) → ((x : X) → f x ≡ g x) → (xs : List X) → map f xs ≡ map g xs
-maps_agree f g same [] = refl
-maps_agree f g same (x ∷ xs) = ap (λ y. y ∷ map f xs) (same x) ∙ ap (λ ys. g x ∷ ys) (maps_agree f g same xs)
-
 -- to filter what is mapped
 pub filter-map : {X Y : Type 0} (p : Y → Bool) (f : X → Y) (xs : List X) → filter p (map f xs) ≡ map f (filter (λ x. p (f x)) xs)
 filter-map p f [] = refl

@@ -26,7 +26,8 @@ use Rattle.cl_resp.specs.declared.question.Above.{Above}
 use Rattle.cl_resp.specs.declared.question.Question.{Question}
 use Rattle.cl_resp.specs.Question.{greatest_execution, is_above, hold_of, longest_hold, block_of, lower_block_of, taken_by, question_of, tight_question_of, either_question, IsAboveInRange, IsQuestionInRange}
 use Rattle.cl_resp.proofs.StimulusKinds.{kind_of-as_stimulus, least_few}
-use Rattle.cl_resp.proofs.Filters.{by_number, maps_agree, filter-map, filter-both, fewer}
+use Rattle.cl_model.proofs.ListFacts.{maps_agree}
+use Rattle.cl_resp.proofs.Filters.{by_number, filter-map, filter-both, fewer}
 use Rattle.cl_resp.proofs.Greatest.{greatest_within, greatest_agrees, greatest_mapped}
 
 -- whether another task has a higher priority, by number

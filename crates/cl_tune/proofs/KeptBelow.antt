@@ -24,7 +24,7 @@ use Rattle.cl_model.specs.Kinds.{is_timed, is_periodic}
 use Rattle.cl_runs.specs.SystemOf.{system_of}
 use Rattle.cl_runs.specs.TaskTiming.{timing_at}
 use Rattle.cl_runs.proofs.ModelSystem.{count_is, system_sound}
-use Rattle.cl_resp.proofs.Filters.{maps_agree}
+use Rattle.cl_model.proofs.ListFacts.{maps_agree}
 use Rattle.cl_bound.specs.declared.answer.TaskAnswer.{TaskAnswer}
 use Rattle.cl_bound.specs.declared.answer.TaskAnswer.TheVariants as answers
 use Rattle.cl_bound.specs.Answers.{answer_to, answers_of, is_late, NoneIsLate}

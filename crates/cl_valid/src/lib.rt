@@ -15,6 +15,7 @@ mod tasks;
 mod validation;
 
 pub use deadlines::spans_too_many;
+pub use places::{at_spot, entry_of};
 pub use ranges::{
     in_range, is_burst_count, is_chain_in_range, is_deadline_in_range, is_task_in_range, is_time,
 };

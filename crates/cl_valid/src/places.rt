@@ -5,7 +5,7 @@ ghost use Rattle.cl_model.specs.Place as place;
 use cl_model::{Part, Place};
 
 /// An entry of a section.
-pub(crate) fn entry_of(section: Part, item: usize) -> Place
+pub fn entry_of(section: Part, item: usize) -> Place
     requires { item < 2 ^ 32 }
     ensures { result ≡ place.entry_of section item }
 {
@@ -21,7 +21,7 @@ pub(crate) fn at_sub(task: Place, sub: usize) -> Place
 }
 
 /// A member of the array that stands at a place.
-pub(crate) fn at_spot(array: Place, spot: usize) -> Place
+pub fn at_spot(array: Place, spot: usize) -> Place
     requires { spot < 2 ^ 32 }
     ensures { result ≡ place.at_spot spot array }
 {

@@ -4,7 +4,8 @@ use Rattle.cl_model.specs.Validity.{IsValid}
 use Rattle.cl_edit.specs.Edited.{edit_checks, with_edit}
 use Rattle.cl_model.specs.Validity.{refusals_of}
 use Rattle.std.specs.Prelude.{Ok, ◌++◌}
-use Rattle.cl_edit.proofs.EditedValid.{made_unless, valid_unless}
+use Rattle.cl_edit.proofs.CheckedEdits.{made_where_passes}
+use Rattle.cl_edit.proofs.EditedValid.{valid_unless}
 use Rattle.cl_edit.proofs.apply.apply_checked.Goals as goal
 
 -- the changed model is valid
@@ -19,5 +20,5 @@ adopt-requires c =
 -- and it is what the edit makes
 pub returns-in-Ok : goal.returns-in-Ok
 returns-in-Ok c =
-    made_unless c.args.model.now c.args.edit.now c.requires.checked
+    made_where_passes c.args.model.now c.args.edit.now c.requires.checked
     ∙ ap Ok (ap (λ (m : SystemModel). with_edit m c.args.edit.now) (sym c.plain.ensures.plain) ∙ sym c.in_ok-changed.ensures.change ∙ sym c.in-Ok.ensures.ok)

@@ -1,5 +1,3 @@
-use Rattle.std.proofs.Common.{◌≡◌, [], subst}
-use Rattle.cl_model.specs.declared.model.SystemModel.{SystemModel}
 use Rattle.cl_model.specs.Groups.{step_named}
 use Rattle.cl_model.proofs.FirstRefusals.{none_of_both}
 use Rattle.cl_edit.specs.Edited.{found, all_names}
@@ -12,6 +10,6 @@ pub returns : goal.returns
 returns c =
     let model = c.args.model.now in
     let name = c.args.runnable.now in
-    let none = subst (λ (m : SystemModel). found name (all_names m) ≡ []) c.plain.ensures.plain c.in_ok-_step.ensures.checked in
+    let none = c.in_ok-_step.ensures.checked in
     none_of_both (found name (all_names model)) _ none
-    (whole_needs_none model c.plain.ensures.valid (step_named model name) (found_step_within model name none) c.args.whole)
+    (whole_needs_none model c.found_runnable.ensures.valid (step_named model name) (found_step_within model name none) c.args.whole)

@@ -1,0 +1,20 @@
+use Rattle.std.proofs.Common.{refl, ap, ◌∙◌, subst, sym, arith}
+use Rattle.cl_model.specs.declared.task.TaskDef.{TaskDef}
+use Rattle.cl_model.specs.Changes.{with_range}
+use Rattle.cl_model.specs.Ranges.{IsTaskInRange}
+use Rattle.cl_model.proofs.KeptLookUps.{range_stands, changed_task}
+use Rattle.cl_model.proofs.ValidTasks.{time_few}
+use Rattle.cl_model.proofs.valid_model.ValidModel.with_range.Goals as goal
+
+pub greatest_time-requires : goal.greatest_time-requires
+greatest_time-requires c =
+    let model = c.self.inside.model in
+    let here = changed_task model c.args.step c.args.least c.args.greatest c.set_range.new.self c.as_slice.result.now c.index-as_slice-task.result (rw (← c.self.view_is) at c.requires.valid) (rw (← c.self.view_is) at c.requires.step.known) c.set_range.ensures c.as_slice.ensures c.index-as_slice-task.is in
+    omega (arith, time_few c.index-as_slice-task.result here.1)
+
+pub invariant_of-result : goal.invariant_of-result
+invariant_of-result c =
+    let model = c.self.inside.model in
+    let here = changed_task model c.args.step c.args.least c.args.greatest c.set_range.new.self c.as_slice.result.now c.index-as_slice-task.result (rw (← c.self.view_is) at c.requires.valid) (rw (← c.self.view_is) at c.requires.step.known) c.set_range.ensures c.as_slice.ensures c.index-as_slice-task.is in
+    rw (c.set_range.ensures, c.greatest_time.ensures, here.0) (range_stands c.self.inside c.self.invariant c.args.step c.args.least c.args.greatest (rw (← c.self.view_is) at c.requires.valid)
+    _ refl (rw (← c.self.view_is) at c.requires.step.known) refl refl refl refl refl refl refl)

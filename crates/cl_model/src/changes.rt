@@ -1,0 +1,102 @@
+//! Changes of a model in place, of what stands there under a number. Times are in ticks.
+ghost use Rattle.std.specs.Prelude.{◌≡◌, ◌<◌, length};
+ghost use Rattle.cl_model.specs.Groups.{IsStepOf};
+ghost use Rattle.cl_model.specs.Changes.{with_range, with_whole, with_kind, with_deadline, with_priority, with_swap, with_place, with_access, without_task, without_chain};
+
+use crate::group::Step;
+use crate::model::SystemModel;
+use crate::name::Name;
+use crate::stimulus::StimulusKind;
+use crate::task::AccessKind;
+
+impl SystemModel {
+    /// Sets the execution times of a runnable.
+    pub fn set_range(&mut self, step: Step, least: u64, greatest: u64)
+        requires { IsStepOf self.old step }
+        ensures { self.new ≡ with_range self.old step least greatest }
+    {
+        let task = self.tasks.item_mut(step.task as usize);
+        let runnable = task.runnables.item_mut(step.place as usize);
+        runnable.least = least;
+        runnable.greatest = greatest;
+    }
+
+    /// Sets whether a runnable runs to its end without a break.
+    pub fn set_whole(&mut self, step: Step, whole: bool)
+        requires { IsStepOf self.old step }
+        ensures { self.new ≡ with_whole self.old step whole }
+    {
+        let task = self.tasks.item_mut(step.task as usize);
+        let runnable = task.runnables.item_mut(step.place as usize);
+        runnable.whole = whole;
+    }
+
+    /// Sets the kind of a stimulus.
+    pub fn set_kind(&mut self, stimulus: usize, kind: StimulusKind)
+        requires { stimulus < length self.old.stimuli }
+        ensures { self.new ≡ with_kind self.old stimulus (λ _. kind) }
+    {
+        self.stimuli.item_mut(stimulus).kind = kind;
+    }
+
+    /// Sets the deadline of a task.
+    pub fn set_deadline(&mut self, task: usize, deadline: Option<u64>)
+        requires { task < length self.old.tasks }
+        ensures { self.new ≡ with_deadline self.old task deadline }
+    {
+        self.tasks.item_mut(task).deadline = deadline;
+    }
+
+    fn set_priority(&mut self, task: usize, priority: u64)
+        requires { task < length self.old.tasks }
+        ensures { self.new ≡ with_priority self.old task priority }
+    {
+        self.tasks.item_mut(task).priority = priority;
+    }
+
+    /// Exchanges the priorities of two tasks.
+    pub fn swap_priorities(&mut self, one: usize, other: usize)
+        requires one { one < length self.old.tasks }
+        requires other { other < length self.old.tasks }
+        ensures { self.new ≡ with_swap self.old one other }
+    {
+        let priority_of_one = self.tasks.as_slice()[one].priority;
+        let priority_of_other = self.tasks.as_slice()[other].priority;
+        self.set_priority(one, priority_of_other);
+        self.set_priority(other, priority_of_one);
+    }
+
+    /// Sets the core and the priority of a task.
+    pub fn set_place(&mut self, task: usize, core: &Name, priority: u64)
+        requires { task < length self.old.tasks }
+        ensures { self.new ≡ with_place self.old task core.now priority }
+    {
+        let task = self.tasks.item_mut(task);
+        task.core = core.copy();
+        task.priority = priority;
+    }
+
+    /// Sets the kind of access of a task.
+    pub fn set_access(&mut self, task: usize, access: AccessKind)
+        requires { task < length self.old.tasks }
+        ensures { self.new ≡ with_access self.old task access }
+    {
+        self.tasks.item_mut(task).access = access;
+    }
+
+    /// Takes a task out of the model. The others keep their order.
+    pub fn drop_task(&mut self, task: usize)
+        requires { task < length self.old.tasks }
+        ensures { self.new ≡ without_task self.old task }
+    {
+        let _dropped = self.tasks.remove(task);
+    }
+
+    /// Takes a chain out of the model. The others keep their order.
+    pub fn drop_chain(&mut self, chain: usize)
+        requires { chain < length self.old.chains }
+        ensures { self.new ≡ without_chain self.old chain }
+    {
+        let _dropped = self.chains.remove(chain);
+    }
+}
