@@ -9,7 +9,7 @@ ghost use Rattle.cl_model.specs.Ranges.{IsInRange};
 ghost use Rattle.cl_model.specs.Validity.{refusals_of};
 ghost use Rattle.cl_edit.specs.Ranges.{IsEditInRange};
 ghost use Rattle.cl_model.specs.Changes.{with_range, with_whole, with_kind, with_deadline, with_swap, with_place, with_access, with_new_task, without_task, with_new_chain, without_chain};
-ghost use Rattle.cl_model.specs.ByNumber.{stimulus_number}
+ghost use Rattle.cl_model.specs.ByNumber.{stimulus_number};
 ghost use Rattle.cl_edit.specs.Edited.{found, all_names, kind_found, task_number, chain_number, edit_checks, with_edit, edited};
 ghost use Rattle.cl_edit.specs.Inner.Kinds.{sets, with_numbers};
 

@@ -6,7 +6,7 @@ ghost use Rattle.cl_model.specs.Named.{task_names, kind_named};
 ghost use Rattle.cl_model.specs.Validity.{IsValid, refusals_of};
 ghost use Rattle.cl_model.specs.ValidTasks.{task_key, deadline_checks};
 ghost use Rattle.cl_model.specs.Changes.{with_range, with_whole, with_kind, with_deadline, with_swap, with_access};
-ghost use Rattle.cl_model.specs.ByNumber.{stimulus_number}
+ghost use Rattle.cl_model.specs.ByNumber.{stimulus_number};
 ghost use Rattle.cl_edit.specs.Edited.{found, all_names, kind_found, task_number};
 ghost use Rattle.cl_edit.specs.Inner.Kinds.{sets, with_numbers};
 ghost use Rattle.cl_edit.specs.Inner.Paces.{all_limits_on};

@@ -24,7 +24,7 @@ use Rattle.cl_model.specs.Groups.{step_from, step_named, groups, groups_of, IsSt
 use Rattle.cl_model.specs.Ranges.{IsTaskInRange}
 use Rattle.cl_model.specs.Named.{index_of, core_names, stimulus_names, task_names, runnable_names, all_runnables}
 use Rattle.cl_model.specs.Inner.LookUps.{AreLookUpsOf, HasItsLookUps}
-use Rattle.cl_model.specs.Inner.StepTable.{steps_in, steps_from, AreStepsOf}
+use Rattle.cl_model.specs.Inner.StepTable.{steps_in, steps_from}
 use Rattle.cl_model.specs.Validity.{IsValid}
 use Rattle.cl_model.proofs.CoreTasks.{below_more}
 use Rattle.cl_model.proofs.ListFacts.{maps_agree}

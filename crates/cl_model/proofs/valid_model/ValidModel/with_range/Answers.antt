@@ -1,7 +1,4 @@
-use Rattle.std.proofs.Common.{refl, ap, ◌∙◌, subst, sym, arith}
-use Rattle.cl_model.specs.declared.task.TaskDef.{TaskDef}
-use Rattle.cl_model.specs.Changes.{with_range}
-use Rattle.cl_model.specs.Ranges.{IsTaskInRange}
+use Rattle.std.proofs.Common.{refl, arith}
 use Rattle.cl_model.proofs.KeptLookUps.{range_stands, changed_task}
 use Rattle.cl_model.proofs.ValidTasks.{time_few}
 use Rattle.cl_model.proofs.valid_model.ValidModel.with_range.Goals as goal
