@@ -4,15 +4,15 @@ use Rattle.std.specs.Prelude.{Result, Ok, Err, Option, Some, None, unwrap_or}
 use Rattle.std.proofs.lemmas.List.{length-map}
 use Rattle.cl_model.specs.declared.model.SystemModel.{SystemModel}
 use Rattle.cl_model.specs.declared.model_fault.ModelFault.{ModelFault}
-use Rattle.cl_model.specs.declared.model_fault.ModelFault.TheVariants.{Refused, NoMemory}
+use Rattle.cl_model.specs.declared.model_fault.ModelFault.TheVariants.{Refused}
 use Rattle.cl_model.specs.declared.refusal.Code.TheVariants.{E2, E3}
 use Rattle.cl_model.specs.declared.refusal.Refusal.{Refusal}
 use Rattle.cl_model.specs.declared.task.TaskDef.{TaskDef}
-use Rattle.cl_model.specs.Answers.{Answers, Passes, Gives, IsFaultOf}
+use Rattle.cl_model.specs.Answers.{Answers, Passes, IsFaultOf}
 use Rattle.cl_model.specs.Groups.{step_named, IsStepOf}
 use Rattle.cl_model.specs.Named.{has_name, index_of, task_names, stimulus_names, kind_named}
 use Rattle.cl_model.specs.Place.{top}
-use Rattle.cl_model.specs.Refusals.{first, answer}
+use Rattle.cl_model.specs.Refusals.{first}
 use Rattle.cl_model.specs.Validity.{IsValid, refusals_of}
 use Rattle.cl_model.proofs.NamePlaces.{place_within, found_below}
 use Rattle.cl_model.proofs.FirstRefusals.{fault_of_front, none_of_both}
@@ -31,11 +31,11 @@ use Rattle.cl_edit.proofs.PlaceLaws.{swap_needs_few}
 use Rattle.cl_edit.specs.declared.pace.Change.TheVariants as change
 use Rattle.cl_edit.specs.FewChecks.{number_refusals}
 use Rattle.cl_edit.specs.Inner.Paces.{pace_after, limit_checks, all_limits_on}
-use Rattle.cl_edit.proofs.FoundFacts.{kind_passes, kind_fails, kind_changed}
+use Rattle.cl_edit.proofs.FoundFacts.{kind_passes, kind_fails, kind_changed, none_is_first}
 use Rattle.cl_edit.proofs.LimitChecks.{deadline_left, kind_left}
 use Rattle.cl_model.specs.ByNumber.{stimulus_number}
 use Rattle.cl_edit.proofs.CheckedEdits.{passes_where_made, fault_where_refused}
-use Rattle.cl_edit.specs.Edited.{found, kind_found, all_names, task_number, edit_checks, with_edit, edited}
+use Rattle.cl_edit.specs.Edited.{found, kind_found, all_names, task_number, edit_checks, with_edit}
 
 -- ---- results
 
@@ -155,6 +155,19 @@ module _ (model : SystemModel) (name : List ℕ) (edit : Edit) (stimuli : List S
       let same : fault ≡ Refused (record { code = E3; place = top }) = is_fault ∙ ap (λ p. Refused (let r : Refusal = record { code = E3; place = p } in r)) at_top in
       subst (λ (f : ModelFault). IsFaultOf (by_numbers model name edit) f) (sym same)
       (first_with_more (kind_found (kind_named model name) (sets edit)) (refusals_of (with_kind model (stimulus_number model name) (with_numbers edit))) (record { code = E3; place = top }) fails)
+
+  -- the changed model, by the number of the stimulus
+  pub stimulus_changed : (kind : StimulusKind) → Some kind ≡ cond (sets edit (get_or stimuli s d).kind) (Some (with_numbers edit (get_or stimuli s d).kind)) None
+      → with_kind model s (λ _. kind) ≡ with_kind model (stimulus_number model name) (with_numbers edit)
+  stimulus_changed kind chosen =
+      kind_changed model name s (with_numbers edit) kind named
+      ((some_if (sets edit (get_or stimuli s d).kind) kind (with_numbers edit (get_or stimuli s d).kind) chosen).1 ∙ ap (λ (x : StimulusDef). with_numbers edit x.kind) here)
+
+  -- an edit whose checks pass sets this kind
+  pub stimulus_kept : None ≡ cond (sets edit (get_or stimuli s d).kind) (Some (with_numbers edit (get_or stimuli s d).kind)) None → kind_found (kind_named model name) (sets edit) ≡ [] → ⊥
+  stimulus_kept chosen none =
+      let fails = kind_fails model name s (sets edit) named (ap (λ (x : StimulusDef). sets edit x.kind) (sym here) ∙ none_if (sets edit (get_or stimuli s d).kind) (with_numbers edit (get_or stimuli s d).kind) chosen) in
+      none_is_first (record { code = E3; place = top }) (sym (ap first none) ∙ fails)
 
 -- ---- exchanged priorities
 

@@ -1,9 +1,7 @@
 -- Names that are looked up, and what follows where they are there or not.
-use Rattle.std.proofs.Common.{◌≡◌, ℕ, ◌<◌, Bool, true, false, List, [], ◌∷◌, ◌++◌, length, refl, sym, ◌∙◌, ap, subst}
+use Rattle.std.proofs.Common.{◌≡◌, ℕ, Bool, true, false, List, [], ◌∷◌, ◌++◌, refl, sym, ◌∙◌, ap, subst}
 use Rattle.std.specs.Prelude.{Option, Some, None, Result, Ok, Err, unwrap_or, slice_get}
 use Rattle.std.specs.Option.{option_map, option_and_then}
-use Rattle.std.proofs.lemmas.Option.{slice_get-get_or}
-use Rattle.std.proofs.lemmas.List.{length-map}
 use Rattle.cl_model.specs.declared.refusal.Code.TheVariants.{E2, E3}
 use Rattle.cl_model.specs.declared.refusal.Refusal.{Refusal}
 use Rattle.cl_model.specs.declared.model.SystemModel.{SystemModel}
@@ -20,7 +18,7 @@ use Rattle.cl_model.specs.ByNumber.{stimulus_number}
 use Rattle.cl_edit.specs.Edited.{edit_checks, with_edit, edited}
 use Rattle.cl_edit.specs.declared.edit.Edit.TheVariants.{Period, Offset, Jitter, Distances, Burst}
 use Rattle.cl_edit.specs.Inner.Kinds.{sets}
-use Rattle.cl_model.proofs.NamePlaces.{known_place, found_below, found_stands, stands_known}
+use Rattle.cl_model.proofs.NamePlaces.{known_place, found_stands, stands_known}
 use Rattle.cl_model.specs.Changes.{stimulus_at, with_kind}
 use Rattle.cl_edit.specs.Edited.{found, all_names, kind_found}
 use Rattle.cl_edit.specs.Inner.Steps.{step_search}
@@ -50,6 +48,15 @@ pub found_fails : (name : List ℕ) (names : List (List ℕ)) → index_of name 
 found_fails name names e = ap (λ b. first (unless b E2 top)) (missing_unknown name names e)
 
 pub ruleset finding = (found_passes, found_fails)
+
+-- what is refused first isn't nothing
+pub none_is_first : (refusal : Refusal) → None ≡ Some refusal → ⊥
+none_is_first refusal is = cc
+
+-- a name that passes is somewhere
+pub found_absent : (name : List ℕ) (names : List (List ℕ)) → found name names ≡ [] → index_of name names ≡ None → ⊥
+found_absent name names none absent =
+    none_is_first (record { code = E2; place = top }) (sym (ap first none) ∙ found_fails name names absent)
 
 -- what a place was found to be
 pub number_from : (o : Option ℕ) (k : ℕ) → o ≡ Some k → unwrap_or o 0 ≡ k

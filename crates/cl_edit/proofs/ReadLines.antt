@@ -1,5 +1,5 @@
 -- The lines of edits that are read one after another, and not kept.
-use Rattle.std.proofs.Common.{◌≡◌, ◌≢◌, ℕ, zero, suc, ◌+◌, ◌≤◌, Bool, Option, Some, None, List, [], ◌∷◌, ◌++◌, length, length-append, refl, sym, ap, ◌∙◌, subst, arith}
+use Rattle.std.proofs.Common.{◌≡◌, ◌≢◌, ℕ, ◌+◌, ◌≤◌, Some, None, List, [], ◌∷◌, ◌++◌, length, length-append, refl, sym, ap, ◌∙◌, subst, arith}
 use Rattle.std.specs.Prelude.{All, cond}
 use Rattle.std.proofs.lemmas.List.{append-nil, append_cancel_left}
 use Rattle.std.proofs.lemmas.List.Elements.{All-head, All-tail}
@@ -7,7 +7,7 @@ use Rattle.cl_text.specs.Standing.{NoneStands}
 use Rattle.cl_edit.specs.declared.edit.Edit.{Edit}
 use Rattle.cl_edit.specs.declared.limits.TheConstants.{MOST_EDITS}
 use Rattle.cl_edit.specs.Lines.{edit_line, title_line, edit_lines}
-use Rattle.cl_edit.specs.Listed.{ListsSome, IsFirstOf, GivesNext}
+use Rattle.cl_edit.specs.Listed.{ListsSome, GivesNext}
 use Rattle.cl_edit.specs.Reading.{IsLineEdit, is_report, MayBeListed, AreEditsOf, IsBadEditLine}
 use Rattle.cl_edit.specs.Inner.LineReads.{MayFollow}
 use Rattle.cl_edit.proofs.BadEdits.{bad_line}

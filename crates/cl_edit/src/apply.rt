@@ -151,11 +151,7 @@ fn add_chain(alloc: Global, model: &mut SystemModel, chain: &ChainDef) -> Result
 
 /// Makes the change of an edit, unless one of its first checks refuses it: E2, E3, M10.
 #[tactic(auto, unfolding(crate::specs::Edited::edit_checks, crate::specs::Edited::with_edit))]
-pub(crate) fn change(
-    alloc: Global,
-    model: &mut SystemModel,
-    edit: &Edit,
-) -> Result<(), ModelFault>
+pub(crate) fn change(alloc: Global, model: &mut SystemModel, edit: &Edit) -> Result<(), ModelFault>
     requires { IsInRange model.old }
     ensures checks { Passes result (edit_checks model.old edit.now) }
     ensures change { OnOk result (model.new ≡ with_edit model.old edit.now) }

@@ -1,11 +1,13 @@
 //! The change of a valid model by an edit that may be made of it.
 ghost use Rattle.std.specs.Prelude.{◌≡◌, [], Ok, IfOk};
+ghost use Rattle.cl_model.specs.Answers.{Gives};
 ghost use Rattle.cl_model.specs.Validity.{IsValid};
 ghost use Rattle.cl_edit.specs.Edited.{edit_checks, with_edit, edited};
 ghost use Rattle.cl_edit.specs.Ranges.{IsEditInRange};
 
 use crate::apply::change;
 use crate::change_sets::{set_access, set_deadline, set_range, set_stimulus, set_whole, swap};
+use crate::check::check_edit;
 use crate::edit::Edit;
 use cl_model::{ModelFault, SystemModel, ValidModel};
 use cl_time::NoMemory;
@@ -71,4 +73,16 @@ pub fn change_valid(alloc: Global, model: ValidModel, edit: &Edit) -> Result<Val
 {
     let _valid = model.plain();
     change_checked(alloc, model, edit)
+}
+
+/// The valid model that an edit makes of another, which it consumes. It is refused exactly where `apply_edit` refuses it,
+/// and with the same refusal. `NoMemory` where memory ran out. Either leaves nothing.
+pub fn edit_valid(alloc: Global, model: ValidModel, edit: &Edit) -> Result<ValidModel, ModelFault>
+    requires { IsEditInRange edit.now }
+    ensures { Gives result (edited model edit.now) }
+{
+    match check_edit(alloc, &model, edit) {
+        Ok(()) => Ok(change_valid(alloc, model, edit)?),
+        Err(fault) => Err(fault),
+    }
 }

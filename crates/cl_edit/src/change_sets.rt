@@ -13,12 +13,7 @@ use crate::find::found;
 use crate::kinds::kind_with;
 use cl_model::{AccessKind, Name, ValidModel};
 
-pub(crate) fn set_range(
-    model: ValidModel,
-    runnable: &Name,
-    least: u64,
-    greatest: u64,
-) -> ValidModel
+pub(crate) fn set_range(model: ValidModel, runnable: &Name, least: u64, greatest: u64) -> ValidModel
     requires checked { found runnable.now (all_names model) ≡ [] }
     requires valid { IsValid (with_range model (step_named model runnable.now) least greatest) }
     ensures { result ≡ with_range model (step_named model runnable.now) least greatest }

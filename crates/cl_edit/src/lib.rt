@@ -27,7 +27,7 @@ mod task_line;
 mod words;
 
 pub use apply::apply_edit;
-pub use change::change_valid;
+pub use change::{change_valid, edit_valid};
 pub use check::check_edit;
 use cl_model::ModelFault;
 pub use edit::Edit;

@@ -70,7 +70,11 @@ fn check_limits(pace: Pace, task: u32) -> Result<(), ModelFault>
     let is_late = pace.kind.least_distance() < pace.deadline;
     refuse_when(is_late, Code::M32, task_key(task as usize, Key::Deadline))?;
     let is_released_late = pace.deadline <= pace.kind.greatest_jitter();
-    refuse_when(is_released_late, Code::M33, task_key(task as usize, Key::Stimulus))?;
+    refuse_when(
+        is_released_late,
+        Code::M33,
+        task_key(task as usize, Key::Stimulus),
+    )?;
     Ok(())
 }
 
@@ -295,7 +299,10 @@ impl Change {
         ensures { Passes result (deadline_checks (with_change model.now self)) }
     {
         match self.first_outpaced(model) {
-            Some(task) => Err(ModelFault::refused(Code::M42, task_key(task as usize, Key::Deadline))),
+            Some(task) => Err(ModelFault::refused(
+                Code::M42,
+                task_key(task as usize, Key::Deadline),
+            )),
             None => Ok(()),
         }
     }

@@ -1,5 +1,3 @@
-use Rattle.std.proofs.Common.{sym, ap, ◌∙◌}
-use Rattle.std.specs.Prelude.{Ok}
 use Rattle.cl_edit.specs.Edited.{with_edit}
 use Rattle.cl_edit.proofs.CheckedEdits.{passes_where_made}
 use Rattle.cl_edit.proofs.EditedValid.{edited_valid, first_none}
@@ -13,4 +11,4 @@ change_checked-requires-clause-checked c =
 -- and the changed model is valid
 pub change_checked-requires-clause-valid : goal.change_checked-requires-clause-valid
 change_checked-requires-clause-valid c =
-    edited_valid c.args.model c.args.edit.now (with_edit c.args.model c.args.edit.now) c.plain.ensures.valid c.requires.in_range c.requires.passes
+    edited_valid c.args.model c.args.edit.now (with_edit c.args.model c.args.edit.now) c.plain-valid.ensures.valid c.requires.in_range c.requires.passes

@@ -1,10 +1,5 @@
-use Rattle.std.proofs.Common.{◌≡◌, ◌≢◌, ℕ, List, [], length, sym, ap, ◌∙◌, subst, arith}
-use Rattle.std.specs.Prelude.{All, ◌++◌}
+use Rattle.std.proofs.Common.{◌≡◌, length, ◌∙◌, arith}
 use Rattle.std.proofs.lemmas.Bool.Decides.{nat_tests}
-use Rattle.cl_edit.specs.declared.edit.Edit.{Edit}
-use Rattle.cl_edit.specs.Lines.{edit_line, edit_lines}
-use Rattle.cl_edit.specs.Listed.{ListsSome, GivesNext}
-use Rattle.cl_edit.specs.Reading.{IsLineEdit}
 use Rattle.cl_edit.proofs.ReadLines.{nothing, gives_none, gives_next, lists_rest}
 use Rattle.cl_edit.proofs.edit_lines.EditLines.next.Goals as goal
 

@@ -1,9 +1,9 @@
-use Rattle.std.proofs.Common.{◌≡◌, ◌≢◌, ℕ, ◌+◌, [], length, sym, ap, ◌∙◌, subst, arith}
+use Rattle.std.proofs.Common.{◌≡◌, ◌≢◌, ◌+◌, [], length, ap, ◌∙◌, subst, arith}
 use Rattle.std.specs.Prelude.{cond}
 use Rattle.std.proofs.lemmas.Bool.Decides.{nat_tests}
 use Rattle.cl_edit.specs.Reading.{is_report, IsBadEditLine}
 use Rattle.cl_edit.proofs.Listings.{one_or_none, line_shortens}
-use Rattle.cl_edit.proofs.ReadLines.{none_read, one_read, stuck_read, all_read, lines_of, lists_some, nothing}
+use Rattle.cl_edit.proofs.ReadLines.{none_read, one_read, stuck_read}
 use Rattle.cl_edit.proofs.edit_lines.EditLines.of.Goals as goal
 
 pub loop-left-init : goal.loop-left-init
