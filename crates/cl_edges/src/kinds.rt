@@ -1,5 +1,5 @@
 //! File words of every kind, files that are no texts, and shelves and sinks that never fail.
-use crate::calls::{analysed, analysis_of, answered_over, of_two_files, run_here};
+use crate::calls::{analysed, analysis_of, answered_over, of_two_files, run_surely_here};
 use crate::models::EMPTY;
 use cl_io::{SureShelf, SureSink};
 use cl_time::NoMemory;
@@ -53,7 +53,7 @@ fn sure_shelves_and_sinks_never_fail(rt: HostRuntime) -> Result<(), Fail> {
     let words = analysis_of(alloc, "nothing")?;
     let mut shelf = SureShelf::new(alloc);
     let mut sink = SureSink::new();
-    assert_eq!(rt; run_here(alloc, &words, &mut shelf, &mut sink), 5);
+    assert_eq!(rt; run_surely_here(alloc, &words, &mut shelf, &mut sink), 5);
     assert_eq!(rt; sink.taken(), 28);
     Ok(())
 }
@@ -91,7 +91,10 @@ fn assert_sure(
     assert_eq!(rt; found.as_str(), wanted, "{verb}");
     let mut shelf = shelf_with(alloc, second)?;
     let mut sink = SureSink::new();
-    assert_eq!(rt; run_here(alloc, &words, &mut shelf, &mut sink), status);
+    assert_eq!(rt;
+        run_surely_here(alloc, &words, &mut shelf, &mut sink),
+        status
+    );
     Ok(())
 }
 
