@@ -106,13 +106,10 @@ fn replays_and_edits_over_sure_shelves_never_fail(rt: HostRuntime) -> Result<(),
     assert_sure(&rt, alloc, "replay", b"x", 6, "6 trace refused line 1\n")?;
     let edits = b"chainlat edits 1\nreport\n";
     assert_sure(&rt, alloc, "edit", edits, 0, "0 chainlat report 1\n")?;
-    assert_sure(
-        &rt,
-        alloc,
-        "edit",
-        b"x",
-        7,
-        "7 edits refused line 1 E1 top\n",
-    )?;
+    let written = "0 format = \"chainlat\"\nversion = 2\n";
+    assert_sure(&rt, alloc, "apply", edits, 0, written)?;
+    let refused = "7 edits refused line 1 E1 top\n";
+    assert_sure(&rt, alloc, "edit", b"x", 7, refused)?;
+    assert_sure(&rt, alloc, "apply", b"x", 7, refused)?;
     Ok(())
 }
