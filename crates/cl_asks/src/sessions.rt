@@ -14,6 +14,8 @@ use std::alloc::Global;
 use std::sync::ledger::Ledger;
 
 /// `session MODEL EDITS`: the report of a copy of a model as a session has edited it, or the first edit's refusal.
+/// `kept MODEL EDITS`: what came of each edit in such a session, and whether one that was refused, or for which there was
+/// no memory, has left the model and its report as they were; later edits are made all the same.
 pub(crate) fn session_lines<S: Shelf, L: Ledger>(
     alloc: Global,
     words: &Words,
@@ -22,45 +24,88 @@ pub(crate) fn session_lines<S: Shelf, L: Ledger>(
     steps: &mut Steps<L>,
 ) -> Result<Text, NoMemory> {
     match shelf.fetch(alloc, word(words, 3), u64::MAX) {
-        Ok(bytes) => of_text(alloc, model, bytes.as_slice(), steps),
+        Ok(bytes) => of_text(alloc, words, model, bytes.as_slice(), steps),
         Err(fault) => unfetched(alloc, fault),
     }
 }
 
-/// `kept MODEL EDITS`: what came of each edit in a session over a copy of a model, and whether one that was refused, or
-/// for which there was no memory, has left the model and its report as they were. Later edits are made all the same.
-pub(crate) fn kept_lines<S: Shelf, L: Ledger>(
+fn of_text<L: Ledger>(
     alloc: Global,
     words: &Words,
-    model: &ValidModel,
-    shelf: &mut S,
-    steps: &mut Steps<L>,
-) -> Result<Text, NoMemory> {
-    match shelf.fetch(alloc, word(words, 3), u64::MAX) {
-        Ok(bytes) => kept_of_text(alloc, model, bytes.as_slice(), steps),
-        Err(fault) => unfetched(alloc, fault),
-    }
-}
-
-fn kept_of_text<L: Ledger>(
-    alloc: Global,
     model: &ValidModel,
     text: &[u8],
     steps: &mut Steps<L>,
 ) -> Result<Text, NoMemory> {
     match read_edits(alloc, text) {
-        Ok(edits) => kept_of_edits(alloc, model, edits.as_slice(), steps),
+        Ok(edits) => of_edits(alloc, words, model, edits.as_slice(), steps),
         Err(fault) => unread(alloc, fault),
     }
 }
 
-fn kept_of_edits<L: Ledger>(
+fn of_edits<L: Ledger>(
     alloc: Global,
+    words: &Words,
     model: &ValidModel,
     edits: &[Edit],
     steps: &mut Steps<L>,
 ) -> Result<Text, NoMemory> {
-    let mut session = Session::start(alloc, model.copy(alloc)?, steps)?;
+    match model.copy(alloc) {
+        Ok(copy) => of_copy(alloc, words, copy, edits, steps),
+        Err(no_memory) => Err(no_memory),
+    }
+}
+
+fn of_copy<L: Ledger>(
+    alloc: Global,
+    words: &Words,
+    model: ValidModel,
+    edits: &[Edit],
+    steps: &mut Steps<L>,
+) -> Result<Text, NoMemory> {
+    match Session::start(alloc, model, steps) {
+        Ok(session) => of_session(alloc, words, session, edits, steps),
+        Err(no_memory) => Err(no_memory),
+    }
+}
+
+fn of_session<L: Ledger>(
+    alloc: Global,
+    words: &Words,
+    session: Session,
+    edits: &[Edit],
+    steps: &mut Steps<L>,
+) -> Result<Text, NoMemory> {
+    match word(words, 1) {
+        "kept" => kept(alloc, session, edits, steps),
+        _ => edited(alloc, session, edits, steps),
+    }
+}
+
+fn edited<L: Ledger>(
+    alloc: Global,
+    session: Session,
+    edits: &[Edit],
+    steps: &mut Steps<L>,
+) -> Result<Text, NoMemory> {
+    let mut session = session;
+    for edit in edits {
+        if !edit.in_range() {
+            return said(alloc, "out of range");
+        }
+        if let Err(fault) = session.apply(edit, steps) {
+            return refused(alloc, fault);
+        }
+    }
+    report(alloc, session.model(), session.findings())
+}
+
+fn kept<L: Ledger>(
+    alloc: Global,
+    session: Session,
+    edits: &[Edit],
+    steps: &mut Steps<L>,
+) -> Result<Text, NoMemory> {
+    let mut session = session;
     let mut text = Text::new(alloc);
     for edit in edits {
         if !edit.in_range() {
@@ -110,58 +155,4 @@ fn put_refused(
     } else {
         text.put(b", changed\n")
     }
-}
-
-fn of_text<L: Ledger>(
-    alloc: Global,
-    model: &ValidModel,
-    text: &[u8],
-    steps: &mut Steps<L>,
-) -> Result<Text, NoMemory> {
-    match read_edits(alloc, text) {
-        Ok(edits) => of_edits(alloc, model, edits.as_slice(), steps),
-        Err(fault) => unread(alloc, fault),
-    }
-}
-
-fn of_edits<L: Ledger>(
-    alloc: Global,
-    model: &ValidModel,
-    edits: &[Edit],
-    steps: &mut Steps<L>,
-) -> Result<Text, NoMemory> {
-    match model.copy(alloc) {
-        Ok(copy) => of_copy(alloc, copy, edits, steps),
-        Err(no_memory) => Err(no_memory),
-    }
-}
-
-fn of_copy<L: Ledger>(
-    alloc: Global,
-    model: ValidModel,
-    edits: &[Edit],
-    steps: &mut Steps<L>,
-) -> Result<Text, NoMemory> {
-    match Session::start(alloc, model, steps) {
-        Ok(session) => edited(alloc, session, edits, steps),
-        Err(no_memory) => Err(no_memory),
-    }
-}
-
-fn edited<L: Ledger>(
-    alloc: Global,
-    session: Session,
-    edits: &[Edit],
-    steps: &mut Steps<L>,
-) -> Result<Text, NoMemory> {
-    let mut session = session;
-    for edit in edits {
-        if !edit.in_range() {
-            return said(alloc, "out of range");
-        }
-        if let Err(fault) = session.apply(edit, steps) {
-            return refused(alloc, fault);
-        }
-    }
-    report(alloc, session.model(), session.findings())
 }
