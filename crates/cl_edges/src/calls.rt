@@ -1,7 +1,8 @@
 //! Commands over shelves and sinks in memory.
 ghost use Rattle.std.specs.Prelude.{◌≡◌, ◌<◌};
 
-use cl_io::{MemShelf, MemSink, Shelf, Sink, Words};
+use crate::run_surely;
+use cl_io::{MemShelf, MemSink, Shelf, Sink, SureShelf, SureSink, Words};
 use cl_time::{NoMemory, Steps};
 use cl_top::run;
 use std::alloc::Global;
@@ -91,4 +92,30 @@ fn run_uncounted<S: Shelf, K: Sink, L: Ledger>(
 {
     let mut steps = Steps::<L>::open(blank);
     run(alloc, words, shelf, sink, &mut steps)
+}
+
+/// Runs a command over a shelf and a sink that never fail, with a counter of steps that nothing reads.
+pub(crate) fn run_surely_here(
+    alloc: Global,
+    words: &Words,
+    shelf: &mut SureShelf,
+    sink: &mut SureSink,
+) -> u8 {
+    run_surely_uncounted::<Brand>(alloc, words, shelf, sink, Blank::new(1))
+}
+
+/// The same with a counter on this blank; `Invariants.antt` of `run_surely_here` picks the ledger of the blank.
+fn run_surely_uncounted<L: Ledger>(
+    alloc: Global,
+    words: &Words,
+    shelf: &mut SureShelf,
+    sink: &mut SureSink,
+    blank: Blank,
+) -> u8
+    requires name { blank.name ≡ L.name }
+    requires parts { blank.parts ≡ L.parts }
+    requires a_part { 0 < blank.parts }
+{
+    let mut steps = Steps::<L>::open(blank);
+    run_surely(alloc, words, shelf, sink, &mut steps)
 }

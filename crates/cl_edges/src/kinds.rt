@@ -1,5 +1,5 @@
 //! File words of every kind, files that are no texts, and shelves and sinks that never fail.
-use crate::calls::{analysed, analysis_of, answered_over, of_two_files, run_here};
+use crate::calls::{analysed, analysis_of, answered_over, of_two_files, run_surely_here};
 use crate::models::EMPTY;
 use cl_io::{SureShelf, SureSink};
 use cl_time::NoMemory;
@@ -53,7 +53,7 @@ fn sure_shelves_and_sinks_never_fail(rt: HostRuntime) -> Result<(), Fail> {
     let words = analysis_of(alloc, "nothing")?;
     let mut shelf = SureShelf::new(alloc);
     let mut sink = SureSink::new();
-    assert_eq!(rt; run_here(alloc, &words, &mut shelf, &mut sink), 5);
+    assert_eq!(rt; run_surely_here(alloc, &words, &mut shelf, &mut sink), 5);
     assert_eq!(rt; sink.taken(), 28);
     Ok(())
 }
@@ -91,7 +91,10 @@ fn assert_sure(
     assert_eq!(rt; found.as_str(), wanted, "{verb}");
     let mut shelf = shelf_with(alloc, second)?;
     let mut sink = SureSink::new();
-    assert_eq!(rt; run_here(alloc, &words, &mut shelf, &mut sink), status);
+    assert_eq!(rt;
+        run_surely_here(alloc, &words, &mut shelf, &mut sink),
+        status
+    );
     Ok(())
 }
 
@@ -103,13 +106,10 @@ fn replays_and_edits_over_sure_shelves_never_fail(rt: HostRuntime) -> Result<(),
     assert_sure(&rt, alloc, "replay", b"x", 6, "6 trace refused line 1\n")?;
     let edits = b"chainlat edits 1\nreport\n";
     assert_sure(&rt, alloc, "edit", edits, 0, "0 chainlat report 1\n")?;
-    assert_sure(
-        &rt,
-        alloc,
-        "edit",
-        b"x",
-        7,
-        "7 edits refused line 1 E1 top\n",
-    )?;
+    let written = "0 format = \"chainlat\"\nversion = 2\n";
+    assert_sure(&rt, alloc, "apply", edits, 0, written)?;
+    let refused = "7 edits refused line 1 E1 top\n";
+    assert_sure(&rt, alloc, "edit", b"x", 7, refused)?;
+    assert_sure(&rt, alloc, "apply", b"x", 7, refused)?;
     Ok(())
 }

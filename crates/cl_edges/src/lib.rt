@@ -1,5 +1,6 @@
 //! The edges, over a machine of values: the start of the program, its files and its output; and commands over shelves
-//! and sinks of every kind: tests alone. What a file of cases can say stands in the program `rows`.
+//! and sinks of every kind: tests, but for the call over a shelf and a sink that never fail. What a file of cases can say
+//! stands in the program `rows`.
 #![tactic(auto)]
 
 #[cfg(test)]
@@ -16,3 +17,8 @@ mod models;
 mod outputs;
 #[cfg(test)]
 mod starts;
+mod sure;
+#[cfg(test)]
+mod traces;
+
+pub use sure::run_surely;

@@ -1,4 +1,4 @@
-//! A machine of values: its arguments, its one file and its output.
+//! A machine of values: its arguments, its files and its output.
 ghost use Rattle.std.specs.Prelude.{◌≤◌, length, IfOk};
 ghost use Rattle.std.specs.Io.{WritesAtMost};
 
@@ -18,13 +18,15 @@ pub(crate) const OUTPUT: usize = 256;
 pub(crate) type Failure = Option<ErrorKind>;
 
 /// A machine with a file under one name, whose reads give `step` bytes each and then the end or an error, and with an
-/// output that takes `room` bytes, seven at a time, and then nothing or an error.
+/// output that takes `room` bytes, seven at a time, and then nothing or an error. Where `letters` isn't 0, there is a file
+/// of so many times `x` under every other name; its bytes are made as they are read.
 #[derive(Drop)]
 pub(crate) struct Machine<'a> {
     pub(crate) alloc: Global,
     pub(crate) arguments: &'a [&'a [u8]],
     pub(crate) name: &'a str,
     pub(crate) content: &'a [u8],
+    pub(crate) letters: u64,
     pub(crate) step: usize,
     pub(crate) read_failure: Failure,
     pub(crate) room: Cell<usize>,
@@ -46,6 +48,7 @@ impl<'a> Machine<'a> {
             arguments,
             name,
             content,
+            letters: 0,
             step: 4096,
             read_failure: None,
             room: Cell::new(OUTPUT),
@@ -131,16 +134,32 @@ impl Print for Machine<'_> {
     }
 }
 
-/// What is left of the machine's file.
+/// What is left of a file of the machine: bytes, and behind them so many times `x`.
 #[derive(Drop)]
 pub(crate) struct MachineFile<'a> {
     left: &'a [u8],
+    letters: u64,
     step: usize,
     failure: Failure,
 }
 
+impl MachineFile<'_> {
+    /// Gives letters that are left.
+    fn spell(&mut self, buf: &mut [u8]) -> usize
+        ensures { result ≤ length buf.old }
+    {
+        let given = buf.len().min(self.letters.min(1 << 20) as usize);
+        buf[..given].fill(b'x');
+        self.letters -= given as u64;
+        given
+    }
+}
+
 impl Read for MachineFile<'_> {
     fn read(&mut self, buf: &mut [u8]) -> io::Result<usize> {
+        if self.letters > 0 {
+            return Ok(self.spell(buf));
+        }
         if self.left.is_empty()
             && let Some(kind) = self.failure
         {
@@ -193,11 +212,17 @@ impl<'a> Files for Machine<'a> {
     type Dir = MachineFile<'a>;
 
     fn open_file(&self, _how: &OpenOptions, path: &str) -> io::Result<MachineFile<'a>> {
-        if path != self.name {
+        if path != self.name && self.letters == 0 {
             return Err(io::Error::from(ErrorKind::NotFound));
         }
+        let (left, letters) = if path == self.name {
+            (self.content, 0)
+        } else {
+            (&[][..], self.letters)
+        };
         Ok(MachineFile {
-            left: self.content,
+            left,
+            letters,
             step: self.step,
             failure: self.read_failure,
         })

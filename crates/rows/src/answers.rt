@@ -20,16 +20,16 @@ pub(crate) struct Found {
     pub(crate) text: Vec<u8>,
 }
 
-/// What the words of a case answer.
-pub(crate) fn answered(case: &Case) -> Result<Found, Fault> {
-    let words = words_of(case.alloc, case.words.as_str())?;
+/// What a command answers over the files of a case.
+pub(crate) fn answered(case: &Case, command: &str) -> Result<Found, Fault> {
+    let words = words_of(case.alloc, command)?;
     answered_words(case.alloc, &words, case.files.as_slice(), case.limits)
 }
 
 /// The same, once the model, whose name stands behind the verb, is what `migrate` makes of it. Where it makes nothing
 /// of it, that is the answer.
-pub(crate) fn answered_migrated(mut case: Case) -> Result<Found, Fault> {
-    let name = model_name(case.alloc, case.words.as_str())?;
+pub(crate) fn answered_migrated(mut case: Case, command: &str) -> Result<Found, Fault> {
+    let name = model_name(case.alloc, command)?;
     let migration = format!(in case.alloc; "migrate {name}")?;
     let words = words_of(case.alloc, migration.as_str())?;
     let migrated = answered_words(case.alloc, &words, case.files.as_slice(), Limits::none())?;
@@ -39,7 +39,7 @@ pub(crate) fn answered_migrated(mut case: Case) -> Result<Found, Fault> {
     remove_file(&mut case.files, name.as_str());
     let file = CaseFile::new(case.alloc, name.as_str(), migrated.text)?;
     case.files.push(file)?;
-    answered(&case)
+    answered(&case, command)
 }
 
 /// The second word.

@@ -25,13 +25,16 @@ impl Wanted {
     }
 }
 
-/// A case: the words of a command, its files, what fails, and what it is to come to.
+/// A case: the words of its commands, its files, what fails, and what each command is to come to.
 #[derive(Clone, Drop)]
 pub(crate) struct Case {
     pub(crate) alloc: Global,
     pub(crate) name: String,
     pub(crate) line: u64,
-    pub(crate) words: String,
+    /// The words of each command that is to come to the same.
+    pub(crate) commands: Vec<String>,
+    /// Whether a line of this very case says words.
+    says_words: bool,
     /// The last file is the one that hunks change.
     pub(crate) files: Vec<CaseFile>,
     hunk: Hunk,
@@ -48,7 +51,8 @@ impl Case {
             alloc,
             name: String::new(alloc),
             line: 0,
-            words: String::new(alloc),
+            commands: Vec::new(alloc),
+            says_words: false,
             files: Vec::new(alloc),
             hunk: Hunk::new(alloc),
             limits: Limits::none(),
@@ -62,6 +66,7 @@ impl Case {
         let mut case = self.clone()?;
         case.name.push_str(name)?;
         case.line = line;
+        case.says_words = false;
         case.wants = false;
         Ok(case)
     }
@@ -123,8 +128,11 @@ impl Case {
         rest: &str,
     ) -> Result<(), Fault> {
         match word {
-            "words" => self.set_words(rest),
+            "words" => self.add_command(rest),
+            "more" => self.add_word(rest),
+            "fewer" => self.drop_words(),
             "file" => self.add_file(rt, rest),
+            "without" => self.drop_file(rest),
             "wants" => self.want(rest, true),
             "begins" => self.want(rest, false),
             _ => self.limits.set(word, rest),
@@ -145,8 +153,36 @@ impl Case {
         Ok(())
     }
 
-    fn set_words(&mut self, words: &str) -> Result<(), Fault> {
-        self.words = String::from_str(self.alloc, words)?;
+    /// Adds a command. The first of a case stands in for those that belong to every case.
+    fn add_command(&mut self, words: &str) -> Result<(), Fault> {
+        if !self.says_words {
+            self.commands.clear();
+            self.says_words = true;
+        }
+        self.commands.push(String::from_str(self.alloc, words)?)?;
+        Ok(())
+    }
+
+    /// Each command gets a word more.
+    fn add_word(&mut self, word: &str) -> Result<(), Fault> {
+        for words in &mut self.commands {
+            words.push_str(" ")?;
+            words.push_str(word)?;
+        }
+        Ok(())
+    }
+
+    /// Each command loses its last word.
+    fn drop_words(&mut self) -> Result<(), Fault> {
+        for words in &mut self.commands {
+            *words = shortened(self.alloc, words.as_str())?;
+        }
+        Ok(())
+    }
+
+    /// A file is no longer there.
+    fn drop_file(&mut self, name: &str) -> Result<(), Fault> {
+        remove_file(&mut self.files, name);
         Ok(())
     }
 
@@ -215,6 +251,14 @@ impl Case {
             Some(wanted) => wanted.repeat(self.alloc, count),
             None => Err(Fault::Refused("no lines to repeat")),
         }
+    }
+}
+
+/// Words without the last one.
+fn shortened(alloc: Global, words: &str) -> Result<String, Fault> {
+    match words.rsplit_once(' ') {
+        Some((before, _)) => Ok(String::from_str(alloc, before)?),
+        None => Err(Fault::Refused("no word to take away")),
     }
 }
 

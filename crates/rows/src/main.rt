@@ -11,8 +11,10 @@
 //! |---|---|
 //! | `# ..` | a comment |
 //! | `case NAME` | a case begins |
-//! | `words ..` | the words of the command, or of a question, whose first word is `ask` |
+//! | `words ..` | the words of the command, or of a question, whose first word is `ask`; where such lines follow each other, each command is to come to the same |
+//! | `more WORD`, `fewer` | each command gets a word more, or loses its last one |
 //! | `file NAME BASE` | a file with what lies under BASE, or an empty one without BASE; hunks change the last file |
+//! | `without NAME` | the file is not there |
 //! | `-`, `+` and a blank in front | a hunk: lines that go, come and stay; a line of no sign at all ends it |
 //! | only `+` lines | they come at the end of the file |
 //! | `times N` .. `once` | the lines between come N times, with their number from 0 up in place of each `#` |

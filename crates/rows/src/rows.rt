@@ -75,24 +75,41 @@ impl Rows {
     }
 }
 
-/// Runs a case, and prints it where it differs.
+/// Runs each command of a case.
 fn run_case<R: Print>(rt: &R, tally: &mut Tally, mut case: Case) -> Result<(), Fault> {
     let here = tally.line;
     tally.line = case.line;
     case.end_hunk()?;
     let wanted = case.wanted()?.clone()?;
+    if case.commands.is_empty() {
+        return Err(Fault::Refused("a case without `words`"));
+    }
+    for command in &case.commands {
+        run_command(rt, tally, &case, command.as_str(), &wanted)?;
+    }
+    tally.line = here;
+    Ok(())
+}
+
+/// Runs a command of a case, and prints it where it differs.
+fn run_command<R: Print>(
+    rt: &R,
+    tally: &mut Tally,
+    case: &Case,
+    command: &str,
+    wanted: &Wanted,
+) -> Result<(), Fault> {
     let found = if tally.migrated {
-        answered_migrated(case.clone()?)?
+        answered_migrated(case.clone()?, command)?
     } else {
-        answered(&case)?
+        answered(case, command)?
     };
     tally.cases = tally.cases.saturating_add(1);
-    if !is_met(&wanted, &found) {
+    if !is_met(wanted, &found) {
         tally.differs = true;
-        print_difference(rt, tally, &case, &wanted, &found)?;
+        print_difference(rt, tally, case, command, wanted, &found)?;
     }
     tally.last = found.text;
-    tally.line = here;
     Ok(())
 }
 
@@ -128,16 +145,17 @@ fn printed(text: &[u8]) -> &str {
     str::from_utf8(text).unwrap_or("no text")
 }
 
-/// Prints a case that differs: its place and its name, what was wanted, and what came.
+/// Prints a command that differs: the place and the name of its case, its words, what was wanted, and what came.
 fn print_difference(
     rt: &impl Print,
     tally: &Tally,
     case: &Case,
+    command: &str,
     wanted: &Wanted,
     found: &Found,
 ) -> Result<(), Fault> {
     let (file, line, name) = (tally.file.as_str(), tally.line, case.name.as_str());
-    println!(rt; "{file}:{line}: {name}")?;
+    println!(rt; "{file}:{line}: {name}: `{command}`")?;
     let (status, text) = (wanted.status, printed(wanted.text.as_slice()));
     println!(rt; "wanted {status} {text}")?;
     let (status, text) = (found.status, printed(found.text.as_slice()));
