@@ -1,27 +1,21 @@
 -- What each kind of edit touches.
-use Rattle.std.proofs.Common.{◌≡◌, ◌≢◌, ℕ, ◌<◌, ◌⊎◌, inl, inr, List, [], ◌∷◌, ◌++◌, length, get_or, refl, sym, ap, ◌∙◌, subst, arith, Ok}
+use Rattle.std.proofs.Common.{◌≡◌, ◌≢◌, ℕ, ◌<◌, ◌⊎◌, inl, inr, List, [], ◌∷◌, length, refl, sym, ap, ◌∙◌, arith}
 use Rattle.std.specs.Prelude.{map, All}
 use Rattle.std.proofs.lemmas.Bool.Decides.{eqb_tells}
 use Rattle.std.proofs.lemmas.List.Elements.{All-nil, All-cons}
 use Rattle.std.proofs.Math.Seq.{map-set_same}
-use Rattle.std.proofs.Math.ListN.{length-map}
 use Rattle.std.proofs.lemmas.List.{get_or-set_other, length-set}
 use Rattle.cl_model.specs.declared.model.SystemModel.{SystemModel}
 use Rattle.cl_model.specs.declared.stimulus.StimulusKind.{StimulusKind}
 use Rattle.cl_model.specs.declared.task.RunnableDef.{RunnableDef}
 use Rattle.cl_model.specs.declared.task.TaskDef.{TaskDef}
 use Rattle.cl_model.specs.declared.group.Step.{Step}
-use Rattle.cl_model.specs.declared.refusal.Refusal.{Refusal}
 use Rattle.cl_model.specs.Named.{runnable_names}
-use Rattle.cl_model.specs.Refusals.{answer}
 use Rattle.cl_model.specs.Timing.{deadline_under}
-use Rattle.cl_model.specs.Validity.{refusals_of}
 use Rattle.cl_model.specs.ByNumber.{no_task, no_runnable, task_at, runnable_at, core_number, stimulus_of}
 use Rattle.cl_runs.specs.SystemOf.{range_of, timing_of}
 use Rattle.cl_runs.specs.TaskTiming.{Timing}
 use Rattle.cl_runs.proofs.ModelSystem.{timing_is}
-use Rattle.cl_edit.specs.declared.edit.Edit.{Edit}
-use Rattle.cl_edit.specs.Edited.{edit_checks, with_edit, edited}
 use Rattle.cl_model.specs.Changes.{with_runnable, with_task, with_priority, with_swap, with_kind}
 use Rattle.cl_incr.specs.Touched.{KeepsNumbers, HasSameTiming, IsAmong, ChangesOnly, Touches}
 

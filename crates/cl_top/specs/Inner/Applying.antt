@@ -1,11 +1,13 @@
 -- What edits come to that are applied one after the other.
-use Rattle.std.specs.Prelude.{◌≡◌, ℕ, ◌+◌, List, [], ◌∷◌, Option, Some, None, Result, Ok, Err}
+use Rattle.std.specs.Prelude.{◌≡◌, ℕ, ◌+◌, List, [], ◌∷◌, Some, None, Result, Ok, Err}
 use Rattle.cl_model.specs.declared.model.SystemModel.{SystemModel}
 use Rattle.cl_model.specs.declared.refusal.Refusal.{Refusal}
 use Rattle.cl_edit.specs.declared.edit.Edit.{Edit}
 use Rattle.cl_edit.specs.Edited.{edited}
 use Rattle.cl_edit.specs.Listed.{OfLines, GivesNext}
 use Rattle.cl_write.specs.Texts.{IsTextOf}
+use Rattle.cl_top.specs.declared.commands.apply.Next.{Next}
+use Rattle.cl_top.specs.declared.commands.apply.Next.TheVariants.{Changed, Last}
 use Rattle.cl_top.specs.declared.outcome.Outcome.{Outcome}
 use Rattle.cl_top.specs.Commands.Edit.{edits_refused}
 use Rattle.cl_top.specs.Done.{IsDone}
@@ -24,10 +26,10 @@ ApplyTo number model (edit ∷ edits) found = OrRefused number (edited model edi
 abbrev pub LinesApplyTo : (number : ℕ) → SystemModel → (lines : List ℕ) → Outcome → Type 0
 LinesApplyTo number model lines found = OfLines lines (λ edits. ApplyTo number model edits found)
 
--- the next edit of the lines makes this of the model, where there is one
-abbrev pub MakesNext : SystemModel → (before after : List ℕ) → Option SystemModel → Type 0
-MakesNext model before after None = GivesNext None before after
-MakesNext model before after (Some changed) = (edit : Edit) × GivesNext (Some edit) before after × (edited model edit ≡ Ok changed)
+-- what comes next of the lines: the next edit makes this of the model, or none is left and this is the model
+abbrev pub MakesNext : SystemModel → (before after : List ℕ) → Next → Type 0
+MakesNext model before after (Last last) = GivesNext None before after × (last ≡ model)
+MakesNext model before after (Changed changed) = (edit : Edit) × GivesNext (Some edit) before after × (edited model edit ≡ Ok changed)
 
 -- the next edit of the lines is refused of the model
 abbrev pub RefusesNext : SystemModel → (before after : List ℕ) → Refusal → Type 0

@@ -8,7 +8,7 @@ ghost use Rattle.cl_top.specs.Inner.Applying.{MakesNext, RefusesNext, LinesApply
 use super::edit::{bad_line, refused};
 use super::migrate::migrated;
 use crate::Outcome;
-use cl_edit::{EditLines, EditsFault, apply_edit};
+use cl_edit::{EditLines, EditsFault, edit_valid};
 use cl_model::{ModelFault, Refusal, ValidModel};
 use cl_text::Text;
 use cl_time::NoMemory;
@@ -26,19 +26,27 @@ pub(crate) fn applied(alloc: Global, model: ValidModel, text: &[u8]) -> Result<O
     }
 }
 
-/// The model after the next edit. There is none where no edit is left.
+/// What comes next of a model.
+#[derive(Drop)]
+enum Next {
+    /// The model after the next edit.
+    Changed(ValidModel),
+    /// No edit is left, and this is the model.
+    Last(ValidModel),
+}
+
 fn apply_next(
     alloc: Global,
-    model: &ValidModel,
+    model: ValidModel,
     lines: &mut EditLines<'_>,
-) -> Result<Option<ValidModel>, ModelFault>
+) -> Result<Next, ModelFault>
     requires { ListsSome lines.old }
-    ensures made { IfOk result (MakesNext model.now lines.old lines.new) }
-    ensures refused { (refusal : ModelRefusal) → result ≡ Err (ModelFault.Refused refusal) → RefusesNext model.now lines.old lines.new refusal }
+    ensures made { IfOk result (MakesNext model lines.old lines.new) }
+    ensures refused { (refusal : ModelRefusal) → result ≡ Err (ModelFault.Refused refusal) → RefusesNext model lines.old lines.new refusal }
 {
     match lines.next(alloc)? {
-        Some(edit) => Ok(Some(apply_edit(alloc, model, &edit)?)),
-        None => Ok(None),
+        Some(edit) => Ok(Next::Changed(edit_valid(alloc, model, &edit)?)),
+        None => Ok(Next::Last(model)),
     }
 }
 
@@ -58,9 +66,9 @@ fn apply_lines(alloc: Global, model: ValidModel, lines: EditLines<'_>) -> Result
     let mut lines = lines;
     let mut number = 2;
     loop {
-        match apply_next(alloc, &model, &mut lines) {
-            Ok(Some(changed)) => model = changed,
-            Ok(None) => return migrated(alloc, &model),
+        match apply_next(alloc, model, &mut lines) {
+            Ok(Next::Changed(changed)) => model = changed,
+            Ok(Next::Last(last)) => return migrated(alloc, &last),
             Err(ModelFault::Refused(refusal)) => {
                 return refused_alone(alloc, number, refusal);
             }
