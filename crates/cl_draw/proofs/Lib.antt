@@ -28,3 +28,4 @@ pub mod BarLengths
 pub mod ChainLengths
 pub mod TaskSums
 pub mod PictureLength
+pub mod RoomFacts

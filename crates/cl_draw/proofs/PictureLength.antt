@@ -1,5 +1,5 @@
 -- How long a picture is.
-use Rattle.std.proofs.Common.{◌≡◌, ℕ, zero, suc, ◌+◌, ◌*◌, ◌/◌, ◌%◌, ◌^◌, ◌<◌, ◌≤◌, Option, List, [], ◌∷◌, ◌++◌, length, get_or, map, refl, sym, ap, arith}
+use Rattle.std.proofs.Common.{◌≡◌, ℕ, zero, suc, ◌+◌, ◌*◌, ◌/◌, ◌%◌, ◌^◌, ◌<◌, ◌≤◌, Option, List, [], ◌∷◌, ◌++◌, length, get_or, map, refl, sym, ap, subst, arith}
 use Rattle.std.specs.Prelude.{All, codes, sum_by}
 use Rattle.std.specs.List.{flat_map, range_with_len}
 use Rattle.std.proofs.lemmas.List.FromFn.{length-range_with_len, get_or-range_with_len}
@@ -21,16 +21,18 @@ use Rattle.cl_picture.specs.Shown.{LieSideBySide}
 use Rattle.cl_picture.specs.Window.{IsPictureWindow}
 use Rattle.cl_picture.proofs.TextLengths.{IsWithin, AreWithin, HasDigits, IsShortName, digits, none, wider, fixed, number, name, no_lines, wider_lines, a_line, both_lines, lines_of, all_lines_of}
 use Rattle.cl_picture.proofs.FrameLengths.{begin_within, end_within, axis_within}
+use Rattle.cl_draw.specs.declared.drawing.Drawing.{Drawing}
 use Rattle.cl_draw.specs.declared.rows.Row.{Row}
 use Rattle.cl_draw.specs.declared.stops.Reaction.{Reaction}
 use Rattle.cl_draw.specs.Lengths.{bars_of_task, bar_count, groups_of_chain, group_count, most_length}
 use Rattle.cl_draw.specs.Marks.{marks_of}
 use Rattle.cl_draw.specs.MarkLines.{mark_lines}
-use Rattle.cl_draw.specs.Picture.{core_head, chains_head, heads, name_lines, task_name, chain_name, by_core, by_cores, names, task_elements, look_of, chain_elements, picture, window_between, IsPictureOf}
+use Rattle.cl_draw.specs.Picture.{core_head, chains_head, heads, name_lines, task_name, chain_name, by_core, by_cores, names, task_elements, look_of, chain_elements, picture, window_between, AreTaskRows, IsPictureOf}
 use Rattle.cl_draw.specs.Places.{row_top, chain_top, chains_top, bottom}
 use Rattle.cl_draw.specs.Reactions.{reaction_at}
 use Rattle.cl_draw.specs.RowLines.{bar_line, row_lines}
 use Rattle.cl_draw.specs.Rows.{IsRowOf, row_at}
+use Rattle.cl_draw.specs.Inner.Drawings.{IsDrawing}
 use Rattle.cl_draw.specs.Inner.TaskRuns.{IsTaskRun}
 use Rattle.cl_draw.proofs.BarLengths.{few_bars, IsSmallBar, small_bars_of_bands, small_bars_of_parts, bar_within}
 use Rattle.cl_draw.proofs.ChainLengths.{small_reaction, chain_within}
@@ -180,20 +182,27 @@ module _ (model : SystemModel) (valid : IsValid model) (named : AreNamed model) 
 -- ---- bars
 
 module _ (model : SystemModel) (valid : IsValid model) (run : Run) (legal : IsLegal (system_of model) run) (from to : ℕ) (ordered : from < to)
-    (inside : to ≤ run.table.ticks) (text : List ℕ) (is : IsPictureOf model run from to text) where
-  few_in_row : (task : ℕ) → task < length model.tasks → bars_of_task is.rows task ≤ 1920
+    (inside : to ≤ run.table.ticks) (rows : List Row) (are : AreTaskRows model run (window_between from to) rows) where
+  pub few_in_row : (task : ℕ) → task < length model.tasks → bars_of_task rows task ≤ 1920
   few_in_row task known =
       let of : IsTaskRun model run task = record { is_task = known; valid = valid; legal = legal } in
-      let row = is.are_rows task known in
+      let row = are task known in
       omega (
         arith,
-        few_bars (row_at is.rows task).bands (bands_beside model run task of from to ordered inside (row_at is.rows task) row),
-        few_bars (row_at is.rows task).parts (parts_beside model run task of from to ordered inside (row_at is.rows task) row),
+        few_bars (row_at rows task).bands (bands_beside model run task of from to ordered inside (row_at rows task) row),
+        few_bars (row_at rows task).parts (parts_beside model run task of from to ordered inside (row_at rows task) row),
       )
 
-  pub bars_few : bar_count model is.rows ≤ 1920 * length model.tasks
+  pub bars_few : bar_count model rows ≤ 1920 * length model.tasks
   bars_few = omega (
     arith,
-    sum_by-le (bars_of_task is.rows) 1920 (range_with_len 0 (length model.tasks)) (of_each (λ task. bars_of_task is.rows task ≤ 1920) (length model.tasks) few_in_row),
+    sum_by-le (bars_of_task rows) 1920 (range_with_len 0 (length model.tasks)) (of_each (λ task. bars_of_task rows task ≤ 1920) (length model.tasks) few_in_row),
     length-range_with_len 0 (length model.tasks),
   )
+
+-- so it is of the rows of a drawing
+pub few_of_drawing : (model : SystemModel) (run : Run) → IsLegal (system_of model) run → (from to : ℕ) → from < to → to ≤ run.table.ticks → (drawing : Drawing)
+    → drawing.window ≡ window_between from to → IsDrawing model run drawing → (rows : List Row) → rows ≡ drawing.rows
+    → (task : ℕ) → task < length model.tasks → bars_of_task rows task ≤ 1920
+few_of_drawing model run legal from to ordered inside drawing window is rows same = few_in_row model is.valid run legal from to ordered inside rows
+    (subst (λ (w : Window). AreTaskRows model run w rows) window (subst (AreTaskRows model run drawing.window) (sym same) is.rows))

@@ -27,10 +27,14 @@ record IsAtMostOnce (k v n : ℕ) : Type 0 where
   most : sum_by (at_one k v) (range_with_len 0 n) ≤ v
   not_yet : n ≤ k → sum_by (at_one k v) (range_with_len 0 n) ≡ 0
 
+-- one number more
 one_further : (f : ℕ → ℕ) (n : ℕ) → sum_by f (range_with_len 0 (suc n)) ≡ sum_by f (range_with_len 0 n) + f n
 one_further f n =
     let here : 0 + n ≡ n = omega arith in
     omega (arith, ap (sum_by f) (range_more 0 n), sum_by-append f (range_with_len 0 n) ((0 + n) ∷ []), sum_by-cons f (0 + n) [], ap f here)
+
+pub one_more_number : (f : ℕ → ℕ) (n : ℕ) → sum_by f (range_with_len 0 (n + 1)) ≡ sum_by f (range_with_len 0 n) + f n
+one_more_number f n = let next : n + 1 ≡ suc n = omega arith in ap (λ m. sum_by f (range_with_len 0 m)) next ∙ one_further f n
 
 at_most_once : (k v n : ℕ) → IsAtMostOnce k v n
 at_most_once k v zero = record { most = omega arith; not_yet = λ before. omega arith }

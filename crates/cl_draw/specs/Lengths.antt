@@ -3,6 +3,7 @@ use Rattle.std.specs.Prelude.{ℕ, ◌+◌, ◌*◌, List, length, sum_by}
 use Rattle.std.specs.List.{range_with_len}
 use Rattle.cl_model.specs.declared.model.SystemModel.{SystemModel}
 use Rattle.cl_model.specs.Groups.{groups_at}
+use Rattle.cl_draw.specs.declared.room.TheConstants.{MOST_OF_PICTURE, MOST_OF_CORE, MOST_OF_TASK, MOST_OF_BAR, MOST_OF_CHAIN, MOST_OF_GROUP}
 use Rattle.cl_draw.specs.declared.rows.Row.{Row}
 use Rattle.cl_draw.specs.Rows.{row_at}
 
@@ -25,4 +26,5 @@ group_count model = sum_by (groups_of_chain model) (range_with_len 0 (length mod
 -- the most bytes of a picture with so many bars
 abbrev pub most_length : SystemModel → (bars : ℕ) → ℕ
 most_length model bars =
-    6000 + 110 * length model.cores + 9400 * length model.tasks + 280 * bars + 1200 * length model.chains + 200 * group_count model
+    MOST_OF_PICTURE + MOST_OF_CORE * length model.cores + MOST_OF_TASK * length model.tasks + MOST_OF_BAR * bars
+    + MOST_OF_CHAIN * length model.chains + MOST_OF_GROUP * group_count model
