@@ -1,19 +1,16 @@
 -- How many bars a row has, and how long their lines are.
-use Rattle.std.proofs.Common.{◌≡◌, ℕ, ◌+◌, ◌-◌, ◌*◌, ◌^◌, ◌<◌, ◌≤◌, Bool, true, false, if◌then◌else◌, inl, inr, Option, Some, None, List, [], ◌∷◌, ◌++◌, length, get_or, map, refl, sym, ap, subst, arith}
-use Rattle.std.specs.Prelude.{All, AllPairs, codes, filter, nat_le, slice_get, unwrap_or, ◌==◌, max}
+use Rattle.std.proofs.Common.{◌≡◌, ℕ, ◌+◌, ◌-◌, ◌*◌, ◌^◌, ◌<◌, ◌≤◌, Bool, true, false, if◌then◌else◌, Option, Some, None, List, [], ◌∷◌, length, get_or, map, sym, subst, arith}
+use Rattle.std.specs.Prelude.{All, AllPairs, codes, filter, nat_le, slice_get, unwrap_or, ◌==◌}
 use Rattle.std.specs.List.{range_with_len}
-use Rattle.std.proofs.lemmas.Bool.{cases_lt}
 use Rattle.std.proofs.lemmas.List.{get_or_default}
 use Rattle.std.proofs.lemmas.List.Elements.{All-nil, All-cons, All-head, All-tail, All-map, All-filter}
 use Rattle.std.proofs.lemmas.List.FromFn.{length-range_with_len, get_or-range_with_len}
 use Rattle.cl_model.specs.declared.limits.TheConstants.{MOST_TICKS}
 use Rattle.cl_model.specs.declared.model.SystemModel.{SystemModel}
-use Rattle.cl_model.specs.declared.task.RunnableDef.{RunnableDef}
 use Rattle.cl_model.specs.AreNamed.{AreNamed}
 use Rattle.cl_model.specs.ByNumber.{task_at, deadline_of, stimulus_of}
 use Rattle.cl_model.proofs.ValidTasks.{early_enough, kind_in_range}
 use Rattle.cl_runs.specs.Run.{Run, jobs_of}
-use Rattle.cl_runs.specs.Table.{job_at}
 use Rattle.cl_runs.specs.Moments.{JobFinishes}
 use Rattle.cl_runs.specs.TaskTiming.{IsSound}
 use Rattle.cl_runs.specs.SystemOf.{system_of}
@@ -26,13 +23,13 @@ use Rattle.cl_picture.specs.declared.item.Bar.{Bar}
 use Rattle.cl_picture.specs.declared.item.End.{End}
 use Rattle.cl_picture.specs.declared.item.Rest.{Rest}
 use Rattle.cl_picture.specs.declared.item.Rest.TheVariants as rest
-use Rattle.cl_picture.specs.Bars.{counts, bar_of, joined_bar, bars_from, bars}
-use Rattle.cl_picture.specs.Pieces.{Piece, Fixed, Number}
+use Rattle.cl_picture.specs.Bars.{counts, bar_of, joined_bar, bars_from}
+use Rattle.cl_picture.specs.Pieces.{Piece}
 use Rattle.cl_picture.specs.Shown.{LieSideBySide}
 use Rattle.cl_picture.specs.Window.{high_of}
 use Rattle.cl_picture.proofs.BarSides.{choose, pairs_head, pairs_tail}
 use Rattle.cl_picture.proofs.Units.{shares}
-use Rattle.cl_picture.proofs.TextLengths.{IsWithin, HasDigits, IsShortName, digits, none, wider, fixed, number, name, both}
+use Rattle.cl_picture.proofs.TextLengths.{IsWithin, HasDigits, digits, none, wider, fixed, number, name, both}
 use Rattle.cl_draw.specs.declared.parts.Part.{Part}
 use Rattle.cl_draw.specs.declared.rows.Row.{Row}
 use Rattle.cl_draw.specs.Items.{is_whole, part_kind, part_item, band, bands}

@@ -1,27 +1,24 @@
 -- How long the lines of a chain are.
-use Rattle.std.proofs.Common.{◌≡◌, ℕ, suc, ◌+◌, ◌-◌, ◌*◌, ◌^◌, ◌<◌, ◌≤◌, Bool, true, false, if◌then◌else◌, Option, Some, None, List, [], ◌∷◌, ◌++◌, length, get_or, map, refl, sym, ap, subst, arith}
+use Rattle.std.proofs.Common.{◌≡◌, ℕ, ◌+◌, ◌-◌, ◌*◌, ◌^◌, ◌<◌, ◌≤◌, if◌then◌else◌, Option, Some, None, List, [], ◌∷◌, length, get_or, arith}
 use Rattle.std.specs.Prelude.{All, codes, max, nat_lt, nat_le, slice_index, ◌==◌}
-use Rattle.std.specs.List.{flat_map, range_with_len}
-use Rattle.std.proofs.lemmas.List.{get_or_default}
+use Rattle.std.specs.List.{range_with_len}
 use Rattle.std.proofs.lemmas.List.Elements.{All-from_get_or}
 use Rattle.std.proofs.lemmas.List.FromFn.{length-range_with_len, get_or-range_with_len}
 use Rattle.cl_model.specs.declared.model.SystemModel.{SystemModel}
 use Rattle.cl_model.specs.declared.group.Group.{Group}
 use Rattle.cl_model.specs.AreNamed.{AreNamed}
-use Rattle.cl_model.specs.Groups.{no_group, group_at, groups_at, IsGroupOf}
+use Rattle.cl_model.specs.Groups.{no_group, group_at, groups_at}
 use Rattle.cl_model.specs.Validity.{IsValid}
 use Rattle.cl_model.proofs.GroupFacts.{groups_at_are}
-use Rattle.cl_runs.specs.Chains.{Moments, JobChain, IsForwardChain, first_group, first_job, last_group, last_job}
+use Rattle.cl_runs.specs.Chains.{JobChain, IsForwardChain, first_group, first_job, last_group, last_job}
 use Rattle.cl_runs.specs.Legal.{IsLegal}
 use Rattle.cl_runs.specs.Measured.{IsMeasuredBy}
 use Rattle.cl_runs.specs.Moments.{Reads, Writes}
-use Rattle.cl_runs.specs.Run.{Run, jobs_of}
+use Rattle.cl_runs.specs.Run.{Run}
 use Rattle.cl_runs.specs.RunChains.{run_moments}
 use Rattle.cl_runs.specs.SystemOf.{system_of}
 use Rattle.cl_runs.proofs.ModelSystem.{system_sound}
 use Rattle.cl_runs.proofs.MomentFacts.{reads_below, writes_within}
-use Rattle.cl_picture.specs.declared.window.Window.{Window}
-use Rattle.cl_picture.specs.Pieces.{Piece, Element}
 use Rattle.cl_picture.specs.Window.{IsPictureWindow, x_of}
 use Rattle.cl_picture.proofs.BarSides.{choose}
 use Rattle.cl_picture.proofs.Lengths.{x_most}
@@ -30,9 +27,8 @@ use Rattle.cl_picture.proofs.FrameLengths.{x_digits}
 use Rattle.cl_draw.specs.declared.chain_lines.Look.{Look}
 use Rattle.cl_draw.specs.declared.stops.Reaction.{Reaction}
 use Rattle.cl_draw.specs.declared.stops.Stop.{Stop}
-use Rattle.cl_draw.specs.ChainLines.{middle_of, line_of, line_at, half_of, leave, first_stop, last_stop, stop_pieces, title_head, reaction_title_line, falls_line, steps_head, step_pieces, step_pieces_at, steps_line, frame_line, input_line, output_line, length_line, words_left, words_right, words_place, words_rest, words_line, inside_lines, group_line, open_lines, none_line, outside_line, is_whole_inside, reaction_lines, shown_lines, chain_lines}
-use Rattle.cl_draw.specs.Reactions.{no_stop, stop_at_group, IsStop, IsShown, IsShownOf, IsReactionOf}
-use Rattle.cl_draw.specs.Inner.TaskRuns.{IsTaskRun}
+use Rattle.cl_draw.specs.ChainLines.{middle_of, line_at, half_of, leave, first_stop, last_stop, stop_pieces, reaction_title_line, falls_line, step_pieces_at, steps_line, frame_line, input_line, output_line, length_line, words_left, words_right, words_place, words_line, inside_lines, open_lines, none_line, outside_line, is_whole_inside, reaction_lines, shown_lines, chain_lines}
+use Rattle.cl_draw.specs.Reactions.{no_stop, stop_at_group, IsShown, IsShownOf, IsReactionOf}
 use Rattle.cl_draw.proofs.SmallNumbers.{IsHeight, height_digits, row_height_is, task_short, job_below}
 
 -- ---- the numbers of a reaction

@@ -1,12 +1,12 @@
 -- A bar says the first and the last of its items.
-use Rattle.std.proofs.Common.{◌≡◌, ℕ, Option, Some, None, List, [], ◌∷◌, ◌++◌, refl, sym, ap, ◌∙◌}
+use Rattle.std.proofs.Common.{◌≡◌, ℕ, Option, Some, List, [], ◌∷◌, ◌++◌, refl, ap, ◌∙◌}
 use Rattle.std.specs.Prelude.{unwrap_or, codes}
 use Rattle.cl_model.specs.declared.task.TaskDef.{TaskDef}
 use Rattle.cl_picture.specs.declared.item.Item.{Item}
 use Rattle.cl_picture.specs.declared.item.Bar.{Bar}
 use Rattle.cl_picture.specs.declared.item.End.{End}
 use Rattle.cl_picture.specs.declared.window.Window.{Window}
-use Rattle.cl_picture.specs.Pieces.{Piece, Fixed, Number, Element}
+use Rattle.cl_picture.specs.Pieces.{Fixed, Element}
 use Rattle.cl_picture.specs.Shown.{end_of, last_end, IsBarOf}
 use Rattle.cl_draw.specs.RowLines.{words_pieces, bar_head, bar_line}
 use Rattle.cl_draw.specs.Hovers.{last_item, hover_pieces, bar_shape}

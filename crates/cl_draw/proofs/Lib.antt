@@ -21,6 +21,7 @@ pub mod SomeParts
 pub mod SomePicture
 pub mod RowSides
 pub mod HoverFacts
+pub mod NamesOf
 pub mod PlainPicture
 pub mod SmallNumbers
 pub mod MarkLengths

@@ -1,8 +1,7 @@
 -- How many marks a row has, and how long their lines are.
-use Rattle.std.proofs.Common.{◌≡◌, ℕ, zero, suc, ◌+◌, ◌*◌, ◌^◌, ◌<◌, ◌≤◌, Bool, true, false, if◌then◌else◌, inl, inr, List, [], ◌∷◌, ◌++◌, length, get_or, map, refl, sym, ap, subst, ◌∙◌, arith}
-use Rattle.std.specs.Prelude.{All, AllPairs, codes, filter, nat_lt, nat_le, ◌&&◌, ◌||◌}
+use Rattle.std.proofs.Common.{◌≡◌, ℕ, zero, suc, ◌+◌, ◌*◌, ◌^◌, ◌<◌, ◌≤◌, Bool, true, false, List, [], ◌∷◌, length, get_or, map, refl, sym, ap, subst, ◌∙◌, arith}
+use Rattle.std.specs.Prelude.{All, AllPairs, filter, nat_lt, nat_le, ◌&&◌, ◌||◌}
 use Rattle.std.specs.List.{flat_map, range_with_len}
-use Rattle.std.proofs.lemmas.Bool.{cases_lt}
 use Rattle.std.proofs.lemmas.Bool.Decides.{nat_tests}
 use Rattle.std.proofs.lemmas.List.{get_or_default}
 use Rattle.std.proofs.lemmas.List.Elements.{All-nil, All-map, All-filter, All-head, All-tail}
@@ -13,23 +12,22 @@ use Rattle.cl_model.specs.ByNumber.{deadline_of}
 use Rattle.cl_runs.specs.declared.job.Job.{Job}
 use Rattle.cl_runs.specs.Run.{Run, jobs_of}
 use Rattle.cl_runs.specs.Table.{no_job, job_at}
-use Rattle.cl_runs.specs.TaskTiming.{IsSound, timing_at}
+use Rattle.cl_runs.specs.TaskTiming.{IsSound}
 use Rattle.cl_runs.specs.SystemOf.{system_of}
 use Rattle.cl_runs.proofs.ModelSystem.{count_is, system_sound}
 use Rattle.cl_runs.proofs.RunArrivals.{arrivals_rise, arrives_after_deadline, released_late, released_within}
 use Rattle.cl_picture.specs.declared.window.Window.{Window}
-use Rattle.cl_picture.specs.Pieces.{Element, print}
+use Rattle.cl_picture.specs.Pieces.{Element}
 use Rattle.cl_picture.specs.Window.{IsPictureWindow, is_inside, x_of}
 use Rattle.cl_picture.proofs.BarSides.{choose, pairs_head, pairs_tail}
 use Rattle.cl_picture.proofs.Lengths.{x_most}
 use Rattle.cl_picture.proofs.Printing.{flat_range}
-use Rattle.cl_picture.proofs.TextLengths.{IsWithin, AreWithin, digits, none, wider, fixed, number, both, each_of, no_lines, wider_lines, a_line, both_lines}
+use Rattle.cl_picture.proofs.TextLengths.{IsWithin, AreWithin, digits, none, fixed, number, both, each_of, no_lines, wider_lines, a_line, both_lines}
 use Rattle.cl_picture.proofs.FrameLengths.{x_digits}
 use Rattle.cl_picture.proofs.Units.{x_mono, x_least}
 use Rattle.cl_draw.specs.declared.marks.Arrival.{Arrival}
 use Rattle.cl_draw.specs.declared.marks.Marks.{Marks}
 use Rattle.cl_draw.specs.declared.marks.TheConstants.{MOST_ARRIVALS}
-use Rattle.cl_draw.specs.declared.spans.Span.{Span}
 use Rattle.cl_draw.specs.Marks.{arrival_of, is_seen, arrivals, due_of, dues, wait_of, is_wait, waits, no_marks, marks_of}
 use Rattle.cl_draw.specs.MarkLines.{no_arrival, wait_pieces, arrival_pieces, due_pieces, arrival_at, has_room, arrival_label_line, label_at, labels, mark_lines}
 use Rattle.cl_draw.specs.Inner.TaskRuns.{IsTaskRun}

@@ -1,5 +1,5 @@
 -- How long a picture is.
-use Rattle.std.proofs.Common.{◌≡◌, ℕ, zero, suc, ◌+◌, ◌*◌, ◌/◌, ◌%◌, ◌^◌, ◌<◌, ◌≤◌, Option, List, [], ◌∷◌, ◌++◌, length, get_or, map, refl, sym, ap, subst, arith}
+use Rattle.std.proofs.Common.{◌≡◌, ℕ, zero, suc, ◌+◌, ◌*◌, ◌/◌, ◌%◌, ◌<◌, ◌≤◌, List, length, get_or, map, sym, ap, subst, arith}
 use Rattle.std.specs.Prelude.{All, codes, sum_by}
 use Rattle.std.specs.List.{flat_map, range_with_len}
 use Rattle.std.proofs.lemmas.List.FromFn.{length-range_with_len, get_or-range_with_len}
@@ -14,21 +14,17 @@ use Rattle.cl_runs.specs.Run.{Run, jobs_of}
 use Rattle.cl_runs.specs.SystemOf.{system_of}
 use Rattle.cl_picture.specs.declared.item.Bar.{Bar}
 use Rattle.cl_picture.specs.declared.window.Window.{Window}
-use Rattle.cl_picture.specs.Axis.{axis}
-use Rattle.cl_picture.specs.Frame.{begin, end, shift_line, close_line}
-use Rattle.cl_picture.specs.Pieces.{Element, print}
+use Rattle.cl_picture.specs.Pieces.{Element}
 use Rattle.cl_picture.specs.Shown.{LieSideBySide}
 use Rattle.cl_picture.specs.Window.{IsPictureWindow}
-use Rattle.cl_picture.proofs.TextLengths.{IsWithin, AreWithin, HasDigits, IsShortName, digits, none, wider, fixed, number, name, no_lines, wider_lines, a_line, both_lines, lines_of, all_lines_of}
+use Rattle.cl_picture.proofs.TextLengths.{IsWithin, AreWithin, IsShortName, digits, none, wider, fixed, number, name, no_lines, wider_lines, a_line, both_lines, lines_of, all_lines_of}
 use Rattle.cl_picture.proofs.FrameLengths.{begin_within, end_within, axis_within}
 use Rattle.cl_draw.specs.declared.drawing.Drawing.{Drawing}
 use Rattle.cl_draw.specs.declared.rows.Row.{Row}
-use Rattle.cl_draw.specs.declared.stops.Reaction.{Reaction}
 use Rattle.cl_draw.specs.Lengths.{bars_of_task, bar_count, groups_of_chain, group_count, most_length}
 use Rattle.cl_draw.specs.Marks.{marks_of}
-use Rattle.cl_draw.specs.MarkLines.{mark_lines}
 use Rattle.cl_draw.specs.Picture.{core_head, chains_head, heads, name_lines, task_name, chain_name, by_core, by_cores, names, task_elements, look_of, chain_elements, picture, window_between, AreTaskRows, IsPictureOf}
-use Rattle.cl_draw.specs.Places.{row_top, chain_top, chains_top, bottom}
+use Rattle.cl_draw.specs.Places.{row_top, chain_top, bottom}
 use Rattle.cl_draw.specs.Reactions.{reaction_at}
 use Rattle.cl_draw.specs.RowLines.{bar_line, row_lines}
 use Rattle.cl_draw.specs.Rows.{IsRowOf, row_at}

@@ -1,20 +1,14 @@
 -- The values of a picture are plain: names are of the grammar of names, and all else is numbers.
-use Rattle.std.proofs.Common.{◌≡◌, ℕ, zero, suc, ◌-◌, ◌<◌, ◌≤◌, Bool, true, false, if◌then◌else◌, Option, Some, None, inl, inr, List, [], ◌∷◌, ◌++◌, length, get_or, map, refl, sym, ap, subst, ◌∙◌, arith}
-use Rattle.std.specs.Prelude.{All, ◌+◌, ◌&&◌, codes, nat_lt, nat_le, slice_index_or}
+use Rattle.std.proofs.Common.{◌≡◌, ℕ, zero, suc, ◌-◌, Bool, true, false, Option, Some, None, List, [], ◌∷◌, ◌++◌, length, get_or, map, arith}
+use Rattle.std.specs.Prelude.{◌+◌, ◌&&◌, codes, nat_lt, nat_le, slice_index_or}
 use Rattle.std.specs.List.{flat_map, list_all, range_with_len}
-use Rattle.std.proofs.lemmas.Bool.{cases_lt}
 use Rattle.std.proofs.lemmas.Grind.{common_steps}
-use Rattle.std.proofs.lemmas.List.{get_or_past}
 use Rattle.std.proofs.lemmas.List.Elements.{All-nil}
 use Rattle.std.proofs.lemmas.List.Sums.{AllPass-from_list_all}
 use Rattle.cl_model.specs.declared.model.SystemModel.{SystemModel}
-use Rattle.cl_model.specs.declared.model.CoreDef.{CoreDef}
-use Rattle.cl_model.specs.declared.chain.ChainDef.{ChainDef}
-use Rattle.cl_model.specs.declared.task.RunnableDef.{RunnableDef}
-use Rattle.cl_model.specs.declared.task.TaskDef.{TaskDef}
-use Rattle.cl_model.specs.AreNamed.{IsRunnableNamed, IsTaskNamed, IsChainNamed, AreNamed}
-use Rattle.cl_model.specs.ByNumber.{no_task, no_chain, no_core, no_runnable, task_at, chain_at, core_at, deadline_of, tasks_of_core}
-use Rattle.cl_model.specs.Name.{is_name_byte, is_name, IsName}
+use Rattle.cl_model.specs.AreNamed.{AreNamed}
+use Rattle.cl_model.specs.ByNumber.{no_runnable, task_at, chain_at, core_at, deadline_of, tasks_of_core}
+use Rattle.cl_model.specs.Name.{is_name_byte, IsName}
 use Rattle.cl_model.proofs.ListFacts.{both_pass}
 use Rattle.cl_runs.specs.Run.{Run, jobs_of}
 use Rattle.cl_picture.specs.declared.window.Window.{Window}
@@ -25,7 +19,7 @@ use Rattle.cl_picture.specs.declared.item.Rest.{Rest}
 use Rattle.cl_picture.specs.declared.item.Rest.TheVariants as rest
 use Rattle.cl_picture.specs.Axis.{axis}
 use Rattle.cl_picture.specs.Frame.{begin, end, close_line}
-use Rattle.cl_picture.specs.Pieces.{Piece, Element, Fixed, Number, Name}
+use Rattle.cl_picture.specs.Pieces.{Piece, Element, Fixed, Number}
 use Rattle.cl_picture.specs.Window.{x_of}
 use Rattle.cl_picture.specs.Plain.{is_format_byte, IsPlainText, ArePlain}
 use Rattle.cl_picture.proofs.BarSides.{choose}
@@ -35,13 +29,14 @@ use Rattle.cl_draw.specs.declared.marks.Marks.{Marks}
 use Rattle.cl_draw.specs.declared.rows.Row.{Row}
 use Rattle.cl_draw.specs.declared.stops.Reaction.{Reaction}
 use Rattle.cl_draw.specs.declared.stops.Stop.{Stop}
-use Rattle.cl_draw.specs.Places.{row_top, bottom, chain_top}
+use Rattle.cl_draw.specs.Places.{row_top, bottom}
 use Rattle.cl_draw.specs.Marks.{marks_of}
-use Rattle.cl_draw.specs.MarkLines.{wait_pieces, arrival_pieces, due_pieces, has_room, arrival_at, arrival_label_line, label_at, labels, mark_lines}
+use Rattle.cl_draw.specs.MarkLines.{wait_pieces, arrival_pieces, due_pieces, has_room, arrival_at, arrival_label_line, label_at, mark_lines}
 use Rattle.cl_draw.specs.RowLines.{finish_piece, rest_pieces, words_pieces, bar_head, bar_line, row_lines}
 use Rattle.cl_draw.specs.Rows.{row_at}
 use Rattle.cl_draw.specs.Reactions.{reaction_at}
-use Rattle.cl_draw.specs.ChainLines.{stop_pieces, title_head, reaction_title_line, steps_head, step_pieces_at, steps_line, frame_line, words_left, words_right, words_place, words_rest, words_line, input_line, output_line, length_line, inside_lines, first_stop, last_stop, is_whole_inside, outside_line, reaction_lines, shown_lines, open_lines, chain_lines}
+use Rattle.cl_draw.specs.ChainLines.{stop_pieces, title_head, reaction_title_line, steps_head, step_pieces_at, steps_line, frame_line, words_left, words_right, words_place, words_rest, words_line, input_line, output_line, length_line, inside_lines, first_stop, last_stop, is_whole_inside, outside_line, shown_lines, open_lines, chain_lines}
+use Rattle.cl_draw.proofs.NamesOf.{of_core, of_task, of_chain, of_runnable}
 use Rattle.cl_draw.specs.Picture.{core_head, chains_head, heads, task_name, chain_name, by_core, by_cores, names, task_elements, look_of, chain_elements, picture}
 
 -- ---- names
@@ -57,38 +52,18 @@ name_plain name is =
 no_name_plain : IsPlainText []
 no_name_plain = All-nil (λ byte. is_format_byte byte ≡ false)
 
--- the name of an item of a list, or of none
-listed_plain : {X : Type 0} (name_of : X → List ℕ) (Named : X → Type 0) (xs : List X) (none : X) → ((x : X) → Named x → IsName (name_of x)) → All Named xs
-    → name_of none ≡ [] → (k : ℕ) → IsPlainText (name_of (get_or xs k none))
-listed_plain name_of Named xs none is_name each empty k = elim (cases_lt k (length xs)) [
-  | inl within ↦ name_plain (name_of (get_or xs k none)) (is_name (get_or xs k none) (each k none within))
-  | inr past ↦ subst IsPlainText (sym (ap name_of (get_or_past xs k none past) ∙ empty)) no_name_plain
-]
-
 module _ (model : SystemModel) (named : AreNamed model) where
   core_plain : (core : ℕ) → IsPlainText (core_at model core).name
-  unfolding no_core
-  core_plain core = listed_plain (λ (c : CoreDef). c.name) (λ (c : CoreDef). IsName c.name) model.cores no_core (λ c is. is) named.cores refl core
+  core_plain = of_core IsPlainText no_name_plain name_plain model named
 
   task_plain : (task : ℕ) → IsPlainText (task_at model task).name
-  unfolding no_task
-  task_plain task = listed_plain (λ (t : TaskDef). t.name) IsTaskNamed model.tasks no_task (λ t is. is.name) named.tasks refl task
+  task_plain = of_task IsPlainText no_name_plain name_plain model named
 
   chain_plain : (chain : ℕ) → IsPlainText (chain_at model chain).name
-  unfolding no_chain
-  chain_plain chain = listed_plain (λ (c : ChainDef). c.name) IsChainNamed model.chains no_chain (λ c is. is.name) named.chains refl chain
-
-  runnables_named : (task : ℕ) → All IsRunnableNamed (task_at model task).runnables
-  unfolding no_task
-  runnables_named task = elim (cases_lt task (length model.tasks)) [
-    | inl within ↦ (named.tasks task no_task within).runnables
-    | inr past ↦ subst (λ (t : TaskDef). All IsRunnableNamed t.runnables) (sym (get_or_past model.tasks task no_task past)) (All-nil IsRunnableNamed)
-  ]
+  chain_plain = of_chain IsPlainText no_name_plain name_plain model named
 
   runnable_plain : (task place : ℕ) → IsPlainText (slice_index_or (task_at model task).runnables place no_runnable).name
-  unfolding no_runnable
-  runnable_plain task place =
-      listed_plain (λ (r : RunnableDef). r.name) IsRunnableNamed (task_at model task).runnables no_runnable (λ r is. is.name) (runnables_named task) refl place
+  runnable_plain = of_runnable IsPlainText no_name_plain name_plain model named
 
   -- ---- heads and names
 

@@ -1,5 +1,5 @@
 -- The bars of a row lie side by side, and each tick in which its task runs lies under them.
-use Rattle.std.proofs.Common.{◌≡◌, ℕ, zero, suc, ◌+◌, ◌-◌, ◌<◌, ◌≤◌, ◌&&◌, Bool, true, false, cond, inl, inr, Option, Some, None, List, [], ◌∷◌, length, get_or, map, refl, sym, ap, subst, ◌∙◌, arith}
+use Rattle.std.proofs.Common.{◌≡◌, ℕ, zero, suc, ◌+◌, ◌-◌, ◌<◌, ◌≤◌, ◌&&◌, Bool, true, false, cond, inl, inr, Option, Some, None, List, [], ◌∷◌, length, get_or, map, refl, sym, subst, arith}
 use Rattle.std.specs.Prelude.{All, AllPairs, filter, nat_lt, slice_get, unwrap_or}
 use Rattle.std.specs.List.{range_with_len}
 use Rattle.std.proofs.lemmas.Bool.{cases_lt}
@@ -12,9 +12,8 @@ use Rattle.cl_model.specs.declared.model.SystemModel.{SystemModel}
 use Rattle.cl_model.specs.ByNumber.{task_at, deadline_of}
 use Rattle.cl_runs.specs.TaskTiming.{IsSound, timing_at}
 use Rattle.cl_runs.specs.SystemOf.{system_of}
-use Rattle.cl_runs.specs.Run.{Run, jobs_of, entry_at, executed}
+use Rattle.cl_runs.specs.Run.{Run, jobs_of, entry_at}
 use Rattle.cl_runs.specs.Table.{job_at}
-use Rattle.cl_runs.specs.Work.{work_before, work_through}
 use Rattle.cl_runs.specs.Moments.{JobFinishes}
 use Rattle.cl_runs.proofs.ModelSystem.{count_is, system_sound}
 use Rattle.cl_runs.proofs.StartsFinishes.{finish_earliest}
@@ -28,7 +27,7 @@ use Rattle.cl_picture.specs.Bars.{counts, bars}
 use Rattle.cl_picture.specs.Shown.{HaveTicks, EndInOrder, FollowEachOther, LieSideBySide, IsUnder}
 use Rattle.cl_picture.specs.Window.{low_of, high_of}
 use Rattle.cl_picture.proofs.Units.{low_mono, high_mono, shares}
-use Rattle.cl_picture.proofs.BarSides.{weaker, side_by_side, lie_under}
+use Rattle.cl_picture.proofs.BarSides.{side_by_side, lie_under}
 use Rattle.cl_draw.specs.declared.parts.Part.{Part}
 use Rattle.cl_draw.specs.declared.rows.Row.{Row}
 use Rattle.cl_draw.specs.Items.{part_item, band, bands}

@@ -1,17 +1,10 @@
 -- How long names are, and how great the numbers of a picture.
-use Rattle.std.proofs.Common.{◌≡◌, ℕ, zero, suc, ◌+◌, ◌*◌, ◌/◌, ◌^◌, ◌<◌, ◌≤◌, inl, inr, List, [], length, get_or, refl, sym, ap, subst, ◌∙◌, arith}
-use Rattle.std.specs.Prelude.{All, slice_index_or}
-use Rattle.std.proofs.lemmas.Bool.{cases_lt}
+use Rattle.std.proofs.Common.{ℕ, zero, suc, ◌+◌, ◌<◌, ◌≤◌, List, [], length, arith}
+use Rattle.std.specs.Prelude.{slice_index_or}
 use Rattle.std.proofs.lemmas.Bool.Decides.{nat_tests}
-use Rattle.std.proofs.lemmas.List.{get_or_past}
-use Rattle.std.proofs.lemmas.List.Elements.{All-nil}
 use Rattle.cl_model.specs.declared.model.SystemModel.{SystemModel}
-use Rattle.cl_model.specs.declared.model.CoreDef.{CoreDef}
-use Rattle.cl_model.specs.declared.chain.ChainDef.{ChainDef}
-use Rattle.cl_model.specs.declared.task.RunnableDef.{RunnableDef}
-use Rattle.cl_model.specs.declared.task.TaskDef.{TaskDef}
-use Rattle.cl_model.specs.AreNamed.{IsRunnableNamed, IsTaskNamed, IsChainNamed, AreNamed}
-use Rattle.cl_model.specs.ByNumber.{no_task, no_chain, no_core, no_runnable, task_at, chain_at, core_at, core_of, tasks_of_core_below}
+use Rattle.cl_model.specs.AreNamed.{AreNamed}
+use Rattle.cl_model.specs.ByNumber.{no_runnable, task_at, chain_at, core_at, core_of}
 use Rattle.cl_model.specs.Name.{IsName}
 use Rattle.cl_model.specs.Validity.{IsValid}
 use Rattle.cl_model.proofs.NamesKnown.{core_within}
@@ -22,8 +15,9 @@ use Rattle.cl_runs.specs.SystemOf.{system_of}
 use Rattle.cl_runs.proofs.ModelSystem.{count_is, system_sound}
 use Rattle.cl_runs.proofs.RunArrivals.{arrives_below, arrivals_rise}
 use Rattle.cl_picture.proofs.TextLengths.{HasDigits, IsShortName, digits}
-use Rattle.cl_draw.specs.Places.{core_top, row_top, chains_top, chain_top, bottom, end_of_chains}
+use Rattle.cl_draw.specs.Places.{core_top, row_top, chain_top, bottom, end_of_chains}
 use Rattle.cl_draw.specs.Inner.TaskRuns.{IsTaskRun}
+use Rattle.cl_draw.proofs.NamesOf.{of_core, of_task, of_chain, of_runnable}
 use Rattle.cl_draw.proofs.PlaceFacts.{top_most, below_few}
 
 -- ---- names
@@ -31,37 +25,24 @@ use Rattle.cl_draw.proofs.PlaceFacts.{top_most, below_few}
 short_name : (name : List ℕ) → IsName name → length name ≤ 64
 short_name name is = grind (arith, nat_tests, is)
 
-listed_short : {X : Type 0} (name_of : X → List ℕ) (Named : X → Type 0) (xs : List X) (none : X) → ((x : X) → Named x → IsName (name_of x)) → All Named xs
-    → name_of none ≡ [] → (k : ℕ) → IsShortName (name_of (get_or xs k none))
-listed_short name_of Named xs none is_name each empty k = elim (cases_lt k (length xs)) [
-  | inl within ↦ record { within = short_name (name_of (get_or xs k none)) (is_name (get_or xs k none) (each k none within)) }
-  | inr past ↦ record { within = omega (arith, ap length (ap name_of (get_or_past xs k none past) ∙ empty)) }
-]
+is_short : (name : List ℕ) → IsName name → IsShortName name
+is_short name is = record { within = short_name name is }
+
+no_name_short : IsShortName []
+no_name_short = record { within = omega arith }
 
 module _ (model : SystemModel) (named : AreNamed model) where
   pub core_short : (core : ℕ) → IsShortName (core_at model core).name
-  unfolding no_core
-  core_short core = listed_short (λ (c : CoreDef). c.name) (λ (c : CoreDef). IsName c.name) model.cores no_core (λ c is. is) named.cores refl core
+  core_short = of_core IsShortName no_name_short is_short model named
 
   pub task_short : (task : ℕ) → IsShortName (task_at model task).name
-  unfolding no_task
-  task_short task = listed_short (λ (t : TaskDef). t.name) IsTaskNamed model.tasks no_task (λ t is. is.name) named.tasks refl task
+  task_short = of_task IsShortName no_name_short is_short model named
 
   pub chain_short : (chain : ℕ) → IsShortName (chain_at model chain).name
-  unfolding no_chain
-  chain_short chain = listed_short (λ (c : ChainDef). c.name) IsChainNamed model.chains no_chain (λ c is. is.name) named.chains refl chain
-
-  runnables_named : (task : ℕ) → All IsRunnableNamed (task_at model task).runnables
-  unfolding no_task
-  runnables_named task = elim (cases_lt task (length model.tasks)) [
-    | inl within ↦ (named.tasks task no_task within).runnables
-    | inr past ↦ subst (λ (t : TaskDef). All IsRunnableNamed t.runnables) (sym (get_or_past model.tasks task no_task past)) (All-nil IsRunnableNamed)
-  ]
+  chain_short = of_chain IsShortName no_name_short is_short model named
 
   pub runnable_short : (task place : ℕ) → IsShortName (slice_index_or (task_at model task).runnables place no_runnable).name
-  unfolding no_runnable
-  runnable_short task place =
-      listed_short (λ (r : RunnableDef). r.name) IsRunnableNamed (task_at model task).runnables no_runnable (λ r is. is.name) (runnables_named task) refl place
+  runnable_short = of_runnable IsShortName no_name_short is_short model named
 
 -- ---- heights
 
