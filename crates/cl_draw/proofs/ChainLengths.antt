@@ -27,7 +27,8 @@ use Rattle.cl_picture.proofs.FrameLengths.{x_digits}
 use Rattle.cl_draw.specs.declared.chain_lines.Look.{Look}
 use Rattle.cl_draw.specs.declared.stops.Reaction.{Reaction}
 use Rattle.cl_draw.specs.declared.stops.Stop.{Stop}
-use Rattle.cl_draw.specs.ChainLines.{middle_of, line_at, half_of, leave, first_stop, last_stop, stop_pieces, reaction_title_line, falls_line, step_pieces_at, steps_line, frame_line, input_line, output_line, length_line, words_left, words_right, words_place, words_line, inside_lines, open_lines, none_line, outside_line, is_whole_inside, reaction_lines, shown_lines, chain_lines}
+use Rattle.cl_draw.specs.ChainLines.{middle_of, line_at, half_of, leave, first_stop, last_stop, stop_pieces, reaction_title_line, falls_line, step_pieces_at, steps_line, frame_line, input_line}
+use Rattle.cl_draw.specs.ChainLines.{output_line, length_line, words_left, words_right, words_place, words_line, inside_lines, open_lines, none_line, outside_line, is_whole_inside, reaction_lines, shown_lines, chain_lines}
 use Rattle.cl_draw.specs.Reactions.{no_stop, stop_at_group, IsShown, IsShownOf, IsReactionOf}
 use Rattle.cl_draw.proofs.SmallNumbers.{IsHeight, height_digits, row_height_is, task_short, job_below}
 

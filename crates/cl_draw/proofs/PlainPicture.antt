@@ -35,7 +35,8 @@ use Rattle.cl_draw.specs.MarkLines.{wait_pieces, arrival_pieces, due_pieces, has
 use Rattle.cl_draw.specs.RowLines.{finish_piece, rest_pieces, words_pieces, bar_head, bar_line, row_lines}
 use Rattle.cl_draw.specs.Rows.{row_at}
 use Rattle.cl_draw.specs.Reactions.{reaction_at}
-use Rattle.cl_draw.specs.ChainLines.{stop_pieces, title_head, reaction_title_line, steps_head, step_pieces_at, steps_line, frame_line, words_left, words_right, words_place, words_rest, words_line, input_line, output_line, length_line, inside_lines, first_stop, last_stop, is_whole_inside, outside_line, shown_lines, open_lines, chain_lines}
+use Rattle.cl_draw.specs.ChainLines.{stop_pieces, title_head, reaction_title_line, steps_head, step_pieces_at, steps_line, frame_line, words_left, words_right, words_place, words_rest}
+use Rattle.cl_draw.specs.ChainLines.{words_line, input_line, output_line, length_line, inside_lines, first_stop, last_stop, is_whole_inside, outside_line, shown_lines, open_lines, chain_lines}
 use Rattle.cl_draw.proofs.NamesOf.{of_core, of_task, of_chain, of_runnable}
 use Rattle.cl_draw.specs.Picture.{core_head, chains_head, heads, task_name, chain_name, by_core, by_cores, names, task_elements, look_of, chain_elements, picture}
 
@@ -122,7 +123,7 @@ module _ (model : SystemModel) (named : AreNamed model) where
       (
         line_plain (codes "<path class=\"a\" d=\"") (codes "\"/>") (due_pieces window) marks.dues (λ due. tt),
         lines-flat_map (label_at window marks.arrivals) (range_with_len 0 (length marks.arrivals))
-        (λ k. choose LinesPlain (has_room window marks.arrivals k) (arrival_label_line window (arrival_at marks.arrivals k) ∷ []) [] (λ is. (tt, tt)) (λ not. tt)),
+            (λ k. choose LinesPlain (has_room window marks.arrivals k) (arrival_label_line window (arrival_at marks.arrivals k) ∷ []) [] (λ is. (tt, tt)) (λ not. tt)),
       ),
     ),
   )
