@@ -1,5 +1,5 @@
 -- The rows of a run, and the reactions that are shown of it, are unique.
-use Rattle.std.proofs.Common.{◌≡◌, ◌≢◌, ℕ, zero, suc, ◌<◌, ◌-◌, Option, Some, None, List, [], ◌∷◌, length, get_or, map, refl, sym, ap, subst, ◌∙◌, arith}
+use Rattle.std.proofs.Common.{◌≡◌, ℕ, suc, ◌<◌, ◌-◌, Option, Some, None, List, [], ◌∷◌, length, map, refl, sym, ap, subst, ◌∙◌, arith}
 use Rattle.std.specs.Prelude.{slice_get, slice_index}
 use Rattle.std.proofs.lemmas.List.{ext_get_or}
 use Rattle.cl_model.specs.declared.model.SystemModel.{SystemModel}
@@ -19,7 +19,6 @@ use Rattle.cl_runs.proofs.OrderedMoments.{run_unique}
 use Rattle.cl_runs.proofs.MeasuredOnce.{measured_once}
 use Rattle.cl_check.specs.JobMoments.{IsMomentOf}
 use Rattle.cl_picture.specs.declared.window.Window.{Window}
-use Rattle.cl_picture.specs.declared.item.Bar.{Bar}
 use Rattle.cl_picture.specs.Bars.{bars}
 use Rattle.cl_draw.specs.declared.parts.Part.{Part}
 use Rattle.cl_draw.specs.declared.rows.Row.{Row}

@@ -129,19 +129,19 @@ module _ (model : SystemModel) (run : Run) (task : ℕ) (of : IsTaskRun model ru
       with_next : HasFurther sys run task from end
       with_next = elim (cases_eq next.job cursor.job) [
         | inl same ↦ record {
-            work = record { parts = all_parts_by; finishes = work.finishes };
-            cursor = next;
-            to = part_to;
-            further = further_in_job model run task of work cursor next from part_to end at_from cut in_table within runs ends stands_then is_on.finishes is_on.cut
-                (record { parts = all_parts_by; finishes = work.finishes }) refl refl same;
-          }
+          work = record { parts = all_parts_by; finishes = work.finishes };
+          cursor = next;
+          to = part_to;
+          further = further_in_job model run task of work cursor next from part_to end at_from cut in_table within runs ends stands_then is_on.finishes is_on.cut
+              (record { parts = all_parts_by; finishes = work.finishes }) refl refl same;
+        }
         | inr other ↦ record {
-            work = record { parts = all_parts_by; finishes = work.finishes ++ part_to ∷ [] };
-            cursor = next;
-            to = part_to;
-            further = further_past_job model run task of work cursor next from part_to end at_from cut in_table within runs ends stands_then is_on.finishes is_on.cut
-                (record { parts = all_parts_by; finishes = work.finishes ++ part_to ∷ [] }) refl refl other;
-          }
+          work = record { parts = all_parts_by; finishes = work.finishes ++ part_to ∷ [] };
+          cursor = next;
+          to = part_to;
+          further = further_past_job model run task of work cursor next from part_to end at_from cut in_table within runs ends stands_then is_on.finishes is_on.cut
+              (record { parts = all_parts_by; finishes = work.finishes ++ part_to ∷ [] }) refl refl other;
+        }
       ]
 
     some_further : HasFurther sys run task from end

@@ -12,9 +12,9 @@ use Rattle.cl_model.proofs.GroupFacts.{groups_at_are, groups_at_some}
 use Rattle.cl_runs.specs.Legal.{IsLegal}
 use Rattle.cl_runs.specs.Run.{Run, jobs_of}
 use Rattle.cl_runs.specs.SystemOf.{system_of}
-use Rattle.cl_runs.specs.Chains.{JobChain, HasWritten, IsForwardChain, first_job}
+use Rattle.cl_runs.specs.Chains.{JobChain, IsForwardChain, first_job}
 use Rattle.cl_runs.specs.RunChains.{run_moments}
-use Rattle.cl_runs.specs.Measured.{Measured, IsMeasured, IsMeasuredBy}
+use Rattle.cl_runs.specs.Measured.{IsMeasuredBy}
 use Rattle.cl_chain.proofs.DecidedMoments.{Decided, lt_or_not}
 use Rattle.cl_chain.proofs.SomeMeasured.{run_measured}
 use Rattle.cl_picture.specs.declared.window.Window.{Window}
@@ -24,9 +24,9 @@ use Rattle.cl_draw.specs.declared.rows.Row.{Row}
 use Rattle.cl_draw.specs.declared.stops.Stop.{Stop}
 use Rattle.cl_draw.specs.declared.stops.Reaction.{Reaction}
 use Rattle.cl_draw.specs.Items.{part_item, bands}
-use Rattle.cl_draw.specs.Rows.{IsRowOf, no_row, row_at}
-use Rattle.cl_draw.specs.Reactions.{no_stop, IsStop, IsShown, IsShownOf, IsReactionOf}
-use Rattle.cl_draw.specs.Picture.{AreTaskRows, AreReactions, picture, window_between, IsPictureOf}
+use Rattle.cl_draw.specs.Rows.{IsRowOf, no_row}
+use Rattle.cl_draw.specs.Reactions.{no_stop, IsStop, IsShownOf, IsReactionOf}
+use Rattle.cl_draw.specs.Picture.{picture, window_between, IsPictureOf}
 use Rattle.cl_draw.specs.Inner.TaskRuns.{IsTaskRun}
 use Rattle.cl_draw.proofs.StopFacts.{reads_somewhere, is_stop}
 use Rattle.cl_draw.proofs.ReactionFacts.{written_at}

@@ -15,6 +15,7 @@ ghost use Rattle.cl_draw.specs.Inner.Drawings.{IsDrawing};
 use crate::chain_lines::{Look, put_chain};
 use crate::places::{Places, places_of};
 use crate::reactions::longest_reaction;
+use crate::room::room_of;
 use crate::row_lines::put_row;
 use crate::rows::{Row, rows_of};
 use crate::stops::Reaction;
@@ -39,8 +40,9 @@ struct Drawing {
 /// each job and a bar for what it executes, and a row for each chain with the run's longest reaction.
 ///
 /// The run is legal for the model. `NoMemory` comes where there is no memory for what is drawn or for the text; it
-/// leaves nothing. It takes a time proportional to the jobs and stretches of the run, and for each chain to those of
-/// its groups.
+/// leaves nothing. The room of the text is taken once, before any of it is written: for a run of at most 1,000,000,000
+/// ticks it is enough (`pictures_are_short`). It takes a time proportional to the jobs and stretches of the run, and for
+/// each chain to those of its groups.
 pub fn draw(
     alloc: Global,
     model: &ValidModel,
@@ -55,7 +57,8 @@ pub fn draw(
     ensures { IfOk result (IsPictureOf model.now run.now from to) }
 {
     let drawing = drawing_of(alloc, model, run, Window { from, to })?;
-    let mut text = Text::new(alloc);
+    let room = room_of(model, drawing.rows.as_slice());
+    let mut text = Text::with_room(alloc, room)?;
     put_picture(alloc, &mut text, model, run, &drawing)?;
     Ok(text)
 }

@@ -20,6 +20,7 @@ mod reaction_lines;
 mod reaction_steps;
 mod reaction_words;
 mod reactions;
+mod room;
 mod row_lines;
 mod rows;
 mod spans;

@@ -1,7 +1,6 @@
 -- Each bar shows some items one after the other.
-use Rattle.std.proofs.Common.{◌≡◌, ℕ, zero, suc, ◌+◌, ◌<◌, ◌≤◌, Bool, true, if◌then◌else◌, inl, inr, Option, Some, None, List, [], ◌∷◌, ◌++◌, length, refl, sym, ap, subst, ◌∙◌, arith, append_assoc, length-append}
-use Rattle.std.specs.Prelude.{All, Any, filter, ◌==◌, max, slice_get, unwrap_or}
-use Rattle.std.specs.List.{flat_map}
+use Rattle.std.proofs.Common.{◌≡◌, ℕ, zero, suc, ◌≤◌, inl, inr, Option, Some, None, List, [], ◌∷◌, ◌++◌, refl, sym, ap, subst, ◌∙◌, arith, append_assoc, length-append}
+use Rattle.std.specs.Prelude.{Any, filter, ◌==◌, max, slice_get, unwrap_or}
 use Rattle.std.proofs.lemmas.Bool.{cases_lt, eqb-true}
 use Rattle.std.proofs.lemmas.List.{append-nil, get_or_append_left}
 use Rattle.std.proofs.lemmas.List.Elements.{All-nil, All-cons, All-append}
@@ -12,7 +11,7 @@ use Rattle.cl_picture.specs.declared.item.Bar.{Bar}
 use Rattle.cl_picture.specs.declared.item.End.{End}
 use Rattle.cl_picture.specs.Window.{high_of}
 use Rattle.cl_picture.specs.Bars.{counts, bar_of, joined_bar, bars_from, bars}
-use Rattle.cl_picture.specs.Shown.{end_of, last_end, IsBarOf, Group, items_of, AreBarsOf}
+use Rattle.cl_picture.specs.Shown.{end_of, last_end, IsBarOf, Group, AreBarsOf}
 use Rattle.cl_picture.proofs.BarSides.{choose, weaker}
 
 last_end-push : (items : List Item) (item : Item) → last_end (items ++ item ∷ []) ≡ Some (end_of item)

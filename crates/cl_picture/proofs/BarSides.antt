@@ -1,6 +1,6 @@
 -- Bars lie side by side, and items lie under them.
-use Rattle.std.proofs.Common.{◌≡◌, ◌≢◌, ℕ, zero, suc, ◌+◌, ◌<◌, ◌≤◌, Bool, true, false, if◌then◌else◌, inl, inr, Option, Some, None, List, [], ◌∷◌, length, refl, sym, arith}
-use Rattle.std.specs.Prelude.{All, AllPairs, Contains, filter, ◌==◌, max}
+use Rattle.std.proofs.Common.{◌≡◌, ◌≢◌, ℕ, suc, ◌+◌, ◌<◌, ◌≤◌, Bool, true, false, if◌then◌else◌, inl, inr, Some, None, List, [], ◌∷◌, refl, sym, arith}
+use Rattle.std.specs.Prelude.{All, AllPairs, filter, ◌==◌}
 use Rattle.std.proofs.lemmas.Bool.{cases_lt, eqb-true, eqb-false}
 use Rattle.std.proofs.lemmas.List.Elements.{All-nil, All-cons, All-head, All-tail, All-filter, filter_passes, Contains-append_right}
 use Rattle.std.proofs.lemmas.List.Kept.{AllPairs-cons, AllPairs-filter}
@@ -10,7 +10,7 @@ use Rattle.cl_picture.specs.declared.item.Bar.{Bar}
 use Rattle.cl_picture.specs.Window.{low_of, high_of}
 use Rattle.cl_picture.specs.Bars.{counts, bar_of, joined_bar, bars_from, bars}
 use Rattle.cl_picture.specs.Shown.{HaveTicks, EndInOrder, FollowEachOther, LieSideBySide, IsUnder}
-use Rattle.cl_picture.proofs.Units.{low_mono, high_mono, high_near, low_least, high_most, high_apart, unit_wide}
+use Rattle.cl_picture.proofs.Units.{low_mono, high_near, low_least, high_most, high_apart, unit_wide}
 
 -- what is so of either choice is so of the one that is made
 pub choose : {X : Type 0} (P : X → Type 0) (b : Bool) (x y : X) → (b ≡ true → P x) → (b ≡ false → P y) → P (if b then x else y)

@@ -1,7 +1,7 @@
 -- How long the axis of a picture and what frames it are as text.
-use Rattle.std.proofs.Common.{◌≡◌, ℕ, ◌+◌, ◌-◌, ◌*◌, ◌/◌, ◌^◌, ◌<◌, ◌≤◌, Bool, true, false, if◌then◌else◌, inl, inr, Option, Some, None, List, [], ◌∷◌, ◌++◌, length, get_or, map, refl, sym, ap, subst, arith}
-use Rattle.std.specs.Prelude.{All, codes, nat_le, unwrap_or}
-use Rattle.std.specs.List.{find, flat_map, list_all, range_with_len}
+use Rattle.std.proofs.Common.{◌≡◌, ℕ, ◌+◌, ◌-◌, ◌*◌, ◌/◌, ◌<◌, ◌≤◌, true, inl, inr, Option, Some, None, List, [], ◌∷◌, refl, arith}
+use Rattle.std.specs.Prelude.{All, nat_le, unwrap_or}
+use Rattle.std.specs.List.{find, range_with_len}
 use Rattle.std.proofs.lemmas.Bool.{cases_lt}
 use Rattle.std.proofs.lemmas.Bool.Decides.{nat_tests}
 use Rattle.std.proofs.lemmas.List.Elements.{All-head, All-tail}
@@ -9,16 +9,14 @@ use Rattle.std.proofs.lemmas.List.Sums.{AllPass-from_list_all}
 use Rattle.std.proofs.lemmas.List.FromFn.{length-range_with_len, get_or-range_with_len}
 use Rattle.std.proofs.Math.Nat.{mul-le-mul_left}
 use Rattle.cl_picture.specs.declared.axis.TheConstants.{STEPS}
-use Rattle.cl_picture.specs.declared.frame.TheConstants.{STYLE, LEGEND}
 use Rattle.cl_picture.specs.declared.window.TheConstants.{MOST_WINDOW}
 use Rattle.cl_picture.specs.declared.window.Window.{Window}
-use Rattle.cl_picture.specs.Axis.{is_step, axis_step, window_step, first_tick, tick_count, tick_at, tick_pieces, tick_line, tick_lines, axis_line, axis}
+use Rattle.cl_picture.specs.Axis.{is_step, axis_step, window_step, tick_count, tick_at, tick_pieces, tick_line, axis}
 use Rattle.cl_picture.specs.Frame.{begin, end}
-use Rattle.cl_picture.specs.Pieces.{Piece, Fixed}
 use Rattle.cl_picture.specs.Window.{IsPictureWindow, span, x_of}
 use Rattle.cl_picture.proofs.BarSides.{choose}
 use Rattle.cl_picture.proofs.Lengths.{x_most}
-use Rattle.cl_picture.proofs.TextLengths.{IsWithin, AreWithin, HasDigits, digits, none, wider, fixed, number, both, each_of, no_lines, wider_lines, a_line, both_lines, lines_of}
+use Rattle.cl_picture.proofs.TextLengths.{IsWithin, AreWithin, HasDigits, digits, none, fixed, number, both, each_of, no_lines, wider_lines, a_line, lines_of}
 
 -- ---- the step of an axis
 

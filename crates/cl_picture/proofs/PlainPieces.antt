@@ -1,15 +1,15 @@
 -- Elements whose names are plain are plain.
-use Rattle.std.proofs.Common.{◌≡◌, ℕ, zero, suc, ◌+◌, ◌/◌, ◌%◌, ◌<◌, ◌≤◌, Bool, true, false, if◌then◌else◌, List, [], ◌∷◌, ◌++◌, length, map, refl, arith}
+use Rattle.std.proofs.Common.{◌≡◌, ℕ, zero, suc, ◌+◌, ◌/◌, ◌%◌, ◌<◌, false, List, [], ◌∷◌, ◌++◌, map, arith}
 use Rattle.std.specs.Prelude.{All, codes, nat_lt, ◌==◌, decimal}
 use Rattle.std.specs.List.{flat_map, range_with_len}
 use Rattle.std.specs.Fmt.{digits, digits_onto, digit_glyph}
 use Rattle.std.proofs.lemmas.Bool.{lt-ltb}
 use Rattle.std.proofs.lemmas.Bool.Decides.{nat_tests}
-use Rattle.std.proofs.lemmas.List.Elements.{All-nil, All-cons, All-head, All-tail}
+use Rattle.std.proofs.lemmas.List.Elements.{All-nil, All-cons}
 use Rattle.cl_picture.specs.declared.window.Window.{Window}
 use Rattle.cl_picture.specs.Pieces.{Piece, Fixed, Number, Name, Element}
 use Rattle.cl_picture.specs.Plain.{is_format_byte, IsPlainText, IsPlainPiece, ArePlain}
-use Rattle.cl_picture.specs.Axis.{tick_at, tick_count, tick_pieces, axis_line, tick_line, tick_lines, axis}
+use Rattle.cl_picture.specs.Axis.{tick_at, tick_count, tick_pieces, tick_line, axis}
 use Rattle.cl_picture.specs.Frame.{begin, end}
 use Rattle.cl_picture.proofs.BarSides.{choose}
 

@@ -1,4 +1,4 @@
-use Rattle.std.proofs.Common.{◌≡◌, ℕ, ◌++◌, ap, ◌∙◌, arith, map}
+use Rattle.std.proofs.Common.{◌≡◌, ◌++◌, ap, ◌∙◌, arith, map}
 use Rattle.std.specs.List.{range_with_len}
 use Rattle.cl_picture.specs.Pieces.{print}
 use Rattle.std.proofs.Common.{[], ◌∷◌}
