@@ -1,5 +1,5 @@
 -- What the reading of a trace gives: a legal run, or the outcome that stands in the place of what comes of one.
-use Rattle.std.specs.Prelude.{ℕ, List}
+use Rattle.std.specs.Prelude.{◌≡◌, ℕ, List}
 use Rattle.cl_model.specs.declared.model.SystemModel.{SystemModel}
 use Rattle.cl_runs.specs.Legal.{IsLegal}
 use Rattle.cl_runs.specs.Run.{Run}
@@ -16,7 +16,7 @@ NothingOf run found = ⊥
 
 -- the run is legal, or stops the command with this outcome
 abbrev pub IsCheckedAs : SystemModel → Run → LegalRun → Type 0
-IsCheckedAs model run (legal_run.Legal legal) = (legal ≡ run) × IsLegal (system_of model) run
+IsCheckedAs model run (legal_run.Legal legal) = (legal ≡ run) × IsLegal (system_of model) legal
 IsCheckedAs model run (legal_run.Stopped found) = IsOfRun model NothingOf run found
 
 -- the text is the trace of this legal run, or stops the command with this outcome

@@ -36,12 +36,12 @@ pub fn outcomes_say_the_same()
         → HasOutcome (command_of words) gave other → SaysTheSame (command_of words) one other }
 {}
 
-/// A run has one answer: its replay, or its picture from one tick to another or the refusal of that window; or the first
-/// rule that it breaks.
+/// A run has one answer to each command on it: its replay, or its picture from one tick to another or the refusal of that
+/// window; or the first rule that it breaks.
 pub fn runs_are_answered_in_one_way()
     ensures replayed { (model : SystemModel) (run : Run) (one other : Outcome) → IsOfRun model (IsReplayed model) run one
         → IsOfRun model (IsReplayed model) run other → one ≡ other }
-    ensures drawn { (model : SystemModel) (run : Run) (from to : ℕ) (one other : Outcome) → IsOfRun model (IsDrawn from to model) run one
+    ensures drawn { (model : SystemModel) → IsValid model → (run : Run) (from to : ℕ) (one other : Outcome) → IsOfRun model (IsDrawn from to model) run one
         → IsOfRun model (IsDrawn from to model) run other → one ≡ other }
 {}
 
