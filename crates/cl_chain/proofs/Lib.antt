@@ -8,3 +8,7 @@ pub mod BackwardFacts
 pub mod RowFacts
 pub mod MeasuredFacts
 pub mod RunTables
+pub mod DecidedMoments
+pub mod ChainsByJob
+pub mod LinkedJobs
+pub mod SomeMeasured

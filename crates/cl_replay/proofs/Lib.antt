@@ -2,8 +2,4 @@ pub mod MeasuredChains
 pub mod OneReplay
 pub mod SafeMargins
 pub mod ChainLines
-pub mod DecidedMoments
-pub mod ChainsByJob
-pub mod LinkedJobs
-pub mod SomeMeasured
 pub mod SomeReplay

@@ -12,8 +12,8 @@ use Rattle.cl_runs.specs.SystemOf.{system_of}
 use Rattle.cl_runs.specs.Measured.{Measured, IsMeasured}
 use Rattle.cl_analyse.proofs.SomeFindings.{some_findings}
 use Rattle.cl_replay.specs.Replay.{nothing_measured, AreMeasured, IsReplayOf, replay_text}
-use Rattle.cl_replay.proofs.DecidedMoments.{Decided, lt_or_not}
-use Rattle.cl_replay.proofs.SomeMeasured.{run_measured}
+use Rattle.cl_chain.proofs.DecidedMoments.{Decided, lt_or_not}
+use Rattle.cl_chain.proofs.SomeMeasured.{run_measured}
 
 module _ (model : SystemModel) (valid : IsValid model) (run : Run) where
   measured_of : (chain : ℕ) → Decided (0 < length (groups_at model chain)) → Measured

@@ -6,7 +6,7 @@ use Rattle.cl_model.specs.declared.group.Group.{Group}
 use Rattle.cl_model.specs.Groups.{group_at}
 use Rattle.cl_runs.specs.Chains.{Moments, HasWritten, IsEarliestReader, IsLatestWriter}
 use Rattle.cl_runs.proofs.FirstBelow.{IsFirst, both_or_not, first_or_none}
-use Rattle.cl_replay.proofs.DecidedMoments.{Decided, lt_or_not}
+use Rattle.cl_chain.proofs.DecidedMoments.{Decided, lt_or_not}
 
 -- the last number below a bound of which something holds
 record IsLast (P : ℕ → Type 0) (n m : ℕ) : Type 0 where

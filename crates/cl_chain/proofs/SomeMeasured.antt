@@ -15,9 +15,9 @@ use Rattle.cl_runs.specs.RunChains.{run_moments}
 use Rattle.cl_runs.proofs.ChainsUnique.{forward_once, age_once, reduced_once}
 use Rattle.cl_runs.proofs.FirstBelow.{both_or_not}
 use Rattle.cl_runs.proofs.MomentFacts.{reads_once, writes_once}
-use Rattle.cl_replay.proofs.ChainsByJob.{HasChain, some_count, some_measured}
-use Rattle.cl_replay.proofs.DecidedMoments.{Decided, some_read, some_write}
-use Rattle.cl_replay.proofs.LinkedJobs.{AreDecided, HasForward, forward_or_not, HasBackward, backward_or_not, backward_once}
+use Rattle.cl_chain.proofs.ChainsByJob.{HasChain, some_count, some_measured}
+use Rattle.cl_chain.proofs.DecidedMoments.{Decided, some_read, some_write}
+use Rattle.cl_chain.proofs.LinkedJobs.{AreDecided, HasForward, forward_or_not, HasBackward, backward_or_not, backward_once}
 
 module _ (moments : Moments) (bound : ℕ) (are : AreDecided moments bound) (groups : List Group) (some : 0 < length groups) where
   unique : AreUnique moments groups

@@ -9,7 +9,7 @@ use Rattle.std.proofs.Math.Seq.{get_or-append_seam}
 use Rattle.std.proofs.lemmas.List.Elements.{All-nil, All-cons, All-append, Contains-append_left, Contains-append_right}
 use Rattle.cl_runs.specs.Chains.{JobChain, chain_length}
 use Rattle.cl_runs.specs.Measured.{IsLongest, IsMeasuredBy, IsCountOf}
-use Rattle.cl_replay.proofs.DecidedMoments.{Decided}
+use Rattle.cl_chain.proofs.DecidedMoments.{Decided}
 
 module _ (IsChain : JobChain → Type 0) (job_of : JobChain → ℕ) where
   -- a chain of a job
