@@ -5,6 +5,7 @@ mod axis;
 mod bars;
 mod frame;
 mod item;
+pub mod laws;
 mod pieces;
 mod window;
 
