@@ -14,3 +14,8 @@ pub mod ReactionFacts
 pub mod DrawnFacts
 pub mod HeadFacts
 pub mod PictureFacts
+pub mod OneParts
+pub mod OneRow
+pub mod OnePicture
+pub mod SomeParts
+pub mod SomePicture

@@ -11,6 +11,7 @@ mod cursor;
 mod drawing;
 mod items;
 mod keeping;
+pub mod laws;
 mod mark_lines;
 mod marks;
 mod parts;

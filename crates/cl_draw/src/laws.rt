@@ -1,0 +1,2 @@
+//! What is known of pictures, whatever the code does.
+pub mod pictures;
