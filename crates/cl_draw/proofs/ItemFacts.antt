@@ -24,7 +24,7 @@ use Rattle.cl_picture.specs.Window.{IsPictureWindow}
 use Rattle.cl_draw.specs.Parts.{due_at}
 use Rattle.cl_draw.specs.Inner.TaskRuns.{IsTaskRun, passing}
 
-least_few : (kind : StimulusKind) → IsKindInRange kind → least_distance kind ≤ MOST_TICKS
+pub least_few : (kind : StimulusKind) → IsKindInRange kind → least_distance kind ≤ MOST_TICKS
 least_few (Periodic period offset jitter) in_range = in_range.0.1
 least_few (Sporadic least greatest) in_range = in_range.0.1
 least_few (Burst period offset count distance) in_range = in_range.3.1

@@ -19,3 +19,12 @@ pub mod OneRow
 pub mod OnePicture
 pub mod SomeParts
 pub mod SomePicture
+pub mod RowSides
+pub mod HoverFacts
+pub mod PlainPicture
+pub mod SmallNumbers
+pub mod MarkLengths
+pub mod BarLengths
+pub mod ChainLengths
+pub mod TaskSums
+pub mod PictureLength

@@ -4,8 +4,10 @@ pub mod Rows
 pub mod Marks
 pub mod MarkLines
 pub mod RowLines
+pub mod Hovers
 pub mod Places
 pub mod Reactions
 pub mod ChainLines
 pub mod Picture
+pub mod Lengths
 pub mod Inner

@@ -1,0 +1,66 @@
+//! Where the bars of a row lie, and what they show.
+ghost use Rattle.std.specs.Prelude.{◌≡◌, ◌+◌, ℕ, ◌<◌, ◌≤◌, ◌++◌, [], ◌∷◌, List, Some, codes, filter, length, map};
+ghost use Rattle.cl_model.specs.declared.model.SystemModel.{SystemModel};
+ghost use Rattle.cl_model.specs.declared.task.TaskDef.{TaskDef};
+ghost use Rattle.cl_model.specs.ByNumber.{deadline_of, task_at};
+ghost use Rattle.cl_model.specs.Validity.{IsValid};
+ghost use Rattle.cl_picture.specs.declared.item.Bar.{Bar};
+ghost use Rattle.cl_picture.specs.declared.item.Item.{Item};
+ghost use Rattle.cl_picture.specs.declared.window.Window.{Window};
+ghost use Rattle.cl_picture.specs.Bars.{counts};
+ghost use Rattle.cl_picture.specs.Pieces.{Fixed};
+ghost use Rattle.cl_picture.specs.Shown.{AreBarsOf, IsBarOf, IsUnder, LieSideBySide};
+ghost use Rattle.cl_picture.specs.Window.{high_of, low_of};
+ghost use Rattle.cl_runs.specs.Legal.{IsLegal};
+ghost use Rattle.cl_runs.specs.Run.{Run, entry_at, jobs_of};
+ghost use Rattle.cl_runs.specs.SystemOf.{system_of};
+ghost use Rattle.cl_runs.specs.TaskTiming.{timing_at};
+ghost use Rattle.cl_draw.specs.declared.rows.Row.{Row};
+ghost use Rattle.cl_draw.specs.Hovers.{bar_shape, hover_pieces};
+ghost use Rattle.cl_draw.specs.Items.{bands, part_item};
+ghost use Rattle.cl_draw.specs.Picture.{window_between};
+ghost use Rattle.cl_draw.specs.RowLines.{bar_line};
+ghost use Rattle.cl_draw.specs.Rows.{IsRowOf};
+
+/// The bars of the bands of a row lie side by side, and so do those of its parts: none overlaps another, each is a whole
+/// unit wide or more, and all lie within the row.
+pub fn bars_of_a_row_lie_side_by_side()
+    ensures bands { (model : SystemModel) → IsValid model → (run : Run) → IsLegal (system_of model) run → (from to : ℕ) → from < to
+        → to ≤ run.table.ticks → (task : ℕ) → task < length model.tasks → (row : Row)
+        → IsRowOf model run (window_between from to) task row → LieSideBySide row.bands }
+    ensures parts { (model : SystemModel) → IsValid model → (run : Run) → IsLegal (system_of model) run → (from to : ℕ) → from < to
+        → to ≤ run.table.ticks → (task : ℕ) → task < length model.tasks → (row : Row)
+        → IsRowOf model run (window_between from to) task row → LieSideBySide row.parts }
+{}
+
+/// Each tick of the window in which a task runs lies under the bars of its parts: each place from the unit at or before the
+/// tick up to the one at or after its end.
+pub fn ticks_lie_under_bars()
+    ensures { (model : SystemModel) → IsValid model → (run : Run) → IsLegal (system_of model) run → (from to : ℕ) → from < to
+        → to ≤ run.table.ticks → (task : ℕ) → task < length model.tasks → (row : Row)
+        → IsRowOf model run (window_between from to) task row → (tick : ℕ) → from ≤ tick → tick < to
+        → entry_at run (timing_at (system_of model) task).core tick ≡ Some task
+        → (place : ℕ) → low_of (window_between from to) tick ≤ place → place < high_of (window_between from to) (tick + 1)
+        → IsUnder row.parts place }
+{}
+
+/// The bars of a row show, in order and each of them once, the bands that share a tick with the window, and the parts that
+/// do.
+pub fn rows_show_each_item()
+    ensures bands { (model : SystemModel) (run : Run) (window : Window) (task : ℕ) (row : Row) (is : IsRowOf model run window task row)
+        → AreBarsOf window
+        (filter (counts window) (bands (jobs_of run task) (deadline_of model task) is.finishes run.table.ticks)) row.bands }
+    ensures parts { (model : SystemModel) (run : Run) (window : Window) (task : ℕ) (row : Row) (is : IsRowOf model run window task row)
+        → AreBarsOf window
+        (filter (counts window) (map (part_item (jobs_of run task) (deadline_of model task) (task_at model task).runnables) is.parts))
+        row.parts }
+{}
+
+/// A bar that shows one item says its name and all else of it; one that shows several says the names of the first and the
+/// last of them, from when on the first lasts, and until when the last does.
+pub fn bars_name_their_first_and_last_item()
+    ensures { (window : Window) (opening : List ℕ) (task : TaskDef) (first : Item) (others : List Item) (bar : Bar)
+        → IsBarOf window first others bar
+        → bar_line opening task bar
+        ≡ bar_shape opening bar ++ hover_pieces task first others ++ Fixed (codes "</title></rect>") ∷ [] }
+{}
