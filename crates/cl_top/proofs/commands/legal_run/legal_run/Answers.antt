@@ -6,7 +6,7 @@ use Rattle.cl_top.proofs.OfTrace.{checked_traced}
 use Rattle.cl_top.proofs.commands.legal_run.legal_run.Goals as goal
 
 pub returns-in-Ok : goal.returns-in-Ok
-returns-in-Ok c = IfOk-weaker c.checked_run.result _ _ (λ given is. checked_traced c.args.model.now c.args.text.now c.in-Ok.run ? given is) c.checked_run.ensures
+returns-in-Ok c = IfOk-weaker c.checked_run.result _ _ (λ given is. checked_traced c.args.model.now c.args.text.now c.in-Ok.run c.in-Ok.ensures.run given is) c.checked_run.ensures
 
 pub returns-in_ok-refused : goal.returns-in_ok-refused
 returns-in_ok-refused c = inr (record {
