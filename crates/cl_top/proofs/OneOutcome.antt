@@ -1,5 +1,5 @@
 -- Each command whose files were all fetched has an outcome, and outcomes of the same words say the same.
-use Rattle.std.proofs.Common.{◌≡◌, ℕ, ◌≤◌, List, Option, Some, None, Result, Ok, Err, inl, inr, ◌⊎◌, refl, sym, ap, ◌∙◌, subst}
+use Rattle.std.proofs.Common.{◌≡◌, ℕ, ◌≤◌, List, Option, Some, None, Result, Ok, Err, inl, inr, refl, sym, ◌∙◌}
 use Rattle.cl_model.specs.declared.model.SystemModel.{SystemModel}
 use Rattle.cl_model.specs.AreNamed.{AreNamed}
 use Rattle.cl_model.specs.declared.refusal.Refusal.{Refusal}

@@ -1,6 +1,6 @@
 use Rattle.std.proofs.Common.{ap, ◌∙◌, inr}
 use Rattle.std.proofs.lemmas.Result.{IfOk-weaker}
-use Rattle.std.specs.Prelude.{Ok, Err}
+use Rattle.std.specs.Prelude.{Err}
 use Rattle.cl_top.specs.OfTrace.{trace_refused}
 use Rattle.cl_top.proofs.OfTrace.{checked_traced}
 use Rattle.cl_top.proofs.commands.legal_run.legal_run.Goals as goal
