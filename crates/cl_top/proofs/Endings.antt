@@ -9,8 +9,9 @@ use Rattle.cl_top.specs.declared.status.TheConstants.{WORDS_REFUSED, READ_FAULT,
 use Rattle.cl_top.specs.Calls.{ShelfCall, SinkCall}
 use Rattle.cl_top.specs.Command.{command_of}
 use Rattle.cl_top.specs.Commands.Apply.{IsOfApply}
+use Rattle.cl_top.specs.Commands.Draw.{IsOfDraw}
 use Rattle.cl_top.specs.Commands.Edit.{IsOfEdits}
-use Rattle.cl_top.specs.Commands.Replay.{IsOfTrace}
+use Rattle.cl_top.specs.Commands.Replay.{IsOfReplay}
 use Rattle.cl_top.specs.Commands.Simulate.{IsSimulated}
 use Rattle.cl_top.specs.Files.{FileRose, FileTooLong, NoneAfter}
 use Rattle.cl_top.specs.OfModel.{IsAnswer}
@@ -19,6 +20,7 @@ use Rattle.cl_top.specs.Run.{ComesAs, ComesTo, IsWhole, IsCutShort, WritesOfFile
 use Rattle.cl_top.proofs.Comings.{Cause, NoCommand, OfFault, OfLength, OfRefusal, OfContent, IsOfContent, comes_as}
 use Rattle.cl_top.proofs.Checks.{check_cause}
 use Rattle.cl_top.proofs.OfApply.{of_apply}
+use Rattle.cl_top.proofs.OfDraw.{of_draw}
 use Rattle.cl_top.proofs.OfEdit.{of_edit}
 use Rattle.cl_top.proofs.OfReplay.{of_replay}
 use Rattle.cl_top.proofs.OneFile.{model_cause, of_answer, of_simulate}
@@ -39,7 +41,8 @@ module _ (words : List (List ℕ)) (shelf : ShelfCall) where
   cause (Some (command.OfModel asked)) found comes = model_cause (command.OfModel asked) (IsAnswer asked) (of_answer asked) words shelf found comes
   cause (Some (command.Simulate ticks seed)) found comes =
       model_cause (command.Simulate ticks seed) (IsSimulated ticks seed) (of_simulate ticks seed) words shelf found comes
-  cause (Some command.Replay) found comes = two_cause command.Replay TRACE_LIMIT IsOfTrace of_replay words shelf found comes
+  cause (Some command.Replay) found comes = two_cause command.Replay TRACE_LIMIT IsOfReplay of_replay words shelf found comes
+  cause (Some (command.Draw from to)) found comes = two_cause (command.Draw from to) TRACE_LIMIT (IsOfDraw from to) (of_draw from to) words shelf found comes
   cause (Some command.Edit) found comes = two_cause command.Edit FILE_LIMIT IsOfEdits of_edit words shelf found comes
   cause (Some command.Apply) found comes = two_cause command.Apply FILE_LIMIT IsOfApply of_apply words shelf found comes
   cause (Some (command.Generate seed tasks)) found comes = OfContent (inl comes.follows.status_is)

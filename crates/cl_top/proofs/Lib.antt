@@ -15,7 +15,9 @@ pub mod Starts
 pub mod AnalysedAlike
 pub mod TwoCalls
 pub mod TwoFiles
+pub mod OfTrace
 pub mod OfReplay
+pub mod OfDraw
 pub mod OfEdit
 pub mod OfApply
 pub mod Applied
@@ -23,7 +25,8 @@ pub mod LinesLeft
 pub mod EditsOnce
 pub mod EditSteps
 pub mod ReportLines
-pub mod ReplaysOfRuns
+pub mod AnswersOfRuns
+pub mod TracesOnce
 pub mod Numbers
 pub mod Verbs
 pub mod Simulations

@@ -1,5 +1,5 @@
 -- Each command whose files were all fetched has an outcome, and outcomes of the same words say the same.
-use Rattle.std.proofs.Common.{◌≡◌, ℕ, ◌≤◌, List, Option, Some, None, Result, Ok, Err, inl, inr, ◌⊎◌, refl, sym, ap, ◌∙◌, subst}
+use Rattle.std.proofs.Common.{◌≡◌, ℕ, ◌≤◌, List, Option, Some, None, Result, Ok, Err, inl, inr, refl, sym, ◌∙◌}
 use Rattle.cl_model.specs.declared.model.SystemModel.{SystemModel}
 use Rattle.cl_model.specs.AreNamed.{AreNamed}
 use Rattle.cl_model.specs.declared.refusal.Refusal.{Refusal}
@@ -14,15 +14,6 @@ use Rattle.cl_gen.specs.Words.{word_of}
 use Rattle.cl_gen.specs.Generated.{generated}
 use Rattle.cl_gen.proofs.GeneratedRanges.{are_named}
 use Rattle.cl_gen.proofs.ValidGenerated.{words_valid}
-use Rattle.cl_runs.specs.Legal.{IsLegal}
-use Rattle.cl_runs.specs.Run.{Run}
-use Rattle.cl_runs.specs.SystemOf.{system_of}
-use Rattle.cl_runs.proofs.ModelSystem.{system_sound}
-use Rattle.cl_replay.proofs.SomeReplay.{some_replay}
-use Rattle.cl_trace.specs.Rules.{IsTraceOf}
-use Rattle.cl_trace.proofs.OneReading.{bad_once}
-use Rattle.cl_trace.proofs.OneTrace.{one_run, no_bad_line}
-use Rattle.cl_trace.proofs.SomeAnswer.{HasAnswer, some_answer}
 use Rattle.cl_write.specs.Texts.{IsTextOf}
 use Rattle.cl_write.proofs.SomeTexts.{some_text}
 use Rattle.cl_top.specs.declared.command.Command.{Command}
@@ -32,9 +23,10 @@ use Rattle.cl_top.specs.declared.outcome.Outcome.{Outcome}
 use Rattle.cl_top.specs.declared.status.TheConstants.{DONE}
 use Rattle.cl_top.specs.Command.{File, model_file, command_of}
 use Rattle.cl_top.specs.Commands.Apply.{IsOfApply}
+use Rattle.cl_top.specs.Commands.Draw.{IsOfDraw}
 use Rattle.cl_top.specs.Commands.Edit.{IsOfEdits}
 use Rattle.cl_top.specs.Commands.Help.{help_text, version_text}
-use Rattle.cl_top.specs.Commands.Replay.{trace_refused, trace_illegal, IsOfRun, IsOfTrace}
+use Rattle.cl_top.specs.Commands.Replay.{IsOfReplay}
 use Rattle.cl_top.specs.Commands.Simulate.{IsSimulated}
 use Rattle.cl_top.specs.Done.{IsDone}
 use Rattle.cl_top.specs.Files.{Fetched, Unasked, Bytes, Fault, TooLong, EachFile, WasFetched}
@@ -44,14 +36,14 @@ use Rattle.cl_top.proofs.Applied.{some_applied, applied_alike}
 use Rattle.cl_top.proofs.CheckedOnce.{check_some, check_same}
 use Rattle.cl_top.proofs.EditsOnce.{some_edits, one_edited}
 use Rattle.cl_top.proofs.Generations.{asks_for_few}
-use Rattle.cl_top.proofs.LegalOrBroken.{IsBroken, legal_or_broken}
 use Rattle.cl_top.proofs.OfApply.{of_apply}
+use Rattle.cl_top.proofs.OfDraw.{of_draw}
 use Rattle.cl_top.proofs.OfEdit.{of_edit}
 use Rattle.cl_top.proofs.ModelAnswers.{HasAnswers, has_answers, done_some, done_once}
 use Rattle.cl_top.proofs.OfReplay.{of_replay}
 use Rattle.cl_top.proofs.Openings.{valid_read}
-use Rattle.cl_top.proofs.ReplaysOfRuns.{of_run_once}
 use Rattle.cl_top.proofs.Simulations.{simulated_some, simulated_once}
+use Rattle.cl_top.proofs.TracesOnce.{replay_some, replay_once, draw_some, draw_once}
 use Rattle.cl_top.proofs.TwoFiles.{IsOfTwo, OfSecond, second_file, of_each}
 
 -- ---- there is an outcome
@@ -85,29 +77,6 @@ surveyed_some seed tasks few =
     let (findings, found) = some_findings (generated seed tasks) (words_valid (word_of seed) tasks few) in
     (record { status = DONE; text = survey_text findings }, record { status_is = refl; text_is = record { findings = findings; found = found; printed = refl } })
 
--- a run has a replay, or breaks a rule
-run_some : (model : SystemModel) → IsValid model → (text : List ℕ) (run : Run) → IsTraceOf model text run → SomeOutcome (IsOfTrace model text)
-run_some model valid text run trace = by_rule (legal_or_broken (system_of model) (system_sound model valid) run trace.in_form)
-  where
-    by_rule : IsLegal (system_of model) run ⊎ IsBroken (system_of model) run → SomeOutcome (IsOfTrace model text)
-    by_rule (inl legal) =
-        let replay = some_replay model valid run in (
-          record { status = DONE; text = replay.0 },
-          inl (record { run = run; trace = trace; of_run = inl (record { legal = legal; outcome = record { status_is = refl; text_is = replay.1 } }) }),
-        )
-    by_rule (inr broken) = (
-      trace_illegal model broken.0 broken.1 broken.2,
-      inl (record { run = run; trace = trace; of_run = inr (record { rule = broken.0; place = broken.1; tick = broken.2; broken = broken.3; printed = refl }) }),
-    )
-
--- a text is the trace of a run, or has a first bad line
-trace_some : (model : SystemModel) → IsValid model → AreNamed model → (text : List ℕ) → SomeOutcome (IsOfTrace model text)
-trace_some model valid named text = by_answer (some_answer model valid named text)
-  where
-    by_answer : HasAnswer model text → SomeOutcome (IsOfTrace model text)
-    by_answer (inl found) = run_some model valid text found.0 found.1
-    by_answer (inr bad) = (trace_refused bad.0, inr (record { number = bad.0; bad = bad.1; printed = refl }))
-
 -- the text of a second file has an outcome
 module _ (asked : Command) (limit : ℕ) (OfText : SystemModel → (text : List ℕ) → Outcome → Type 0) (of : IsOfTwo asked limit OfText)
     (some : (model : SystemModel) → IsValid model → AreNamed model → (text : List ℕ) → SomeOutcome (OfText model text)) where
@@ -132,7 +101,8 @@ has_outcome words (Some (command.OfModel asked)) is gave fetched =
     opened_some (IsAnswer asked) (λ bytes model means none. (has_answers asked).some bytes model means (valid_read bytes model means none)) 1 (gave (model_file 1)) fetched.0
 has_outcome words (Some (command.Simulate ticks seed)) is gave fetched =
     opened_some (IsSimulated ticks seed) (λ bytes model means none. simulated_some ticks seed model (valid_read bytes model means none)) 1 (gave (model_file 1)) fetched.0
-has_outcome words (Some command.Replay) is gave fetched = two_some command.Replay TRACE_LIMIT IsOfTrace of_replay trace_some gave fetched
+has_outcome words (Some command.Replay) is gave fetched = two_some command.Replay TRACE_LIMIT IsOfReplay of_replay replay_some gave fetched
+has_outcome words (Some (command.Draw from to)) is gave fetched = two_some (command.Draw from to) TRACE_LIMIT (IsOfDraw from to) (of_draw from to) (draw_some from to) gave fetched
 has_outcome words (Some command.Edit) is gave fetched = two_some command.Edit FILE_LIMIT IsOfEdits of_edit some_edits gave fetched
 has_outcome words (Some command.Apply) is gave fetched = two_some command.Apply FILE_LIMIT IsOfApply of_apply some_applied gave fetched
 has_outcome words (Some (command.Generate seed tasks)) is gave fetched = generated_some seed tasks (asks_for_few words (command.Generate seed tasks) is).1
@@ -163,15 +133,6 @@ module _ (next : SystemModel → Outcome → Type 0) (Same : Outcome → Outcome
   opened_same place TooLong h k = equal (h ∙ sym k)
   opened_same place (Bytes bytes) h k = read_same bytes (model_of bytes) refl h k
 
--- a text of a trace has one outcome
-one_traced : (model : SystemModel) → IsValid model → AreNamed model → (text : List ℕ) (one other : Outcome) → IsOfTrace model text one → IsOfTrace model text other → one ≡ other
-one_traced model valid named text one other (inl first) (inl second) = of_run_once model second.run one other
-    (subst (λ run. IsOfRun model run one) (one_run model valid named text first.run second.run first.trace second.trace) first.of_run) second.of_run
-one_traced model valid named text one other (inl first) (inr second) = absurd (no_bad_line model valid named text first.run second.number first.trace second.bad)
-one_traced model valid named text one other (inr first) (inl second) = absurd (no_bad_line model valid named text second.run first.number second.trace first.bad)
-one_traced model valid named text one other (inr first) (inr second) =
-    first.printed ∙ ap trace_refused (bad_once model valid named text first.number second.number first.bad second.bad) ∙ sym second.printed
-
 -- two outcomes of the text of a second file say the same
 module _ (asked : Command) (limit : ℕ) (OfText : SystemModel → (text : List ℕ) → Outcome → Type 0) (of : IsOfTwo asked limit OfText)
     (Same : Outcome → Outcome → Type 0) (equal : (one other : Outcome) → one ≡ other → Same one other)
@@ -196,7 +157,9 @@ says_the_same (Some (command.OfModel asked)) gave one other h k =
 says_the_same (Some (command.Simulate ticks seed)) gave one other h k =
     opened_same (IsSimulated ticks seed) (λ a b. a ≡ b) one other (λ is. is)
     (λ bytes model means none m n. simulated_once ticks seed model (valid_read bytes model means none) one other m n) 1 (gave (model_file 1)) h k
-says_the_same (Some command.Replay) gave one other h k = two_same command.Replay TRACE_LIMIT IsOfTrace of_replay (λ a b. a ≡ b) (λ a b is. is) one_traced gave one other h k
+says_the_same (Some command.Replay) gave one other h k = two_same command.Replay TRACE_LIMIT IsOfReplay of_replay (λ a b. a ≡ b) (λ a b is. is) replay_once gave one other h k
+says_the_same (Some (command.Draw from to)) gave one other h k =
+    two_same (command.Draw from to) TRACE_LIMIT (IsOfDraw from to) (of_draw from to) (λ a b. a ≡ b) (λ a b is. is) (draw_once from to) gave one other h k
 says_the_same (Some command.Edit) gave one other h k = two_same command.Edit FILE_LIMIT IsOfEdits of_edit (λ a b. a ≡ b) (λ a b is. is) one_edited gave one other h k
 says_the_same (Some command.Apply) gave one other h k = two_same command.Apply FILE_LIMIT IsOfApply of_apply MigratesTheSame (λ a b is. inl is) applied_alike gave one other h k
 says_the_same (Some (command.Generate seed tasks)) gave one other h k = inr (generated seed tasks, h, k)

@@ -6,7 +6,7 @@ use Rattle.std.proofs.lemmas.List.{take_all}
 use Rattle.cl_io.specs.Sink.{appended}
 use Rattle.cl_designs.specs.Cuts.{IsCutTextOf}
 use Rattle.cl_edit.specs.Reading.{AreEditsOf}
-use Rattle.cl_runs.specs.SystemOf.{system_of}
+use Rattle.cl_runs.specs.Run.{Run}
 use Rattle.cl_model.specs.declared.model.SystemModel.{SystemModel}
 use Rattle.cl_model.specs.Reading.{model_of}
 use Rattle.cl_model.specs.declared.refusal.Code.TheVariants.{E1}
@@ -32,10 +32,12 @@ use Rattle.cl_top.specs.Calls.{ShelfCall, SinkCall}
 use Rattle.cl_top.specs.Command.{File, model_file, command_of}
 use Rattle.cl_top.specs.Commands.Apply.{IsOfApply}
 use Rattle.cl_top.specs.Commands.Edit.{edits_refused, behind, IsWrittenBy, AreAccepted, IsOfEdits}
-use Rattle.cl_top.specs.Commands.Replay.{trace_refused, trace_illegal, IsOfTrace}
+use Rattle.cl_top.specs.Commands.Draw.{window_refused, IsDrawn, IsOfDraw}
+use Rattle.cl_top.specs.Commands.Replay.{IsReplayed, IsOfReplay}
 use Rattle.cl_top.specs.Files.{Fetched, Unasked, Bytes, Fault, TooLong, TellsFiles, told_fetch}
-use Rattle.cl_top.specs.Headline.{IsSafePiece, IsSafeReplay, AreSafeReports, HoldsEdited, AreSafeCuts, IsSafeTightReport, ProvesInTime, IsSafeText, HasPrintedSafe}
+use Rattle.cl_top.specs.Headline.{IsSafePiece, IsSafeReplay, IsSafePicture, AreSafeReports, HoldsEdited, AreSafeCuts, IsSafeTightReport, ProvesInTime, IsSafeText, HasPrintedSafe}
 use Rattle.cl_top.specs.OfModel.{verify_status, IsAnswer}
+use Rattle.cl_top.specs.OfTrace.{trace_refused, trace_illegal, IsOfLegal, IsOfTrace}
 use Rattle.cl_top.specs.Outcome.{read_fault, long_file, model_refused, OpensTo, OpensModel, HasOutcome}
 use Rattle.cl_top.specs.Run.{ComesTo}
 use Rattle.cl_top.proofs.EditsOnce.{listed_in_range}
@@ -144,26 +146,53 @@ module _ (contents : ℕ → List ℕ) (found : Outcome) (done : found.status �
     in_time = verified_in_time has.model has.valid (verified_at_done has.model (sym has.comes_next.status_is ∙ done));
   }
 
-  safe_replay : HasDone (OfSecond TRACE_LIMIT IsOfTrace (told_fetch contents)) (contents 1) found → IsSafeReplay (contents 1) (contents 2) found.text
-  safe_replay has = of_text (opened_text (IsOfTrace has.model) found done (told_fetch contents (second_file TRACE_LIMIT)) has.comes_next)
+  -- the legal run of the text of the second file, and what comes of it
+  legal_of : (model : SystemModel) (next : Run → Outcome → Type 0) → OpensTo 2 (told_fetch contents (second_file TRACE_LIMIT)) (IsOfTrace model next) found
+      → (run : Run) × IsTraceOf model (contents 2) run × IsOfLegal model next run found
+  legal_of model next opens = of_text (opened_text (IsOfTrace model next) found done (told_fetch contents (second_file TRACE_LIMIT)) opens)
     where
-      of_trace : (text : List ℕ) → text ≡ contents 2 → IsOfTrace has.model text found → IsSafeReplay (contents 1) (contents 2) found.text
+      of_trace : (text : List ℕ) → text ≡ contents 2 → IsOfTrace model next text found → (run : Run) × IsTraceOf model (contents 2) run × IsOfLegal model next run found
       of_trace text same (inl traced) = elim traced.of_run [
-        | inl replayed ↦ record {
-          model = has.model;
-          means = has.means;
-          valid = has.valid;
-          run = traced.run;
-          is_trace = subst (λ (t : List ℕ). IsTraceOf has.model t traced.run) same traced.trace;
-          legal = replayed.legal;
-          replay = with_margins has.model has.valid traced.run replayed.legal found.text replayed.outcome.text_is;
-        }
-        | inr illegal ↦ absurd (omega (arith, done, status_of found (trace_illegal has.model illegal.rule illegal.place illegal.tick) illegal.printed))
+        | inl legal ↦ (traced.run, subst (λ (t : List ℕ). IsTraceOf model t traced.run) same traced.trace, legal)
+        | inr illegal ↦ absurd (omega (arith, done, status_of found (trace_illegal model illegal.rule illegal.place illegal.tick) illegal.printed))
       ]
       of_trace text same (inr bad) = absurd (omega (arith, done, status_of found (trace_refused bad.number) bad.printed))
 
-      of_text : (text : List ℕ) × (told_fetch contents (second_file TRACE_LIMIT) ≡ Bytes text) × IsOfTrace has.model text found → IsSafeReplay (contents 1) (contents 2) found.text
+      of_text : (text : List ℕ) × (told_fetch contents (second_file TRACE_LIMIT) ≡ Bytes text) × IsOfTrace model next text found
+          → (run : Run) × IsTraceOf model (contents 2) run × IsOfLegal model next run found
       of_text (text, is, comes) = of_trace text (told_is TRACE_LIMIT (contents 2) text is) comes
+
+  safe_replay : HasDone (OfSecond TRACE_LIMIT IsOfReplay (told_fetch contents)) (contents 1) found → IsSafeReplay (contents 1) (contents 2) found.text
+  safe_replay has =
+      let legal = legal_of has.model (IsReplayed has.model) has.comes_next in
+      record {
+        model = has.model;
+        means = has.means;
+        valid = has.valid;
+        run = legal.0;
+        is_trace = legal.1;
+        legal = legal.2.legal;
+        replay = with_margins has.model has.valid legal.0 legal.2.legal found.text legal.2.outcome.text_is;
+      }
+
+  safe_picture : (from to : ℕ) → HasDone (OfSecond TRACE_LIMIT (IsOfDraw from to) (told_fetch contents)) (contents 1) found → IsSafePicture from to (contents 1) (contents 2) found.text
+  safe_picture from to has = of_drawn (legal_of has.model (IsDrawn from to has.model) has.comes_next)
+    where
+      of_drawn : (run : Run) × IsTraceOf has.model (contents 2) run × IsOfLegal has.model (IsDrawn from to has.model) run found
+          → IsSafePicture from to (contents 1) (contents 2) found.text
+      of_drawn (run, trace, legal) = elim legal.outcome [
+        | inl pictured ↦ record {
+          model = has.model;
+          means = has.means;
+          valid = has.valid;
+          run = run;
+          is_trace = trace;
+          legal = legal.legal;
+          window = pictured.window;
+          picture = pictured.outcome.text_is;
+        }
+        | inr outside ↦ absurd (omega (arith, done, status_of found (window_refused from to run.table.ticks) outside.printed))
+      ]
 
   safe_reports : HasDone (OfSecond FILE_LIMIT IsOfEdits (told_fetch contents)) (contents 1) found → AreSafeReports (contents 1) (contents 2) found.text
   safe_reports has = of_text (opened_text (IsOfEdits has.model) found done (told_fetch contents (second_file FILE_LIMIT)) has.comes_next)
@@ -225,7 +254,8 @@ module _ (contents : ℕ → List ℕ) (found : Outcome) (done : found.status �
   safe_text (command.OfModel Cut) comes = safe_cuts (opened_model (IsAnswer Cut) comes)
   safe_text (command.OfModel Tighten) comes = safe_tight (opened_model (IsAnswer Tighten) comes)
   safe_text (command.OfModel Verify) comes = proves_in_time (opened_model (IsAnswer Verify) comes)
-  safe_text command.Replay comes = safe_replay (opened_model (OfSecond TRACE_LIMIT IsOfTrace (told_fetch contents)) comes)
+  safe_text command.Replay comes = safe_replay (opened_model (OfSecond TRACE_LIMIT IsOfReplay (told_fetch contents)) comes)
+  safe_text (command.Draw from to) comes = safe_picture from to (opened_model (OfSecond TRACE_LIMIT (IsOfDraw from to) (told_fetch contents)) comes)
   safe_text command.Edit comes = safe_reports (opened_model (OfSecond FILE_LIMIT IsOfEdits (told_fetch contents)) comes)
   safe_text command.Apply comes = holds_edited (opened_model (OfSecond FILE_LIMIT IsOfApply (told_fetch contents)) comes)
   safe_text asked comes = tt

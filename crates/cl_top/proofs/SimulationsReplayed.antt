@@ -21,14 +21,15 @@ use Rattle.cl_top.specs.declared.command.Command.TheVariants.{Replay}
 use Rattle.cl_top.specs.declared.outcome.Outcome.{Outcome}
 use Rattle.cl_top.specs.declared.status.TheConstants.{DONE}
 use Rattle.cl_top.specs.Command.{model_file, trace_file}
-use Rattle.cl_top.specs.Commands.Replay.{IsOfRun, IsOfTrace}
+use Rattle.cl_top.specs.Commands.Replay.{IsReplayed, IsOfReplay}
 use Rattle.cl_top.specs.Commands.Simulate.{IsSimulated, IsTraced}
 use Rattle.cl_top.specs.Files.{Fetched, Bytes, told_fetch}
+use Rattle.cl_top.specs.OfTrace.{IsOfRun}
 use Rattle.cl_top.specs.Outcome.{ValidatesTo, ReadsTo, OpensTo, OpensFile, HasOutcome}
 use Rattle.cl_top.specs.Simulated.{IsSimulatedFile}
 use Rattle.cl_top.proofs.CountedExecutions.{table_counted}
 use Rattle.cl_top.proofs.Openings.{OpenedAs, Reaches, opened_cases, valid_read}
-use Rattle.cl_top.proofs.ReplaysOfRuns.{breaks_none}
+use Rattle.cl_top.proofs.AnswersOfRuns.{breaks_none}
 use Rattle.cl_top.proofs.Tellings.{told_bytes}
 
 -- what comes next of a file whose bytes are read as a model that isn't refused
@@ -44,21 +45,21 @@ module _ (model : SystemModel) (valid : IsValid model) (named : AreNamed model) 
   fits : execution_count model run.table.ticks ≤ MOST_EXECUTIONS → length (spelled model run) ≤ TRACE_LIMIT
   fits counted = omega (arith, counted, short_trace model valid named run legal few, table_counted model valid run.table legal.lawful)
 
-  replayed_run : (found : Outcome) → IsOfRun model run found → found.status ≡ DONE
+  replayed_run : (found : Outcome) → IsOfRun model (IsReplayed model) run found → found.status ≡ DONE
   replayed_run found (inl is) = is.outcome.status_is
   replayed_run found (inr is) = breaks_none model run found legal is
 
   -- the trace of a legal run is replayed
-  replayed : (found : Outcome) → IsOfTrace model (spelled model run) found → found.status ≡ DONE
+  replayed : (found : Outcome) → IsOfReplay model (spelled model run) found → found.status ≡ DONE
   replayed found (inl has) =
-      replayed_run found (subst (λ r. IsOfRun model r found) (one_run model valid named (spelled model run) has.run run has.trace (legal_trace model valid run legal few)) has.of_run)
+      replayed_run found (subst (λ r. IsOfRun model (IsReplayed model) r found) (one_run model valid named (spelled model run) has.run run has.trace (legal_trace model valid run legal few)) has.of_run)
   replayed found (inr bad) = absurd (no_bad_line model valid named (spelled model run) run bad.number (legal_trace model valid run legal few) bad.bad)
 
 module _ (contents : ℕ → List ℕ) (ticks seed : ℕ) (found : Outcome) (file : IsSimulatedFile contents ticks seed) (replays : HasOutcome (Some Replay) (told_fetch contents) found) where
   module _ (reached : Reaches (told_fetch contents (model_file 1)) (IsSimulated ticks seed) file.outcome) where
     -- the trace file, opened
-    opened : OpensFile (trace_file 2) (told_fetch contents) (IsOfTrace reached.model) found
-    opened = next_of (λ model. OpensFile (trace_file 2) (told_fetch contents) (IsOfTrace model)) found (told_fetch contents (model_file 1)) reached.bytes reached.model
+    opened : OpensFile (trace_file 2) (told_fetch contents) (IsOfReplay reached.model) found
+    opened = next_of (λ model. OpensFile (trace_file 2) (told_fetch contents) (IsOfReplay model)) found (told_fetch contents (model_file 1)) reached.bytes reached.model
         reached.gave reached.means reached.unrefused replays
 
     of_trace : IsTraced ticks seed reached.model file.outcome → execution_count reached.model ticks ≤ MOST_EXECUTIONS → found.status ≡ DONE
@@ -71,8 +72,8 @@ module _ (contents : ℕ → List ℕ) (ticks seed : ℕ) (found : Outcome) (fil
         let holds : contents 2 ≡ spelled model is.run = file.holds ∙ ap (λ (o : Outcome). o.text) is.printed in
         let short : length (spelled model is.run) ≤ TRACE_LIMIT = fits model valid named is.run is.legal few (subst (λ t. execution_count model t ≤ MOST_EXECUTIONS) (sym same) counted) in
         let within : length (contents 2) ≤ TRACE_LIMIT = subst (λ (text : List ℕ). length text ≤ TRACE_LIMIT) (sym holds) short in
-        let told : IsOfTrace model (contents 2) found = subst (λ (f : Fetched). OpensTo 2 f (IsOfTrace model) found) (told_bytes TRACE_LIMIT (contents 2) within) opened in
-        replayed model valid named is.run is.legal few found (subst (λ (text : List ℕ). IsOfTrace model text found) holds told)
+        let told : IsOfReplay model (contents 2) found = subst (λ (f : Fetched). OpensTo 2 f (IsOfReplay model) found) (told_bytes TRACE_LIMIT (contents 2) within) opened in
+        replayed model valid named is.run is.legal few found (subst (λ (text : List ℕ). IsOfReplay model text found) holds told)
 
     of_model : found.status ≡ DONE
     of_model = elim (cases_lt MOST_EXECUTIONS (execution_count reached.model ticks)) [

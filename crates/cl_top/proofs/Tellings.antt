@@ -20,8 +20,9 @@ use Rattle.cl_top.specs.Calls.{ShelfCall, SinkCall}
 use Rattle.cl_top.specs.Command.{File, model_file, command_of, files_of, word}
 use Rattle.cl_top.specs.Commands.Check.{IsChecked}
 use Rattle.cl_top.specs.Commands.Apply.{IsOfApply}
+use Rattle.cl_top.specs.Commands.Draw.{IsOfDraw}
 use Rattle.cl_top.specs.Commands.Edit.{IsOfEdits}
-use Rattle.cl_top.specs.Commands.Replay.{IsOfTrace}
+use Rattle.cl_top.specs.Commands.Replay.{IsOfReplay}
 use Rattle.cl_top.specs.Commands.Simulate.{IsSimulated}
 use Rattle.cl_top.specs.Files.{Fetched, Unasked, Bytes, Fault, TooLong, SomeFile, FileRose, FileGave, MayGive, TellsFiles, NoneRose, told_fetch}
 use Rattle.cl_top.specs.OfModel.{IsAnswer}
@@ -30,6 +31,7 @@ use Rattle.cl_top.specs.Run.{ComesAs, ComesTo, ComesToTold, IsFileFault, IsWhole
 use Rattle.cl_top.proofs.Endings.{Carried, counted_rose}
 use Rattle.cl_top.proofs.FileAlone.{has_model, of_each as of_model}
 use Rattle.cl_top.proofs.OfApply.{of_apply}
+use Rattle.cl_top.proofs.OfDraw.{of_draw}
 use Rattle.cl_top.proofs.OfEdit.{of_edit}
 use Rattle.cl_top.proofs.OfReplay.{of_replay}
 use Rattle.cl_top.proofs.OneFile.{IsOfModel, of_answer, of_simulate}
@@ -120,7 +122,8 @@ module _ (words : List (List ℕ)) (shelf : ShelfCall) (contents : ℕ → List 
   told_comes (Some (command.OfModel asked)) found tells comes = told_of_model (command.OfModel asked) (IsAnswer asked) (of_answer asked) found tells comes
   told_comes (Some (command.Simulate ticks seed)) found tells comes =
       told_of_model (command.Simulate ticks seed) (IsSimulated ticks seed) (of_simulate ticks seed) found tells comes
-  told_comes (Some command.Replay) found tells comes = told_of_two command.Replay TRACE_LIMIT IsOfTrace of_replay found tells comes
+  told_comes (Some command.Replay) found tells comes = told_of_two command.Replay TRACE_LIMIT IsOfReplay of_replay found tells comes
+  told_comes (Some (command.Draw from to)) found tells comes = told_of_two (command.Draw from to) TRACE_LIMIT (IsOfDraw from to) (of_draw from to) found tells comes
   told_comes (Some command.Edit) found tells comes = told_of_two command.Edit FILE_LIMIT IsOfEdits of_edit found tells comes
   told_comes (Some command.Apply) found tells comes = told_of_two command.Apply FILE_LIMIT IsOfApply of_apply found tells comes
   told_comes (Some (command.Generate seed tasks)) found tells comes = inl comes.follows

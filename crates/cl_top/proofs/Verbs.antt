@@ -26,6 +26,7 @@ drop_first word (other ∷ words) = refl
 pub record IsOther (verb : List ℕ) : Type 0 where
   pub simulate : verb ≡ codes "simulate" → ⊥
   pub replay : verb ≡ codes "replay" → ⊥
+  pub draw : verb ≡ codes "draw" → ⊥
   pub edit : verb ≡ codes "edit" → ⊥
   pub apply : verb ≡ codes "apply" → ⊥
   pub generate : verb ≡ codes "generate" → ⊥
@@ -47,6 +48,6 @@ other_verb (first ∷ words) verb is other =
     ap (λ v. of_model (of_verb v) (drop 1 (first ∷ words))) same
     ∙ ap (of_model (of_verb first)) (drop_first first words)
     ∙ sym (cond_else _ _ _ (none (codes "simulate") other.simulate) ∙ cond_else _ _ _ (none (codes "replay") other.replay)
-    ∙ cond_else _ _ _ (none (codes "edit") other.edit) ∙ cond_else _ _ _ (none (codes "apply") other.apply)
+    ∙ cond_else _ _ _ (none (codes "draw") other.draw) ∙ cond_else _ _ _ (none (codes "edit") other.edit) ∙ cond_else _ _ _ (none (codes "apply") other.apply)
     ∙ cond_else _ _ _ (none (codes "generate") other.generate) ∙ cond_else _ _ _ (none (codes "survey") other.survey)
     ∙ cond_else _ _ _ (none (codes "check") other.check) ∙ cond_else _ _ _ no_help ∙ cond_else _ _ _ no_version)

@@ -5,9 +5,10 @@ use Rattle.std.specs.Str.{bytes_eq}
 use Rattle.cl_text.specs.Decimal.{number_of}
 use Rattle.cl_gen.specs.declared.limits.TheConstants.{MOST_RUN_TICKS}
 use Rattle.cl_model.specs.declared.limits.TheConstants.{MOST_TASKS}
+use Rattle.cl_picture.specs.declared.window.TheConstants.{MOST_WINDOW}
 use Rattle.cl_top.specs.declared.command.Command.{Command}
 use Rattle.cl_top.specs.declared.command.Command.TheVariants as command
-use Rattle.cl_top.specs.declared.command.Draw.{Draw}
+use Rattle.cl_top.specs.declared.command.Generation.{Generation}
 use Rattle.cl_top.specs.declared.command.OfModel.{OfModel}
 use Rattle.cl_top.specs.declared.opening.TheConstants.{FILE_LIMIT, TRACE_LIMIT}
 use Rattle.cl_top.specs.OfModel.{of_verb}
@@ -31,6 +32,15 @@ abbrev pub simulate_of : List (List ℕ) → Option Command
 simulate_of (model ∷ ticks ∷ seed ∷ []) = simulation (number_upto MOST_RUN_TICKS ticks) (number_upto MOST_SEED seed)
 simulate_of _ = None
 
+abbrev pub window : (from to : Option ℕ) → Option Command
+window (Some from) (Some to) = Some (command.Draw from to)
+window _ _ = None
+
+-- a model file, a trace file, and from which tick to which
+abbrev pub draw_of : List (List ℕ) → Option Command
+draw_of (model ∷ trace ∷ from ∷ to ∷ []) = window (number_upto MOST_WINDOW from) (number_upto MOST_WINDOW to)
+draw_of _ = None
+
 -- so many words, the verb among them
 abbrev pub of_words : (count : ℕ) → Command → List (List ℕ) → Option Command
 of_words count asked words = if length words == count then Some asked else None
@@ -43,13 +53,13 @@ abbrev pub asks_version : List ℕ → Bool
 asks_version verb = bytes_eq verb (codes "version") || bytes_eq verb (codes "--version")
 
 -- a model that is to be generated, which has a task or more
-abbrev pub drawing : (seed tasks : Option ℕ) → Option Draw
-drawing (Some seed) (Some tasks) = if nat_lt 0 tasks then Some (record { seed = seed; tasks = tasks }) else None
-drawing _ _ = None
+abbrev pub generation : (seed tasks : Option ℕ) → Option Generation
+generation (Some seed) (Some tasks) = if nat_lt 0 tasks then Some (record { seed = seed; tasks = tasks }) else None
+generation _ _ = None
 
-abbrev pub draw_of : List (List ℕ) → Option Draw
-draw_of (seed ∷ tasks ∷ []) = drawing (number_upto MOST_SEED seed) (number_upto MOST_TASKS tasks)
-draw_of _ = None
+abbrev pub generation_of : List (List ℕ) → Option Generation
+generation_of (seed ∷ tasks ∷ []) = generation (number_upto MOST_SEED seed) (number_upto MOST_TASKS tasks)
+generation_of _ = None
 
 -- a model file alone
 abbrev pub of_model : Option OfModel → List (List ℕ) → Option Command
@@ -62,10 +72,11 @@ command_of [] = None
 command_of (verb ∷ words) =
     if bytes_eq verb (codes "simulate") then simulate_of words
     else if bytes_eq verb (codes "replay") then of_words 3 command.Replay (verb ∷ words)
+    else if bytes_eq verb (codes "draw") then draw_of words
     else if bytes_eq verb (codes "edit") then of_words 3 command.Edit (verb ∷ words)
     else if bytes_eq verb (codes "apply") then of_words 3 command.Apply (verb ∷ words)
-    else if bytes_eq verb (codes "generate") then option_map (λ drawn. command.Generate drawn.seed drawn.tasks) (draw_of words)
-    else if bytes_eq verb (codes "survey") then option_map (λ drawn. command.Survey drawn.seed drawn.tasks) (draw_of words)
+    else if bytes_eq verb (codes "generate") then option_map (λ asked. command.Generate asked.seed asked.tasks) (generation_of words)
+    else if bytes_eq verb (codes "survey") then option_map (λ asked. command.Survey asked.seed asked.tasks) (generation_of words)
     else if bytes_eq verb (codes "check") then of_words 2 command.Check (verb ∷ words)
     else if asks_help verb then of_words 1 command.Help (verb ∷ words)
     else if asks_version verb then of_words 1 command.Version (verb ∷ words)
@@ -94,6 +105,7 @@ files_of None = []
 files_of (Some (command.OfModel asked)) = model_file 1 ∷ []
 files_of (Some (command.Simulate ticks seed)) = model_file 1 ∷ []
 files_of (Some command.Replay) = model_file 1 ∷ trace_file 2 ∷ []
+files_of (Some (command.Draw from to)) = model_file 1 ∷ trace_file 2 ∷ []
 files_of (Some command.Edit) = model_file 1 ∷ edits_file 2 ∷ []
 files_of (Some command.Apply) = model_file 1 ∷ edits_file 2 ∷ []
 files_of (Some (command.Generate seed tasks)) = []

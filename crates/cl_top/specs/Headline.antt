@@ -22,14 +22,16 @@ use Rattle.cl_runs.specs.SystemOf.{system_of}
 use Rattle.cl_runs.specs.Legal.{IsLegal}
 use Rattle.cl_trace.specs.Rules.{IsTraceOf}
 use Rattle.cl_replay.specs.Margins.{IsReplayWithMargins}
+use Rattle.cl_draw.specs.Picture.{IsPictureOf}
 use Rattle.cl_write.specs.Texts.{IsTextOf}
 use Rattle.cl_cut.specs.CutAnswers.{AreSafeAnswers, AreNoWorseAnswers}
 use Rattle.cl_designs.specs.Cuts.{IsCutTextOf}
 use Rattle.cl_top.specs.declared.command.Command.{Command}
-use Rattle.cl_top.specs.declared.command.Command.TheVariants.{OfModel, Replay, Edit as EditFiles, Apply}
+use Rattle.cl_top.specs.declared.command.Command.TheVariants.{OfModel, Replay, Draw, Edit as EditFiles, Apply}
 use Rattle.cl_top.specs.declared.command.OfModel.TheVariants.{Analyse, Cut, Tighten, Verify}
 use Rattle.cl_top.specs.declared.opening.TheConstants.{FILE_LIMIT}
 use Rattle.cl_top.specs.Calls.{SinkCall}
+use Rattle.cl_top.specs.Commands.Draw.{LiesWithin}
 use Rattle.cl_top.specs.Commands.Edit.{HasWrittenPiece, AreAccepted}
 
 -- ---- analyse
@@ -107,6 +109,18 @@ pub record IsSafeReplay (bytes trace text : List ℕ) : Type 0 where
   pub legal : IsLegal (system_of model) run
   pub replay : IsReplayWithMargins model run text
 
+-- The text is the picture of the legal run of the trace, by the model that the bytes mean, from one tick to another, and
+-- the window lies within the run.
+pub record IsSafePicture (from to : ℕ) (bytes trace text : List ℕ) : Type 0 where
+  pub model : SystemModel
+  pub means : model_of bytes ≡ Ok model
+  pub valid : IsValid model
+  pub run : Run
+  pub is_trace : IsTraceOf model trace run
+  pub legal : IsLegal (system_of model) run
+  pub window : LiesWithin from to run.table.ticks
+  pub picture : IsPictureOf model run from to text
+
 -- a report line has written the safe report of the model after the edits above it
 pub record IsSafePiece (model : SystemModel) (edits : List Edit) (place : ℕ) (piece : List ℕ) : Type 0 where
   pub written : HasWrittenPiece model edits place piece
@@ -145,6 +159,7 @@ IsSafeText (OfModel Cut) contents text = AreSafeCuts (contents 1) text
 IsSafeText (OfModel Tighten) contents text = IsSafeTightReport (contents 1) text
 IsSafeText (OfModel Verify) contents text = ProvesInTime (contents 1)
 IsSafeText Replay contents text = IsSafeReplay (contents 1) (contents 2) text
+IsSafeText (Draw from to) contents text = IsSafePicture from to (contents 1) (contents 2) text
 IsSafeText EditFiles contents text = AreSafeReports (contents 1) (contents 2) text
 IsSafeText Apply contents text = HoldsEdited (contents 1) (contents 2) text
 IsSafeText asked contents text = Unit {0}

@@ -5,3 +5,4 @@ pub mod Edits
 pub mod Applying
 pub mod Within
 pub mod Traced
+pub mod LegalRuns

@@ -3,6 +3,7 @@ pub mod Calls
 pub mod Files
 pub mod Done
 pub mod OfModel
+pub mod OfTrace
 pub mod Outcome
 pub mod Commands
 pub mod Run

@@ -16,7 +16,8 @@ use Rattle.cl_top.specs.Command.{File, model_file, trace_file, edits_file}
 use Rattle.cl_top.specs.Commands.Check.{refusal_line, IsChecked, ChecksTheSame}
 use Rattle.cl_top.specs.Commands.Help.{help_text, version_text}
 use Rattle.cl_top.specs.Commands.Simulate.{IsSimulated}
-use Rattle.cl_top.specs.Commands.Replay.{IsOfTrace}
+use Rattle.cl_top.specs.Commands.Replay.{IsOfReplay}
+use Rattle.cl_top.specs.Commands.Draw.{IsOfDraw}
 use Rattle.cl_top.specs.Commands.Edit.{IsOfEdits}
 use Rattle.cl_top.specs.Commands.Apply.{IsOfApply}
 use Rattle.cl_top.specs.Done.{IsDone}
@@ -72,7 +73,8 @@ abbrev pub HasOutcome : Option Command → (gave : File → Fetched) → Outcome
 HasOutcome None gave found = found ≡ words_refused
 HasOutcome (Some (command.OfModel asked)) gave found = OpensModel (model_file 1) gave (IsAnswer asked) found
 HasOutcome (Some (command.Simulate ticks seed)) gave found = OpensModel (model_file 1) gave (IsSimulated ticks seed) found
-HasOutcome (Some command.Replay) gave found = OpensModel (model_file 1) gave (λ model. OpensFile (trace_file 2) gave (IsOfTrace model)) found
+HasOutcome (Some command.Replay) gave found = OpensModel (model_file 1) gave (λ model. OpensFile (trace_file 2) gave (IsOfReplay model)) found
+HasOutcome (Some (command.Draw from to)) gave found = OpensModel (model_file 1) gave (λ model. OpensFile (trace_file 2) gave (IsOfDraw from to model)) found
 HasOutcome (Some command.Edit) gave found = OpensModel (model_file 1) gave (λ model. OpensFile (edits_file 2) gave (IsOfEdits model)) found
 HasOutcome (Some command.Apply) gave found = OpensModel (model_file 1) gave (λ model. OpensFile (edits_file 2) gave (IsOfApply model)) found
 HasOutcome (Some (command.Generate seed tasks)) gave found = IsDone (IsTextOf (generated seed tasks)) found

@@ -53,6 +53,7 @@ AreFewSteps None contents before after = after ≤ before
 AreFewSteps (Some (command.OfModel asked)) contents before after = AreAtMost (most_steps asked (model_of (contents 1))) before after
 AreFewSteps (Some (command.Simulate ticks seed)) contents before after = after ≤ before
 AreFewSteps (Some command.Replay) contents before after = after ≤ before + model_steps (model_of (contents 1))
+AreFewSteps (Some (command.Draw from to)) contents before after = after ≤ before
 AreFewSteps (Some command.Edit) contents before after = AreFewOfEdits (model_of (contents 1)) (contents 2) before after
 AreFewSteps (Some command.Apply) contents before after = after ≤ before
 AreFewSteps (Some (command.Generate seed tasks)) contents before after = after ≤ before

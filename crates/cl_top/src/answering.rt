@@ -10,6 +10,7 @@ use crate::command::{Command, OfModel};
 use crate::commands::answered;
 use crate::commands::apply::applied;
 use crate::commands::check::checked;
+use crate::commands::draw::drawn;
 use crate::commands::edit::edited;
 use crate::commands::replay::replayed;
 use crate::commands::simulate::simulated;
@@ -71,6 +72,25 @@ pub(crate) fn replay_files<S: Shelf, L: Ledger>(
     let opened = open_two(alloc, words, TRACE_LIMIT, shelf)?;
     match opened {
         OpenedTwo::Both(model, text) => replayed(alloc, &model, text.as_slice(), steps),
+        OpenedTwo::Stopped(outcome) => Ok(outcome),
+    }
+}
+
+/// The outcome of `draw MODEL TRACE FROM TO`. It counts no step, whatever the counter stands at.
+pub(crate) fn draw_files<S: Shelf>(
+    alloc: Global,
+    words: &Words,
+    from: u64,
+    to: u64,
+    shelf: &mut S,
+) -> Result<Outcome, NoMemory>
+    requires { command_of words.now ≡ Some (Command.Draw from to) }
+    ensures comes { IfOk result (ComesTo words.now (shelf_call S.held S.faults S.longest shelf.old shelf.new)) }
+    ensures leaves { (steps : ℕ) → LeavesRest words.now (shelf_call S.held S.faults S.longest shelf.old shelf.new) steps steps }
+{
+    let opened = open_two(alloc, words, TRACE_LIMIT, shelf)?;
+    match opened {
+        OpenedTwo::Both(model, text) => drawn(alloc, &model, text.as_slice(), from, to),
         OpenedTwo::Stopped(outcome) => Ok(outcome),
     }
 }

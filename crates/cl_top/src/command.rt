@@ -1,11 +1,12 @@
 ghost use Rattle.std.specs.Prelude.{◌≡◌, ◌<◌, ◌≤◌, drop, length};
-ghost use Rattle.cl_top.specs.Command.{of_model, of_words, number_upto, simulate_of, draw_of, word, command_of, MOST_SEED};
+ghost use Rattle.cl_top.specs.Command.{of_model, of_words, number_upto, simulate_of, generation_of, draw_of, word, command_of, MOST_SEED};
 ghost use Rattle.cl_top.specs.OfModel.{of_verb};
 
 use crate::opening::word_at;
 use cl_gen::MOST_RUN_TICKS;
 use cl_io::Words;
 use cl_model::MOST_TASKS;
+use cl_picture::MOST_WINDOW;
 use cl_text::read_decimal;
 
 /// A command that names a model file and nothing else.
@@ -38,6 +39,8 @@ pub enum Command {
     Simulate { ticks: u64, seed: u64 },
     /// `replay MODEL TRACE`: measure every chain in the run of a trace.
     Replay,
+    /// `draw MODEL TRACE FROM TO`: draw the run of a trace from one tick to another.
+    Draw { from: u64, to: u64 },
     /// `edit MODEL EDITS`: report a model as it is edited.
     Edit,
     /// `apply MODEL EDITS`: write a model as it is after all edits, as a file of version 2.
@@ -56,7 +59,7 @@ pub enum Command {
 
 /// A model that is to be generated: by which seed, and of how many tasks.
 #[derive(Clone, Copy)]
-pub(crate) struct Draw {
+pub(crate) struct Generation {
     seed: u64,
     tasks: u64,
 }
@@ -68,14 +71,15 @@ pub(crate) fn read_command(words: &Words) -> Option<Command>
     match words.at(0)? {
         "simulate" => read_simulate(words),
         "replay" => read_words(words, 3, Command::Replay),
+        "draw" => read_draw(words),
         "edit" => read_words(words, 3, Command::Edit),
         "apply" => read_words(words, 3, Command::Apply),
         "generate" => {
-            let Draw { seed, tasks } = read_draw(words)?;
+            let Generation { seed, tasks } = read_generation(words)?;
             Some(Command::Generate { seed, tasks })
         }
         "survey" => {
-            let Draw { seed, tasks } = read_draw(words)?;
+            let Generation { seed, tasks } = read_generation(words)?;
             Some(Command::Survey { seed, tasks })
         }
         "check" => read_words(words, 2, Command::Check),
@@ -126,6 +130,18 @@ fn read_simulate(words: &Words) -> Option<Command>
     Some(Command::Simulate { ticks, seed })
 }
 
+/// What the words after `draw` make of it.
+fn read_draw(words: &Words) -> Option<Command>
+    ensures { result ≡ draw_of (drop 1 words.now) }
+{
+    if words.len() != 5 {
+        return None;
+    }
+    let from = number_at(words, 3, MOST_WINDOW)?;
+    let to = number_at(words, 4, MOST_WINDOW)?;
+    Some(Command::Draw { from, to })
+}
+
 /// A command that has no more to say than how many words it has, its verb among them.
 fn read_words(words: &Words, count: usize, command: Command) -> Option<Command>
     ensures { result ≡ of_words count command words.now }
@@ -138,8 +154,8 @@ fn read_words(words: &Words, count: usize, command: Command) -> Option<Command>
 }
 
 /// What the words after `generate`, or after `survey`, make of it.
-fn read_draw(words: &Words) -> Option<Draw>
-    ensures { result ≡ draw_of (drop 1 words.now) }
+fn read_generation(words: &Words) -> Option<Generation>
+    ensures { result ≡ generation_of (drop 1 words.now) }
 {
     if words.len() != 3 {
         return None;
@@ -149,7 +165,7 @@ fn read_draw(words: &Words) -> Option<Draw>
     if tasks == 0 {
         return None;
     }
-    Some(Draw { seed, tasks })
+    Some(Generation { seed, tasks })
 }
 
 /// The number of at most `most` that the word at a place writes.

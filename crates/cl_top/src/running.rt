@@ -14,7 +14,7 @@ ghost use Rattle.cl_top.specs.Run.{ComesTo, ComesToTold, IsWhole, IsCutShort, En
 ghost use Rattle.cl_top.specs.Steps.{AreFewSteps};
 
 use crate::answering::{
-    answer_model, apply_files, check_file, edit_files, replay_files, simulate_file,
+    answer_model, apply_files, check_file, draw_files, edit_files, replay_files, simulate_file,
 };
 use crate::command::{Command, OfModel, read_command};
 use crate::commands::generate::generated;
@@ -112,6 +112,7 @@ fn find_outcome<S: Shelf, L: Ledger>(
         Some(Command::OfModel(asked)) => answer_model(alloc, asked, words, shelf, steps),
         Some(Command::Simulate { ticks, seed }) => simulate_file(alloc, words, ticks, seed, shelf),
         Some(Command::Replay) => replay_files(alloc, words, shelf, steps),
+        Some(Command::Draw { from, to }) => draw_files(alloc, words, from, to, shelf),
         Some(Command::Edit) => edit_files(alloc, words, shelf, steps),
         Some(Command::Apply) => apply_files(alloc, words, shelf),
         Some(Command::Generate { seed, tasks }) => generated(alloc, seed, tasks),

@@ -35,3 +35,6 @@ pub const ARGUMENT_NOT_TEXT: u8 = 12;
 
 /// A task of the model isn't shown to be in time, or a requirement isn't met.
 pub const NOT_VERIFIED: u8 = 13;
+
+/// The window that is asked for doesn't lie within the run.
+pub const WINDOW_REFUSED: u8 = 14;

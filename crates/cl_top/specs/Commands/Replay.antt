@@ -1,82 +1,16 @@
 -- `replay MODEL TRACE`: the replay of the run of a trace.
-use Rattle.std.specs.Prelude.{◌≡◌, ◌⊎◌, ℕ, List, [], ◌++◌, slice_index_or, codes, decimal}
-use Rattle.cl_text.specs.Line.{line}
+use Rattle.std.specs.Prelude.{ℕ, List}
 use Rattle.cl_model.specs.declared.model.SystemModel.{SystemModel}
-use Rattle.cl_model.specs.ByNumber.{task_at}
-use Rattle.cl_model.specs.Named.{core_names}
 use Rattle.cl_runs.specs.Run.{Run}
-use Rattle.cl_runs.specs.SystemOf.{system_of}
-use Rattle.cl_runs.specs.Legal.{IsLegal}
-use Rattle.cl_check.specs.declared.run_fault.Rule.{Rule}
-use Rattle.cl_check.specs.declared.run_fault.Rule.TheVariants.{Arrival, Release, Time, Missing, Schedule}
-use Rattle.cl_check.specs.declared.run_fault.RunFault.TheVariants.{Illegal}
-use Rattle.cl_check.specs.Legality.{IsFirstBroken}
 use Rattle.cl_replay.specs.Replay.{IsReplayOf}
-use Rattle.cl_trace.specs.Rules.{IsTraceOf, IsBadTraceLine}
 use Rattle.cl_top.specs.declared.outcome.Outcome.{Outcome}
-use Rattle.cl_top.specs.declared.status.TheConstants.{TRACE_REFUSED}
 use Rattle.cl_top.specs.Done.{IsDone}
+use Rattle.cl_top.specs.OfTrace.{IsOfTrace}
 
--- ---- a trace without a run
-
--- the text is no trace: this is its first bad line, counted from 1
-abbrev pub trace_refused : (number : ℕ) → Outcome
-trace_refused number = record { status = TRACE_REFUSED; text = line (codes "trace refused line " ++ decimal number) }
-
--- ---- a run that isn't legal
-
--- a rule, and what breaks it: a core its schedule, and a task every other rule
-abbrev pub rule_words : Rule → List ℕ
-rule_words Arrival = codes "arrival task "
-rule_words Release = codes "release task "
-rule_words Time = codes "time task "
-rule_words Missing = codes "missing task "
-rule_words Schedule = codes "schedule core "
-
--- the name of the task or core of a number that breaks a rule
-abbrev pub breaker : SystemModel → Rule → (place : ℕ) → List ℕ
-breaker model Schedule core = slice_index_or (core_names model) core []
-breaker model rule task = (task_at model task).name
-
--- this rule is the first that the run breaks
-abbrev pub trace_illegal : SystemModel → Rule → (place tick : ℕ) → Outcome
-trace_illegal model rule place tick = record {
-  status = TRACE_REFUSED;
-  text = line (codes "trace illegal " ++ rule_words rule ++ breaker model rule place ++ codes " tick " ++ decimal tick);
-}
-
-pub record IsIllegal (model : SystemModel) (run : Run) (found : Outcome) : Type 0 where
-  pub rule : Rule
-  pub place : ℕ
-  pub tick : ℕ
-  pub broken : IsFirstBroken (system_of model) run (Illegal rule place tick)
-  pub printed : found ≡ trace_illegal model rule place tick
-
--- ---- a legal run
-
--- its replay
-pub record IsReplayed (model : SystemModel) (run : Run) (found : Outcome) : Type 0 where
-  pub legal : IsLegal (system_of model) run
-  pub outcome : IsDone (IsReplayOf model run) found
-
--- ---- the outcome
-
--- the outcome of a run: its replay where it is legal, else the first rule that it breaks
-abbrev pub IsOfRun : SystemModel → Run → Outcome → Type 0
-IsOfRun model run found = IsReplayed model run found ⊎ IsIllegal model run found
-
--- the text is the trace of a run, of which the outcome is
-pub record HasRun (model : SystemModel) (text : List ℕ) (found : Outcome) : Type 0 where
-  pub run : Run
-  pub trace : IsTraceOf model text run
-  pub of_run : IsOfRun model run found
-
--- the text is no trace
-pub record HasBadTraceLine (model : SystemModel) (text : List ℕ) (found : Outcome) : Type 0 where
-  pub number : ℕ
-  pub bad : IsBadTraceLine model text number
-  pub printed : found ≡ trace_refused number
+-- what comes of a legal run: its replay
+abbrev pub IsReplayed : SystemModel → Run → Outcome → Type 0
+IsReplayed model run found = IsDone (IsReplayOf model run) found
 
 -- the outcome of a text, for a valid model
-abbrev pub IsOfTrace : SystemModel → (text : List ℕ) → Outcome → Type 0
-IsOfTrace model text found = HasRun model text found ⊎ HasBadTraceLine model text found
+abbrev pub IsOfReplay : SystemModel → (text : List ℕ) → Outcome → Type 0
+IsOfReplay model text found = IsOfTrace model (IsReplayed model) text found

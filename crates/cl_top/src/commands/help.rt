@@ -43,13 +43,15 @@ edit MODEL EDITS            a report for each line `report` of a list of edits\n
 apply MODEL EDITS           the model after a list of edits, as a file of version 2\n\
 simulate MODEL TICKS SEED   the trace of a run, drawn by a seed\n\
 replay MODEL TRACE          what is measured in the run of a trace\n\
+draw MODEL TRACE FROM TO    the run of a trace from one tick to another, as a picture (SVG)\n\
 generate SEED TASKS         a model that is drawn by a seed\n\
 survey SEED TASKS           the sums of what is found of such a model\n\
 help, version               this text; the version of the program\n\
 \n\
 MODEL, EDITS and TRACE are names of files. MODEL and EDITS have at most 16777216 bytes, TRACE at most 268435456.\n\
-TICKS is at most 1000000000, SEED at most 18446744073709551615, and TASKS is from 1 to 1024.\n\
+TICKS, FROM and TO are at most 1000000000, SEED at most 18446744073709551615, and TASKS is from 1 to 1024.\n\
 The answer goes to the standard output. The status is 0 where the command did what it says, 2 where the words are no\n\
 command, 3 and 4 where a file can't be read or is too long, 5 where the model is refused, 6 where the trace is, 7 where\n\
-an edit is, 8 where a simulation is too large, 9 where the output failed, 10 where memory ran out, and 13 from `verify`.\n\
+an edit is, 8 where a simulation is too large, 9 where the output failed, 10 where memory ran out, 13 from `verify`, and\n\
+14 where FROM and TO are no window of the run.\n\
 README.md and the pages in docs/ say more.\n";

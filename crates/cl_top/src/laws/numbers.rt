@@ -9,13 +9,15 @@ ghost use Rattle.cl_model.specs.declared.limits.TheConstants.{MOST_CORES, MOST_S
 ghost use Rattle.cl_model.specs.declared.limits.TheConstants.{MOST_RUNNABLES, MOST_RUNNABLES_OF_MODEL, MOST_ACCESSES};
 ghost use Rattle.cl_model.specs.declared.limits.TheConstants.{MOST_CHAINS, MOST_STEPS, MOST_HOPS, MOST_REQUIREMENTS};
 ghost use Rattle.cl_model.specs.declared.name.TheConstants.{LONGEST_NAME};
+ghost use Rattle.cl_draw.specs.declared.marks.TheConstants.{MOST_ARRIVALS as MOST_MARKED};
 ghost use Rattle.cl_phase.specs.declared.pace.TheConstants.{MOST_ARRIVALS};
+ghost use Rattle.cl_picture.specs.declared.window.TheConstants.{MOST_WINDOW};
 ghost use Rattle.cl_trace.specs.declared.limits.TheConstants.{MOST_TRACE_TICKS, MOST_TRACE_NUMBER};
 ghost use Rattle.cl_tune.specs.declared.percent.TheConstants.{MOST_PERCENT};
 
 use crate::status::{
     ARGUMENT_NOT_TEXT, DONE, EDITS_REFUSED, LONG_FILE, MODEL_REFUSED, NO_MEMORY, NOT_VERIFIED,
-    READ_FAULT, SIMULATION_REFUSED, TRACE_REFUSED, WORDS_REFUSED, WRITE_FAULT,
+    READ_FAULT, SIMULATION_REFUSED, TRACE_REFUSED, WINDOW_REFUSED, WORDS_REFUSED, WRITE_FAULT,
 };
 use crate::{FILE_LIMIT, TRACE_LIMIT};
 
@@ -33,6 +35,7 @@ pub fn statuses()
     ensures no_memory { NO_MEMORY ≡ 10 }
     ensures argument_not_text { ARGUMENT_NOT_TEXT ≡ 12 }
     ensures not_verified { NOT_VERIFIED ≡ 13 }
+    ensures window_refused { WINDOW_REFUSED ≡ 14 }
 {}
 
 /// The most bytes of a model file or a list of edits, and of a trace file.
@@ -68,7 +71,7 @@ pub fn limits_of_counts()
     ensures requirements { MOST_REQUIREMENTS ≡ 1024 }
 {}
 
-/// The limits of lists of edits, of simulations and traces, of exact lengths, of tight bounds and of headroom.
+/// The limits of lists of edits, of simulations and traces, of exact lengths, of tight bounds, of headroom and of pictures.
 pub fn limits_of_commands()
     ensures edits { MOST_EDITS ≡ 4096 }
     ensures reports { MOST_REPORTS ≡ 64 }
@@ -79,4 +82,6 @@ pub fn limits_of_commands()
     ensures first_jobs { MOST_FIRST_JOBS ≡ 1000000 }
     ensures arrivals { MOST_ARRIVALS ≡ 1000000 }
     ensures percent { MOST_PERCENT ≡ 1000 }
+    ensures window { MOST_WINDOW ≡ 1000000000 }
+    ensures marked { MOST_MARKED ≡ 120 }
 {}

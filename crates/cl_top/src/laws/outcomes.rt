@@ -11,11 +11,13 @@ ghost use Rattle.cl_top.specs.declared.command.OfModel.TheVariants.{Analyse};
 ghost use Rattle.cl_top.specs.declared.outcome.Outcome.{Outcome};
 ghost use Rattle.cl_top.specs.Command.{File, command_of};
 ghost use Rattle.cl_top.specs.Commands.Edit.{AreAccepted};
-ghost use Rattle.cl_top.specs.Commands.Replay.{IsOfRun};
+ghost use Rattle.cl_top.specs.Commands.Draw.{IsDrawn};
+ghost use Rattle.cl_top.specs.Commands.Replay.{IsReplayed};
 ghost use Rattle.cl_top.specs.Files.{Fetched, EachFile, WasFetched, told_fetch};
 ghost use Rattle.cl_top.specs.Headline.{IsSafePiece};
 ghost use Rattle.cl_top.specs.Migrated.{IsMigratedFile};
 ghost use Rattle.cl_top.specs.declared.status.TheConstants.{DONE};
+ghost use Rattle.cl_top.specs.OfTrace.{IsOfRun};
 ghost use Rattle.cl_top.specs.Outcome.{HasOutcome, SaysTheSame};
 ghost use Rattle.cl_top.specs.Reported.{IsAnalysisAfter};
 ghost use Rattle.cl_top.specs.Simulated.{IsSimulatedFile};
@@ -34,9 +36,13 @@ pub fn outcomes_say_the_same()
         → HasOutcome (command_of words) gave other → SaysTheSame (command_of words) one other }
 {}
 
-/// A run has one answer: its replay, or the first rule that it breaks.
+/// A run has one answer to each command on it: its replay, or its picture from one tick to another or the refusal of that
+/// window; or the first rule that it breaks.
 pub fn runs_are_answered_in_one_way()
-    ensures { (model : SystemModel) (run : Run) (one other : Outcome) → IsOfRun model run one → IsOfRun model run other → one ≡ other }
+    ensures replayed { (model : SystemModel) (run : Run) (one other : Outcome) → IsOfRun model (IsReplayed model) run one
+        → IsOfRun model (IsReplayed model) run other → one ≡ other }
+    ensures drawn { (model : SystemModel) → IsValid model → (run : Run) (from to : ℕ) (one other : Outcome) → IsOfRun model (IsDrawn from to model) run one
+        → IsOfRun model (IsDrawn from to model) run other → one ≡ other }
 {}
 
 /// A file that holds what `migrate` made of another is analysed as that one.

@@ -8,6 +8,7 @@ returns-in_default c =
     ∙ other_verb c.args.words.now c.in_ok-verb.verb.now c.in_ok-verb.ensures (record {
       simulate = c.in_default.not-simulate;
       replay = c.in_default.not-replay;
+      draw = c.in_default.not-draw;
       edit = c.in_default.not-edit;
       apply = c.in_default.not-apply;
       generate = c.in_default.not-generate;

@@ -31,6 +31,9 @@ returns-in-Some-Version-clause-comes g c =
 pub returns-in-Some-Simulate-clause-leaves : goal.returns-in-Some-Simulate-clause-leaves
 returns-in-Some-Simulate-clause-leaves g c = c.simulate_file.ensures.leaves c.args.steps.now
 
+pub returns-in-Some-Draw-clause-leaves : goal.returns-in-Some-Draw-clause-leaves
+returns-in-Some-Draw-clause-leaves g c = c.draw_files.ensures.leaves c.args.steps.now
+
 pub returns-in-Some-Apply-clause-leaves : goal.returns-in-Some-Apply-clause-leaves
 returns-in-Some-Apply-clause-leaves g c = c.apply_files.ensures.leaves c.args.steps.now
 

@@ -1,12 +1,15 @@
-use Rattle.std.proofs.Common.{ap, ◌∙◌, inr}
 use Rattle.std.proofs.lemmas.Result.{IfOk-weaker}
-use Rattle.std.specs.Prelude.{Err}
-use Rattle.cl_top.specs.Commands.Replay.{trace_refused}
+use Rattle.cl_top.specs.Commands.Replay.{IsReplayed}
+use Rattle.cl_top.proofs.OfTrace.{legal_follows, stop_follows, is_legal}
 use Rattle.cl_top.proofs.commands.replay.replayed.Goals as goal
 
-pub returns-in-Err-BadLine-clause-outcome : goal.returns-in-Err-BadLine-clause-outcome
-returns-in-Err-BadLine-clause-outcome g c = IfOk-weaker c.refused.result _ _ (λ outcome is. inr (record {
-  number = c.in-Err-BadLine.line;
-  bad = c.in-Err-BadLine.ensures.bad_line c.in-Err-BadLine.line (ap Err c.in-Err-BadLine.field-0-is);
-  printed = is ∙ ap trace_refused c.in-Err-BadLine.line-is;
-})) c.refused.ensures
+pub replay_legal-requires : goal.replay_legal-requires
+replay_legal-requires g c = is_legal c.args.model.now c.args.text.now _ c.in_ok-run.ensures c.in-Legal.run' c.in-Legal.is
+
+pub returns-in-Legal-clause-outcome : goal.returns-in-Legal-clause-outcome
+returns-in-Legal-clause-outcome g c = IfOk-weaker c.replay_legal.result _ _ (λ found is.
+    legal_follows c.args.model.now (IsReplayed c.args.model.now) c.args.text.now _ c.in_ok-run.ensures c.in-Legal.run' c.in-Legal.is found is) c.replay_legal.ensures.outcome
+
+pub returns-in-Stopped-clause-outcome : goal.returns-in-Stopped-clause-outcome
+returns-in-Stopped-clause-outcome g c =
+    stop_follows c.args.model.now (IsReplayed c.args.model.now) c.args.text.now _ c.in_ok-run.ensures c.in-Stopped.outcome c.in-Stopped.is

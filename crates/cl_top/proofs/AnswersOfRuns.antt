@@ -1,7 +1,8 @@
--- A run is answered in one way: by its replay, or by the first rule that it breaks.
+-- A run is answered in one way: by what comes of it where it is legal, or by the first rule that it breaks.
 use Rattle.std.proofs.Common.{◌≡◌, ◌≢◌, ℕ, inl, inr, Some, None, [], sym, ap, subst, ◌∙◌, arith}
 use Rattle.std.proofs.lemmas.Bool.{cases_lt}
 use Rattle.cl_model.specs.declared.model.SystemModel.{SystemModel}
+use Rattle.cl_model.specs.Validity.{IsValid}
 use Rattle.cl_runs.specs.TaskTiming.{System}
 use Rattle.cl_runs.specs.Run.{Run}
 use Rattle.cl_runs.specs.SystemOf.{system_of}
@@ -12,10 +13,14 @@ use Rattle.cl_check.specs.declared.run_fault.RunFault.{RunFault}
 use Rattle.cl_check.specs.declared.run_fault.RunFault.TheVariants.{Illegal, NoMemory}
 use Rattle.cl_check.specs.Legality.{first_fault, table_faults, IsFirstOnCore, BreaksSchedule, IsFirstBroken}
 use Rattle.cl_check.proofs.BrokenRules.{illegal}
+use Rattle.cl_draw.specs.Picture.{IsPictureOf}
+use Rattle.cl_draw.proofs.OnePicture.{one_picture}
 use Rattle.cl_replay.specs.Replay.{IsReplayOf}
 use Rattle.cl_replay.proofs.OneReplay.{one_replay}
 use Rattle.cl_top.specs.declared.outcome.Outcome.{Outcome}
-use Rattle.cl_top.specs.Commands.Replay.{trace_refused, trace_illegal, IsIllegal, IsOfRun}
+use Rattle.cl_top.specs.Commands.Draw.{IsDrawn}
+use Rattle.cl_top.specs.Commands.Replay.{IsReplayed}
+use Rattle.cl_top.specs.OfTrace.{trace_refused, trace_illegal, IsIllegal, IsOfRun}
 use Rattle.cl_top.proofs.ModelAnswers.{done_once}
 
 module _ (system : System) (run : Run) where
@@ -72,11 +77,22 @@ module _ (model : SystemModel) (run : Run) where
   breaks_none found legal is =
       absurd (illegal (system_of model) run (Illegal is.rule is.place is.tick) legal.in_form (inr is.broken) (not_memory is.rule is.place is.tick) legal)
 
-  pub of_run_once : (one other : Outcome) → IsOfRun model run one → IsOfRun model run other → one ≡ other
-  of_run_once one other (inl is) (inl also) = done_once (IsReplayOf model run) (one_replay model run) one other is.outcome also.outcome
-  of_run_once one other (inl is) (inr also) = breaks_none other is.legal also
-  of_run_once one other (inr is) (inl also) = breaks_none one also.legal is
-  of_run_once one other (inr is) (inr also) =
+  -- where a legal run has one outcome, each run has
+  pub of_run_once : (next : Run → Outcome → Type 0) → (IsLegal (system_of model) run → (one other : Outcome) → next run one → next run other → one ≡ other)
+      → (one other : Outcome) → IsOfRun model next run one → IsOfRun model next run other → one ≡ other
+  of_run_once next once one other (inl is) (inl also) = once is.legal one other is.outcome also.outcome
+  of_run_once next once one other (inl is) (inr also) = breaks_none other is.legal also
+  of_run_once next once one other (inr is) (inl also) = breaks_none one also.legal is
+  of_run_once next once one other (inr is) (inr also) =
       is.printed
       ∙ ap (answered model) (fault_once (system_of model) run (Illegal is.rule is.place is.tick) (Illegal also.rule also.place also.tick) is.broken also.broken)
       ∙ sym also.printed
+
+  pub replayed_once : IsLegal (system_of model) run → (one other : Outcome) → IsReplayed model run one → IsReplayed model run other → one ≡ other
+  replayed_once legal one other is also = done_once (IsReplayOf model run) (one_replay model run) one other is also
+
+  pub drawn_once : (from to : ℕ) → IsValid model → IsLegal (system_of model) run → (one other : Outcome) → IsDrawn from to model run one → IsDrawn from to model run other → one ≡ other
+  drawn_once from to valid legal one other (inl is) (inl also) = done_once (IsPictureOf model run from to) (one_picture model valid run legal from to) one other is.outcome also.outcome
+  drawn_once from to valid legal one other (inl is) (inr also) = absurd (also.outside is.window)
+  drawn_once from to valid legal one other (inr is) (inl also) = absurd (is.outside also.window)
+  drawn_once from to valid legal one other (inr is) (inr also) = is.printed ∙ sym also.printed

@@ -1,0 +1,82 @@
+-- What the text of a trace comes to, by what comes of a legal run.
+use Rattle.std.proofs.Common.{◌≡◌, ℕ, ◌≤◌, inl, inr, List, Some, [], length, get_or, None, sym, ap, ◌∙◌, subst, arith}
+use Rattle.std.specs.List.{slice_get}
+use Rattle.std.proofs.Math.ListN.{length-map}
+use Rattle.std.proofs.lemmas.List.{get_or_past}
+use Rattle.std.proofs.lemmas.Option.{slice_get_cases}
+use Rattle.cl_model.specs.declared.model.SystemModel.{SystemModel}
+use Rattle.cl_model.specs.declared.model.CoreDef.{CoreDef}
+use Rattle.cl_model.specs.declared.task.TaskDef.{TaskDef}
+use Rattle.cl_model.specs.ByNumber.{no_task, task_at}
+use Rattle.cl_model.specs.Named.{core_names}
+use Rattle.cl_runs.specs.Legal.{IsLegal}
+use Rattle.cl_runs.specs.Run.{Run}
+use Rattle.cl_runs.specs.SystemOf.{system_of}
+use Rattle.cl_trace.specs.Rules.{IsTraceOf}
+use Rattle.cl_top.specs.declared.outcome.Outcome.{Outcome}
+use Rattle.cl_top.specs.declared.commands.legal_run.LegalRun.{LegalRun}
+use Rattle.cl_top.specs.declared.commands.legal_run.LegalRun.TheVariants as legal_run
+use Rattle.cl_top.specs.Inner.LegalRuns.{NothingOf, IsCheckedAs, IsTracedAs}
+use Rattle.cl_top.specs.OfTrace.{IsOfTrace}
+use Rattle.cl_top.proofs.Comings.{IsOfContent}
+
+six_content : (found : Outcome) → found.status ≡ 6 → IsOfContent found.status
+six_content found six = inr (inl (omega (arith, six), omega (arith, six)))
+
+module _ (model : SystemModel) (next : Run → Outcome → Type 0) where
+  -- it is of content, where what comes of a legal run is
+  pub traced_content : ((run : Run) (found : Outcome) → next run found → IsOfContent found.status)
+      → (text : List ℕ) (found : Outcome) → IsOfTrace model next text found → IsOfContent found.status
+  traced_content content text found (inl has) = elim has.of_run [
+    | inl legal ↦ content has.run found legal.outcome
+    | inr illegal ↦ six_content found (ap (λ (o : Outcome). o.status) illegal.printed)
+  ]
+  traced_content content text found (inr bad) = six_content found (ap (λ (o : Outcome). o.status) bad.printed)
+
+  by_legal : (text : List ℕ) (run : Run) → IsTraceOf model text run × IsLegal (system_of model) run → (found : Outcome) → next run found → IsOfTrace model next text found
+  by_legal text run (trace, legal) found is = inl (record { run = run; trace = trace; of_run = inl (record { legal = legal; outcome = is }) })
+
+  by_stop : (text : List ℕ) (found : Outcome) → IsOfTrace model NothingOf text found → IsOfTrace model next text found
+  by_stop text found (inl has) = elim has.of_run [
+    | inl legal ↦ absurd legal.outcome
+    | inr illegal ↦ inl (record { run = has.run; trace = has.trace; of_run = inr illegal })
+  ]
+  by_stop text found (inr bad) = inr bad
+
+  module _ (text : List ℕ) (given : LegalRun) (traced : IsTracedAs model text given) where
+    -- what comes of the legal run of a text is the outcome of the text
+    pub legal_follows : (run : Run) → given ≡ legal_run.Legal run → (found : Outcome) → next run found → IsOfTrace model next text found
+    legal_follows run is found comes = by_legal text run (subst (IsTracedAs model text) is traced) found comes
+
+    -- and so is what stands in its place
+    pub stop_follows : (found : Outcome) → given ≡ legal_run.Stopped found → IsOfTrace model next text found
+    stop_follows found is = by_stop text found (subst (IsTracedAs model text) is traced)
+
+-- the run that a text gives is legal
+pub is_legal : (model : SystemModel) (text : List ℕ) (given : LegalRun) → IsTracedAs model text given → (run : Run) → given ≡ legal_run.Legal run → IsLegal (system_of model) run
+is_legal model text given traced run is = (subst (IsTracedAs model text) is traced).1
+
+-- what the checked run of a text gives is what the text gives
+pub checked_traced : (model : SystemModel) (text : List ℕ) (run : Run) → IsTraceOf model text run → (given : LegalRun) → IsCheckedAs model run given → IsTracedAs model text given
+checked_traced model text run trace (legal_run.Legal legal) (same, is) = (subst (λ (r : Run). IsTraceOf model text r) (sym same) trace, is)
+checked_traced model text run trace (legal_run.Stopped found) (inl legal) = absurd legal.outcome
+checked_traced model text run trace (legal_run.Stopped found) (inr illegal) = inl (record { run = run; trace = trace; of_run = inr illegal })
+
+-- the name of a task or a core past the last one
+none_at : {X : Type 0} (xs : List X) (i : ℕ) → None ≡ slice_get xs i → length xs ≤ i
+none_at xs i none = elim (slice_get_cases xs i).1 [
+  | inl found ↦ absurd (some_is_none found.0 (sym found.2 ∙ sym none))
+  | inr past ↦ past.0
+]
+  where
+    some_is_none : {X : Type 0} (x : X) → Some x ≡ None → ⊥
+    some_is_none x is = cc
+
+pub no_task_name : (model : SystemModel) (i : ℕ) → None ≡ slice_get model.tasks i → [] ≡ (task_at model i).name
+unfolding no_task
+no_task_name model i none = sym (ap (λ (task : TaskDef). task.name) (get_or_past model.tasks i no_task (none_at model.tasks i none)))
+
+pub no_core_name : (model : SystemModel) (i : ℕ) → None ≡ slice_get model.cores i → [] ≡ get_or (core_names model) i []
+no_core_name model i none =
+    let past : length (core_names model) ≤ i = omega (arith, none_at model.cores i none, length-map model.cores (λ (core : CoreDef). core.name)) in
+    sym (get_or_past (core_names model) i [] past)

@@ -1,0 +1,135 @@
+ghost use Rattle.std.specs.Prelude.{◌≡◌, [], slice_index_or, IfOk};
+ghost use Rattle.cl_model.specs.ByNumber.{task_at};
+ghost use Rattle.cl_model.specs.Named.{core_names};
+ghost use Rattle.cl_runs.specs.SystemOf.{system_of};
+ghost use Rattle.cl_runs.specs.Run.{IsInForm};
+ghost use Rattle.cl_top.specs.Inner.LegalRuns.{IsCheckedAs, IsTracedAs};
+ghost use Rattle.cl_top.specs.OfTrace.{trace_refused, rule_words, breaker, trace_illegal};
+
+use crate::{Outcome, status};
+use cl_check::{Rule, RunFault, check_run};
+use cl_model::ValidModel;
+use cl_run_data::RunData;
+use cl_text::Text;
+use cl_time::NoMemory;
+use cl_trace::{TraceFault, read_trace};
+use std::alloc::Global;
+
+/// What the text of a trace gives.
+#[derive(Drop)]
+pub(crate) enum LegalRun {
+    Legal(RunData),
+    /// There is none, and this is the outcome of the command.
+    Stopped(Outcome),
+}
+
+/// The legal run of the text of a trace, or the outcome of the first bad line of the text or of the first rule that its
+/// run breaks.
+pub(crate) fn legal_run(
+    alloc: Global,
+    model: &ValidModel,
+    text: &[u8],
+) -> Result<LegalRun, NoMemory>
+    ensures { IfOk result (IsTracedAs model.now text.now) }
+{
+    match read_trace(alloc, model, text) {
+        Ok(run) => checked_run(alloc, model, run),
+        Err(TraceFault::BadLine { line }) => Ok(LegalRun::Stopped(refused(alloc, line)?)),
+        Err(TraceFault::NoMemory) => Err(NoMemory),
+    }
+}
+
+/// A run where it is legal, or the outcome of the first rule that it breaks.
+fn checked_run(alloc: Global, model: &ValidModel, run: RunData) -> Result<LegalRun, NoMemory>
+    requires { IsInForm (system_of model.now) run }
+    ensures { IfOk result (IsCheckedAs model.now run) }
+{
+    match check_run(alloc, model, &run) {
+        Ok(()) => Ok(LegalRun::Legal(run)),
+        Err(RunFault::Illegal { rule, place, tick }) => {
+            Ok(LegalRun::Stopped(illegal(alloc, model, rule, place, tick)?))
+        }
+        Err(RunFault::NoMemory) => Err(NoMemory),
+    }
+}
+
+/// The first bad line of a text.
+fn refused(alloc: Global, number: u64) -> Result<Outcome, NoMemory>
+    ensures { IfOk result (λ outcome. outcome ≡ trace_refused number) }
+{
+    let mut text = Text::new(alloc);
+    text.put(b"trace refused line ")?;
+    text.put_number(number)?;
+    text.put(b"\n")?;
+    Ok(Outcome {
+        status: status::TRACE_REFUSED,
+        text,
+    })
+}
+
+/// The first rule that a run breaks.
+fn illegal(
+    alloc: Global,
+    model: &ValidModel,
+    rule: Rule,
+    place: u32,
+    tick: u64,
+) -> Result<Outcome, NoMemory>
+    ensures { IfOk result (λ outcome. outcome ≡ trace_illegal model.now rule place tick) }
+{
+    let mut text = Text::new(alloc);
+    text.put(b"trace illegal ")?;
+    text.put(rule_words(rule))?;
+    text.put(breaker(model, rule, place))?;
+    text.put(b" tick ")?;
+    text.put_number(tick)?;
+    text.put(b"\n")?;
+    Ok(Outcome {
+        status: status::TRACE_REFUSED,
+        text,
+    })
+}
+
+/// The words of a rule.
+fn rule_words(rule: Rule) -> &'static [u8]
+    ensures { result.now ≡ rule_words rule }
+{
+    match rule {
+        Rule::Arrival => b"arrival task ",
+        Rule::Release => b"release task ",
+        Rule::Time => b"time task ",
+        Rule::Missing => b"missing task ",
+        Rule::Schedule => b"schedule core ",
+    }
+}
+
+/// The name of the core, for its schedule, or of the task of a number, and nothing past the last one.
+fn breaker(model: &ValidModel, rule: Rule, place: u32) -> &[u8]
+    ensures { result.now ≡ breaker model.now rule place }
+{
+    if rule == Rule::Schedule {
+        core_name(model, place)
+    } else {
+        task_name(model, place)
+    }
+}
+
+/// The name of the core of a number, and nothing past the last one.
+fn core_name(model: &ValidModel, core: u32) -> &[u8]
+    ensures { result.now ≡ slice_index_or (core_names model.now) core [] }
+{
+    match model.plain().cores.at(core as usize) {
+        Some(core) => core.name.as_slice(),
+        None => b"",
+    }
+}
+
+/// The name of the task of a number, and nothing past the last one.
+fn task_name(model: &ValidModel, task: u32) -> &[u8]
+    ensures { result.now ≡ (task_at model.now task).name }
+{
+    match model.plain().tasks.at(task as usize) {
+        Some(task) => task.name.as_slice(),
+        None => b"",
+    }
+}
