@@ -7,13 +7,13 @@ use Rattle.cl_picture.specs.declared.item.Bar.{Bar}
 use Rattle.cl_picture.specs.declared.item.End.{End}
 use Rattle.cl_picture.specs.declared.window.Window.{Window}
 use Rattle.cl_picture.specs.Pieces.{Fixed, Element}
-use Rattle.cl_picture.specs.Shown.{end_of, last_end, IsBarOf}
+use Rattle.cl_picture.specs.Shown.{item_end, last_end, IsBarOf}
 use Rattle.cl_draw.specs.RowLines.{words_pieces, bar_head, bar_line}
 use Rattle.cl_draw.specs.Hovers.{last_item, hover_pieces, bar_shape}
 
-last_is : (item : Item) (items : List Item) → last_end (item ∷ items) ≡ Some (end_of (last_item item items))
+last_is : (item : Item) (items : List Item) → last_end (item ∷ items) ≡ Some (item_end (last_item item items))
 last_is item [] = refl
-last_is item (next ∷ items) = ap (λ (o : Option End). Some (unwrap_or o (end_of item))) (last_is next items)
+last_is item (next ∷ items) = ap (λ (o : Option End). Some (unwrap_or o (item_end item))) (last_is next items)
 
 -- a bar with what it says of some items
 abbrev says : (opening : List ℕ) → TaskDef → Bar → Item → Option End → Element

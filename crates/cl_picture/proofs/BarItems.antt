@@ -11,17 +11,17 @@ use Rattle.cl_picture.specs.declared.item.Bar.{Bar}
 use Rattle.cl_picture.specs.declared.item.End.{End}
 use Rattle.cl_picture.specs.Window.{high_of}
 use Rattle.cl_picture.specs.Bars.{counts, bar_of, joined_bar, bars_from, bars}
-use Rattle.cl_picture.specs.Shown.{end_of, last_end, IsBarOf, Group, AreBarsOf}
+use Rattle.cl_picture.specs.Shown.{item_end, last_end, IsBarOf, ItemGroup, AreBarsOf}
 use Rattle.cl_picture.proofs.BarSides.{choose, weaker}
 
-last_end-push : (items : List Item) (item : Item) → last_end (items ++ item ∷ []) ≡ Some (end_of item)
+last_end-push : (items : List Item) (item : Item) → last_end (items ++ item ∷ []) ≡ Some (item_end item)
 last_end-push [] item = refl
-last_end-push (one ∷ items) item = ap (λ (o : Option End). Some (unwrap_or o (end_of one))) (last_end-push items item)
+last_end-push (one ∷ items) item = ap (λ (o : Option End). Some (unwrap_or o (item_end one))) (last_end-push items item)
 
 none_some : {X : Type 0} (x : X) → None ≡ Some x → ⊥
 none_some x same = cc
 
-abbrev group_of : Item → List Item → Group
+abbrev group_of : Item → List Item → ItemGroup
 group_of first others = record { first = first; others = others }
 
 module _ (window : Window) where
@@ -77,11 +77,11 @@ module _ (window : Window) where
     each = only;
   }
     where
-      only : (k : ℕ) (g : Group) (b : Bar) → slice_get (group_of first others ∷ []) k ≡ Some g → slice_get (bar ∷ []) k ≡ Some b → IsBarOf window g.first g.others b
+      only : (k : ℕ) (g : ItemGroup) (b : Bar) → slice_get (group_of first others ∷ []) k ≡ Some g → slice_get (bar ∷ []) k ≡ Some b → IsBarOf window g.first g.others b
       only zero g b is_group is_bar =
           let same_group : group_of first others ≡ g = cc in
           let same_bar : bar ≡ b = cc in
-          subst (λ (h : Group). IsBarOf window h.first h.others b) same_group (subst (IsBarOf window first others) same_bar is)
+          subst (λ (h : ItemGroup). IsBarOf window h.first h.others b) same_group (subst (IsBarOf window first others) same_bar is)
       only (suc k) g b is_group is_bar = absurd (none_some b is_bar)
 
   groups_more : (first : Item) (others items : List Item) (bar : Bar) (bs : List Bar) → IsBarOf window first others bar → AreBarsOf window items bs
@@ -93,11 +93,11 @@ module _ (window : Window) where
     each = each;
   }
     where
-      each : (k : ℕ) (g : Group) (b : Bar) → slice_get (group_of first others ∷ are.groups) k ≡ Some g → slice_get (bar ∷ bs) k ≡ Some b → IsBarOf window g.first g.others b
+      each : (k : ℕ) (g : ItemGroup) (b : Bar) → slice_get (group_of first others ∷ are.groups) k ≡ Some g → slice_get (bar ∷ bs) k ≡ Some b → IsBarOf window g.first g.others b
       each zero g b is_group is_bar =
           let same_group : group_of first others ≡ g = cc in
           let same_bar : bar ≡ b = cc in
-          subst (λ (h : Group). IsBarOf window h.first h.others b) same_group (subst (IsBarOf window first others) same_bar is)
+          subst (λ (h : ItemGroup). IsBarOf window h.first h.others b) same_group (subst (IsBarOf window first others) same_bar is)
       each (suc k) g b is_group is_bar = are.each k g b is_group is_bar
 
   groups_from : (first : Item) (others : List Item) (bar : Bar) (items : List Item) → IsBarOf window first others bar

@@ -40,13 +40,13 @@ pub record IsUnder (bars : List Bar) (place : ℕ) : Type 0 where
 -- ---- which items bars show
 
 -- the end of an item
-abbrev pub end_of : Item → End
-end_of item = record { job = item.job; to = item.to }
+abbrev pub item_end : Item → End
+item_end item = record { job = item.job; to = item.to }
 
 -- the end of the last of some items
 abbrev pub last_end : List Item → Option End
 last_end [] = None
-last_end (item ∷ items) = Some (unwrap_or (last_end items) (end_of item))
+last_end (item ∷ items) = Some (unwrap_or (last_end items) (item_end item))
 
 -- a bar shows some items, the first of them and others: it names the first and the end of the last, ends in the unit in
 -- which each of them ends, and has the greatest of their kinds
@@ -58,16 +58,16 @@ pub record IsBarOf (window : Window) (first : Item) (others : List Item) (bar : 
   pub kind_of_one : Any (λ item. item.kind ≡ bar.kind) (first ∷ others)
 
 -- a first item and the others behind it
-pub record Group : Type 0 where
+pub record ItemGroup : Type 0 where
   pub first : Item
   pub others : List Item
 
-abbrev pub items_of : Group → List Item
-items_of group = group.first ∷ group.others
+abbrev pub all_items : ItemGroup → List Item
+all_items group = group.first ∷ group.others
 
 -- the bars show the items in order, each item once: the items are groups one after the other, and each bar is that of one
 pub record AreBarsOf (window : Window) (items : List Item) (bars : List Bar) : Type 0 where
-  pub groups : List Group
-  pub in_order : flat_map items_of groups ≡ items
+  pub groups : List ItemGroup
+  pub in_order : flat_map all_items groups ≡ items
   pub one_a_group : length bars ≡ length groups
-  pub each : (k : ℕ) (group : Group) (bar : Bar) → slice_get groups k ≡ Some group → slice_get bars k ≡ Some bar → IsBarOf window group.first group.others bar
+  pub each : (k : ℕ) (group : ItemGroup) (bar : Bar) → slice_get groups k ≡ Some group → slice_get bars k ≡ Some bar → IsBarOf window group.first group.others bar
