@@ -12,5 +12,5 @@ pub returns-in_ok-refused-in-Err-BadLine : goal.returns-in_ok-refused-in-Err-Bad
 returns-in_ok-refused-in-Err-BadLine c = inr (record {
   number = c.in-Err-BadLine.line;
   bad = c.in-Err-BadLine.ensures.bad_line c.in-Err-BadLine.line (ap Err c.in-Err-BadLine.field-0-is);
-  printed = c.in_ok-refused.ensures ∙ ap trace_refused c.in-Err-BadLine.line-is;
+  printed = c.in_ok-refused-in-Err-BadLine.ensures ∙ ap trace_refused c.in-Err-BadLine.line-is;
 })
