@@ -35,6 +35,7 @@ enum Next {
     Last(ValidModel),
 }
 
+#[tactic(auto, using(crate::proofs::LinesLeft::next_in_range))]
 fn apply_next(
     alloc: Global,
     model: ValidModel,
