@@ -1,6 +1,6 @@
 -- What the checks of an edit say of the edited model.
 use Rattle.std.proofs.Common.{◌≡◌, ℕ, ap, ◌∙◌, subst, sym}
-use Rattle.std.specs.Prelude.{Result, Ok, Err, OnOk, IfErr}
+use Rattle.std.specs.Prelude.{Result, Ok, Err, OnOk, IfErr, Option, Some, None, IfSome}
 use Rattle.cl_model.specs.declared.model.SystemModel.{SystemModel}
 use Rattle.cl_model.specs.declared.model_fault.ModelFault.{ModelFault}
 use Rattle.cl_model.specs.declared.model_fault.ModelFault.TheVariants.{Refused}
@@ -36,3 +36,9 @@ module _ (model : SystemModel) (edit : Edit) where
   -- what is made is what the edit makes
   pub made_as_meant : (changed : SystemModel) → edited model edit ≡ Ok changed → edited model edit ≡ Ok (with_edit model edit)
   made_as_meant changed is = is ∙ ap Ok (sym (made_is model edit changed is))
+
+  -- what an edit makes once more is the same model
+  pub made_again : (changed : SystemModel) (spare : Option SystemModel) → edited model edit ≡ Ok changed → IfSome spare (λ s. edited model edit ≡ Ok s)
+      → IfSome spare (λ s. s ≡ changed)
+  made_again changed None is again = tt
+  made_again changed (Some s) is again = sym (made_is model edit s again) ∙ made_is model edit changed is

@@ -1,5 +1,5 @@
 //! A session over a model that is edited.
-ghost use Rattle.std.specs.Prelude.{◌≡◌, ◌+◌, ◌*◌, ◌≤◌, length, Ok, Err, IfOk, IfErr, OnOk, OnErr};
+ghost use Rattle.std.specs.Prelude.{◌≡◌, ◌+◌, ◌*◌, ◌≤◌, length, Ok, Err, IfOk, IfErr, OnOk, OnErr, IfSome};
 ghost use Rattle.cl_model.specs.declared.model.SystemModel.{SystemModel};
 ghost use Rattle.cl_model.specs.declared.refusal.Refusal.{Refusal};
 ghost use Rattle.cl_edit.specs.Edited.{with_edit, edited};
@@ -169,8 +169,17 @@ impl Session {
     {
         let old = mem::replace(&mut self.model, model);
         self.findings = findings;
-        self.spare = change_valid(self.alloc, old, edit).ok();
+        self.spare = spare_of(self.alloc, old, edit);
     }
+}
+
+/// The edited model once more, where there is memory for it.
+fn spare_of(alloc: Global, old: ValidModel, edit: &Edit) -> Option<ValidModel>
+    requires in_range { IsEditInRange edit.now }
+    requires passes { edited old edit.now ≡ Ok (with_edit old edit.now) }
+    ensures { IfSome result (λ spare. edited old edit.now ≡ Ok spare) }
+{
+    change_valid(alloc, old, edit).ok()
 }
 
 /// Whether an edit may be made of a model.

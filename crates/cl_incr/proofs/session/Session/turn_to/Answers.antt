@@ -1,12 +1,27 @@
 use Rattle.std.proofs.Common.{◌≡◌, sym, ap, ◌∙◌, subst, Ok}
+use Rattle.std.specs.Prelude.{IfSome}
 use Rattle.cl_model.specs.declared.model.SystemModel.{SystemModel}
 use Rattle.cl_edit.specs.Edited.{with_edit, edited}
+use Rattle.cl_analyse.specs.Findings.{AreFindings}
 use Rattle.cl_incr.specs.SessionState.{SessionState}
-use Rattle.cl_incr.proofs.CheckedEdits.{made_as_meant}
+use Rattle.cl_incr.proofs.CheckedEdits.{made_as_meant, made_again}
 use Rattle.cl_incr.proofs.session.Session.turn_to.Goals as goal
 
-pub change_valid-requires-clause-passes : goal.change_valid-requires-clause-passes
-change_valid-requires-clause-passes c =
+pub spare_of-requires-clause-passes : goal.spare_of-requires-clause-passes
+spare_of-requires-clause-passes c =
     subst (λ (m : SystemModel). edited m c.args.edit.now ≡ Ok (with_edit m c.args.edit.now))
     (sym (c.replace-old.ensures.value ∙ ap (λ (s : SessionState). s.model) c.self.view_is))
     (made_as_meant c.args.self.now.model c.args.edit.now c.args.model c.requires.made)
+
+-- the findings are those of the model that is put, and what stands beside it is that model
+pub invariant_of-self : goal.invariant_of-self
+invariant_of-self c =
+    let old_is = c.replace-old.ensures.value ∙ ap (λ (s : SessionState). s.model) c.self.view_is in
+    let spare = c.spare_of.result in
+    record {
+      found = subst (λ (m : SystemModel). AreFindings m c.args.findings) (sym c.replace-old.ensures.after) c.requires.found;
+      spare =
+          subst (λ (m : SystemModel). IfSome spare (λ s. s ≡ m)) (sym c.replace-old.ensures.after)
+          (made_again c.args.self.now.model c.args.edit.now c.args.model spare c.requires.made
+          (subst (λ (m : SystemModel). IfSome spare (λ s. edited m c.args.edit.now ≡ Ok s)) old_is c.spare_of.ensures));
+    }
