@@ -35,7 +35,6 @@ enum Next {
     Last(ValidModel),
 }
 
-#[tactic(auto, using(crate::proofs::LinesLeft::next_in_range))]
 fn apply_next(
     alloc: Global,
     model: ValidModel,

@@ -1,4 +1,4 @@
-use Rattle.std.proofs.Common.{◌≡◌, ℕ, ◌+◌, List, Option, Some, None, refl, sym, ap, ◌∙◌, subst, arith}
+use Rattle.std.proofs.Common.{◌+◌, refl, sym, ap, ◌∙◌, subst}
 use Rattle.std.proofs.lemmas.Result.{IfOk-weaker}
 use Rattle.std.specs.Prelude.{Err}
 use Rattle.cl_model.specs.declared.model.SystemModel.{SystemModel}
@@ -6,7 +6,7 @@ use Rattle.cl_write.specs.Texts.{IsTextOf}
 use Rattle.cl_top.specs.declared.commands.apply.Next.{Next}
 use Rattle.cl_top.specs.declared.outcome.Outcome.{Outcome}
 use Rattle.cl_top.specs.Done.{IsDone}
-use Rattle.cl_top.specs.Commands.Edit.{edits_refused, behind}
+use Rattle.cl_top.specs.Commands.Edit.{edits_refused}
 use Rattle.cl_top.specs.Inner.Applying.{MakesNext, LinesApplyTo}
 use Rattle.cl_top.proofs.LinesLeft.{all_apply, next_shorter, one_applied, one_refused, none_left}
 use Rattle.cl_top.proofs.commands.apply.apply_lines.Goals as goal
