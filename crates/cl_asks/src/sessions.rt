@@ -63,15 +63,26 @@ fn of_copy<L: Ledger>(
     steps: &mut Steps<L>,
 ) -> Result<Text, NoMemory> {
     match Session::start(alloc, model, steps) {
-        Ok(session) => of_session(alloc, words, session, edits, steps),
+        Ok(session) => of_started(alloc, words, session, edits, steps),
         Err(no_memory) => Err(no_memory),
     }
+}
+
+fn of_started<L: Ledger>(
+    alloc: Global,
+    words: &Words,
+    session: Session,
+    edits: &[Edit],
+    steps: &mut Steps<L>,
+) -> Result<Text, NoMemory> {
+    let mut session = session;
+    of_session(alloc, words, &mut session, edits, steps)
 }
 
 fn of_session<L: Ledger>(
     alloc: Global,
     words: &Words,
-    session: Session,
+    session: &mut Session,
     edits: &[Edit],
     steps: &mut Steps<L>,
 ) -> Result<Text, NoMemory> {
@@ -83,11 +94,10 @@ fn of_session<L: Ledger>(
 
 fn edited<L: Ledger>(
     alloc: Global,
-    session: Session,
+    session: &mut Session,
     edits: &[Edit],
     steps: &mut Steps<L>,
 ) -> Result<Text, NoMemory> {
-    let mut session = session;
     for edit in edits {
         if !edit.in_range() {
             return said(alloc, "out of range");
@@ -101,17 +111,16 @@ fn edited<L: Ledger>(
 
 fn kept<L: Ledger>(
     alloc: Global,
-    session: Session,
+    session: &mut Session,
     edits: &[Edit],
     steps: &mut Steps<L>,
 ) -> Result<Text, NoMemory> {
-    let mut session = session;
     let mut text = Text::new(alloc);
     for edit in edits {
         if !edit.in_range() {
             return said(alloc, "out of range");
         }
-        put_kept(alloc, &mut text, &mut session, edit, steps)?;
+        put_kept(alloc, &mut text, session, edit, steps)?;
     }
     Ok(text)
 }
