@@ -205,3 +205,11 @@ least_of_swap model valid last one other is met_one met_other =
       | true ↦ λ e _. subst (λ i. HasMet new last i j) (sym (eqb-true t one e)) (met_one j)
       | false ↦ λ e also. subst (λ i. HasMet new last i j) (sym (eqb-true t other also)) (met_other j)
     ] refl touched)
+
+-- after a move
+pub least_of_move : (model : SystemModel) → IsValid model → (last : Option ℕ) (task core priority : ℕ) → (task < length model.tasks) × (core < length model.cores)
+    → ((j : ℕ) → HasMet (with_change model (change.Move task core priority)) last task j)
+    → (k : ℕ) → k < length (with_change model (change.Move task core priority)).tasks → is_clashing (with_change model (change.Move task core priority)) k ≡ true → IsAtMost last k
+least_of_move model valid last task core priority is met =
+    let c = change.Move task core priority in
+    least_clash model valid c is last (λ t j lt touched. subst (λ i. HasMet (with_change model c) last i j) (sym (eqb-true t task touched)) (met j))

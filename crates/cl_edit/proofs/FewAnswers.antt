@@ -34,7 +34,6 @@ use Rattle.cl_edit.specs.Inner.Paces.{pace_after, limit_checks, all_limits_on}
 use Rattle.cl_edit.proofs.FoundFacts.{kind_passes, kind_fails, kind_changed, none_is_first}
 use Rattle.cl_edit.proofs.LimitChecks.{deadline_left, kind_left}
 use Rattle.cl_model.specs.ByNumber.{stimulus_number}
-use Rattle.cl_edit.proofs.CheckedEdits.{passes_where_made, fault_where_refused}
 use Rattle.cl_edit.specs.Edited.{found, kind_found, all_names, task_number, edit_checks, with_edit}
 
 -- ---- results
@@ -51,10 +50,6 @@ passes_then result a b c none same h = rw (none, same) h
 pub passes_from : (result : Result (Unit {0}) ModelFault) (refusals : List Refusal) → Answers result refusals tt → Passes result refusals
 passes_from (Ok value) refusals h = h.0
 passes_from (Err fault) refusals h = h
-
--- ---- a changed copy
-
-pub ruleset copies = (passes_where_made, fault_where_refused)
 
 -- ---- what is found
 

@@ -39,11 +39,14 @@ pub mod BareModels
 pub mod TaskChecks
 pub mod TaskSetters
 pub mod FewAnswers
+pub mod MovedTasks
 pub mod OutpacedTasks
 pub mod ChangedTasks
 pub mod PairFacts
+pub mod FullCores
 pub mod LimitChecks
 pub mod KindLaws
 pub mod ClashFacts
+pub mod PlaceChecks
 pub mod PlaceLaws
 pub mod CheckedEdits

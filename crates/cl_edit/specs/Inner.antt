@@ -7,3 +7,4 @@ pub mod Parts
 pub mod Fields
 pub mod LineReads
 pub mod NewTasks
+pub mod Places

@@ -5,8 +5,8 @@ ghost use Rattle.cl_model.specs.Validity.{refusals_of};
 ghost use Rattle.cl_edit.specs.Edited.{edit_checks, with_edit};
 ghost use Rattle.cl_edit.specs.Ranges.{IsEditInRange};
 
-use crate::apply::apply_whole;
 use crate::check_lists::{check_dropped_chain, check_dropped_task, check_new_chain};
+use crate::check_move::check_move;
 use crate::check_new_task::check_new_task;
 use crate::check_sets::{
     check_access, check_deadline, check_range, check_stimulus, check_swap, check_whole,
@@ -14,16 +14,6 @@ use crate::check_sets::{
 use crate::edit::Edit;
 use cl_model::{ModelFault, ValidModel};
 use std::alloc::Global;
-
-/// Whether the changed model is valid, asked of a changed copy.
-#[tactic(auto, using(crate::proofs::FewAnswers::copies))]
-fn check_copy(alloc: Global, model: &ValidModel, edit: &Edit) -> Result<(), ModelFault>
-    requires { IsEditInRange edit.now }
-    ensures { Passes result (edit_checks model.now edit.now ++ refusals_of (with_edit model.now edit.now)) }
-{
-    let _changed = apply_whole(alloc, model, edit)?;
-    Ok(())
-}
 
 /// A report may be made of every valid model.
 fn check_nothing(model: &ValidModel) -> Result<(), ModelFault>
@@ -55,7 +45,11 @@ pub fn check_edit(alloc: Global, model: &ValidModel, edit: &Edit) -> Result<(), 
         Edit::Deadline { task, deadline } => check_deadline(model, task, *deadline),
         Edit::Swap { one, other } => check_swap(model, one, other),
         Edit::Kind { task, access } => check_access(model, task, *access),
-        Edit::Move { .. } => check_copy(alloc, model, edit),
+        Edit::Move {
+            task,
+            core,
+            priority,
+        } => check_move(model, task, core, *priority),
         Edit::AddTask(task) => check_new_task(alloc, model, task),
         Edit::DropTask { task } => check_dropped_task(model, task),
         Edit::AddChain(chain) => check_new_chain(model, chain),

@@ -13,7 +13,8 @@ use crate::check_new_task::task_key;
 use crate::pace::{Change, noted};
 use cl_model::{Code, Key, ModelFault, ValidModel};
 
-fn later_of(task: u32, other: u32) -> u32
+/// The one of two tasks that stands later.
+pub(crate) fn later_of(task: u32, other: u32) -> u32
     ensures { result ≡ (if nat_lt task other then other else task) }
 {
     if task < other { other } else { task }
@@ -52,7 +53,7 @@ impl Change {
     }
 
     /// The same of all pairs of a task with one of its core.
-    fn clash_beside(
+    pub(crate) fn clash_beside(
         self,
         model: &ValidModel,
         first: Option<u32>,

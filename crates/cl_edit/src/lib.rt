@@ -6,6 +6,7 @@ mod change;
 mod change_sets;
 mod check;
 mod check_lists;
+mod check_move;
 mod check_new_task;
 mod check_sets;
 mod clash;

@@ -1,0 +1,91 @@
+-- What is answered of a task that is moved, from its name and that of the core.
+use Rattle.std.proofs.Common.{◌≡◌, ℕ, ◌<◌, List, [], ◌∷◌, ◌++◌, length, get_or, set, take, refl, sym, ap, ◌∙◌, subst, arith}
+use Rattle.std.specs.Prelude.{Some, None, Result}
+use Rattle.std.proofs.lemmas.List.{append-nil, length-set, get_or-set_same, get_or-set_other, take-set-le}
+use Rattle.cl_model.specs.declared.model.CoreDef.{CoreDef}
+use Rattle.cl_model.specs.declared.model.SystemModel.{SystemModel}
+use Rattle.cl_model.specs.declared.model_fault.ModelFault.{ModelFault}
+use Rattle.cl_model.specs.declared.model_fault.ModelFault.TheVariants.{Refused}
+use Rattle.cl_model.specs.declared.place.Key.TheVariants as key
+use Rattle.cl_model.specs.declared.refusal.Code.TheVariants.{M29}
+use Rattle.cl_model.specs.declared.refusal.Refusal.{Refusal}
+use Rattle.cl_model.specs.declared.task.TaskDef.{TaskDef}
+use Rattle.cl_model.specs.Answers.{Passes, IsFaultOf}
+use Rattle.cl_model.specs.ByNumber.{no_core, no_task, task_at, core_at}
+use Rattle.cl_model.specs.Changes.{with_place}
+use Rattle.cl_model.specs.Named.{index_of, core_names, task_names, tasks_on}
+use Rattle.cl_model.specs.Refusals.{unless, in_order, first}
+use Rattle.cl_model.specs.ValidTasks.{task_key, core_check, priority_check, room_check, deadline_checks}
+use Rattle.cl_model.specs.Validity.{IsValid, refusals_of}
+use Rattle.cl_model.proofs.NamePlaces.{entry_found}
+use Rattle.cl_model.proofs.Refused.{first_with_more}
+use Rattle.cl_edit.specs.declared.pace.Change.TheVariants as change
+use Rattle.cl_edit.specs.Edited.{found, task_number}
+use Rattle.cl_edit.specs.FewChecks.{place_refusals}
+use Rattle.cl_edit.specs.Inner.Paces.{with_change}
+use Rattle.cl_edit.specs.Inner.Places.{place_checks}
+use Rattle.cl_edit.proofs.FewAnswers.{passes_then}
+use Rattle.cl_edit.proofs.FoundFacts.{missing_unknown}
+use Rattle.cl_edit.proofs.OutpacedTasks.{each_first}
+use Rattle.cl_edit.proofs.PlaceLaws.{move_needs_few}
+use Rattle.cl_edit.proofs.TaskChecks.{task_passes}
+
+move_left : (model : SystemModel) → IsValid model → (i : ℕ) (core : List ℕ) (priority : ℕ)
+    → refusals_of (with_place model i core priority) ≡ place_checks (with_place model i core priority) ++ deadline_checks (with_place model i core priority)
+move_left model valid i core priority =
+    move_needs_few model valid i core priority ∙ ap (λ deadlines. place_checks (with_place model i core priority) ++ deadlines) (append-nil (deadline_checks (with_place model i core priority)))
+
+-- where the task and the core are there, M31, M34 and M42 are left
+pub move_passes : (model : SystemModel) → IsValid model → (task core : List ℕ) (i c priority : ℕ) (result : Result (Unit {0}) ModelFault) → found task (task_names model) ≡ []
+    → i ≡ task_number model task → Some c ≡ index_of core (core_names model)
+    → Passes result (place_checks (with_change model (change.Move i c priority)) ++ deadline_checks (with_change model (change.Move i c priority)))
+    → Passes result (found task (task_names model) ++ refusals_of (with_place model (task_number model task) core priority))
+move_passes model valid task core i c priority result none is_i is_c passes =
+    let new = with_change model (change.Move i c priority) in
+    let named : (core_at model c).name ≡ core = entry_found (λ (x : CoreDef). x.name) model.cores core c no_core (sym is_c) in
+    passes_then result (found task (task_names model)) (place_checks new ++ deadline_checks new) (refusals_of (with_place model (task_number model task) core priority)) none
+    (ap (λ n. refusals_of (with_place model n core priority)) (sym is_i) ∙ ap (λ name. refusals_of (with_place model i name priority)) (sym named) ∙ move_left model valid i (core_at model c).name priority)
+    passes
+
+-- ---- a core that isn't there
+
+no_refusals : (core priority room : List Refusal) → core ≡ [] → priority ≡ [] → room ≡ [] → in_order (core ∷ priority ∷ room ∷ []) ≡ []
+no_refusals core priority room nc np nr = rw (nc, np, nr) refl
+
+module _ (model : SystemModel) (valid : IsValid model) (i : ℕ) (core : List ℕ) (priority : ℕ) (known : i < length model.tasks) where
+  moved : TaskDef
+  moved = record (task_at model i) { core = core; priority = priority }
+
+  -- the tasks before it stand as they did
+  passes_before : (j : ℕ) → j < i → place_refusals (with_place model i core priority) j (get_or (with_place model i core priority).tasks j no_task) ≡ []
+  unfolding moved
+  passes_before j lt =
+      let passes = task_passes model valid j (omega (arith, lt, known)) in
+      let task = task_at model j in
+      let checks : TaskDef → List TaskDef → List Refusal
+      = λ t earlier. in_order (core_check (core_names model) j t ∷ priority_check (tasks_on t.core earlier) j t ∷ room_check (length (tasks_on t.core earlier)) j ∷ []) in
+      ap (λ t. checks t (take j (set model.tasks i moved))) (get_or-set_other model.tasks i j moved no_task (λ same. omega (arith, same, lt)))
+      ∙ ap (checks task) (take-set-le j model.tasks i moved (omega (arith, lt)))
+      ∙ no_refusals (core_check (core_names model) j task) (priority_check (tasks_on task.core (take j model.tasks)) j task) (room_check (length (tasks_on task.core (take j model.tasks))) j)
+      passes.core passes.priority passes.room
+
+  unknown_first : index_of core (core_names model) ≡ None → first (place_checks (with_place model i core priority)) ≡ Some (record { code = M29; place = task_key i key.Core })
+  unfolding moved
+  unknown_first missing =
+      let new = with_place model i core priority in
+      let earlier = take i new.tasks in
+      each_first (place_refusals new) new.tasks i no_task (record { code = M29; place = task_key i key.Core }) (omega (arith, known, length-set model.tasks i moved)) passes_before
+      (ap (λ t. first (place_refusals new i t)) (get_or-set_same model.tasks i moved no_task known)
+      ∙ ap (λ b. first (unless b M29 (task_key i key.Core) ++ (priority_check (tasks_on core earlier) i moved ++ (room_check (length (tasks_on core earlier)) i ++ [])))) (missing_unknown core (core_names model) missing))
+
+-- where the task is there and the core isn't, M29 refuses
+pub move_nowhere : (model : SystemModel) → IsValid model → (task core : List ℕ) (i priority : ℕ) (fault : ModelFault) → found task (task_names model) ≡ []
+    → i ≡ task_number model task → i < length model.tasks → None ≡ index_of core (core_names model) → fault ≡ Refused (record { code = M29; place = task_key i key.Core })
+    → IsFaultOf (found task (task_names model) ++ refusals_of (with_place model (task_number model task) core priority)) fault
+move_nowhere model valid task core i priority fault none is within missing is_fault =
+    let new = with_place model i core priority in
+    let refusal : Refusal = record { code = M29; place = task_key i key.Core } in
+    subst (λ (f : ModelFault). IsFaultOf (found task (task_names model) ++ refusals_of (with_place model (task_number model task) core priority)) f) (sym is_fault)
+    (ap (λ l. first (l ++ refusals_of (with_place model (task_number model task) core priority))) none
+    ∙ ap (λ n. first (refusals_of (with_place model n core priority))) (sym is) ∙ ap first (move_left model valid i core priority)
+    ∙ first_with_more (place_checks new) (deadline_checks new) refusal (unknown_first model valid i core priority within (sym missing)))

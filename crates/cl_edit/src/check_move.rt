@@ -1,0 +1,122 @@
+//! Whether a task of a valid model may be moved to another core and priority, answered before any change.
+ghost use Rattle.std.specs.Prelude.{◌≡◌, ℕ, ◌<◌, ◌++◌, length, IfSome};
+ghost use Rattle.cl_model.specs.Answers.{Answers, Passes};
+ghost use Rattle.cl_model.specs.Changes.{with_place};
+ghost use Rattle.cl_model.specs.Named.{index_of, core_names, task_names};
+ghost use Rattle.cl_model.specs.ValidTasks as keys;
+ghost use Rattle.cl_model.specs.ValidTasks.{deadline_checks};
+ghost use Rattle.cl_model.specs.Validity.{IsValid, refusals_of};
+ghost use Rattle.cl_edit.specs.declared.pace.Change.TheVariants.{Move};
+ghost use Rattle.cl_edit.specs.Edited.{found, task_number};
+ghost use Rattle.cl_edit.specs.Inner.Paces.{with_change};
+ghost use Rattle.cl_edit.specs.Inner.Places.{place_checks, IsFirstBeyond, first_checks};
+
+use crate::check_new_task::task_key;
+use crate::check_sets::found_task;
+use crate::clash::later_of;
+use crate::find;
+use crate::pace::Change;
+use cl_model::{Code, Key, MOST_TASKS_OF_CORE, ModelFault, Name, ValidModel};
+
+/// The number of the core of that name. There is none exactly where no core has it.
+fn core_named(model: &ValidModel, name: &Name) -> Option<u32>
+    ensures number { result ≡ index_of name.now (core_names model.now) }
+    ensures within { IfSome result (λ core. core < length model.now.cores) }
+{
+    match find::found(model.plain().cores.as_slice(), name) {
+        Ok(number) => Some(number as u32),
+        Err(_) => None,
+    }
+}
+
+/// The first task that would find its core full if a task were moved there: the later of that task and the last of the core.
+fn first_beyond(model: &ValidModel, task: u32, core: u32) -> Option<u32>
+    requires valid { IsValid model.now }
+    requires task { task < length model.now.tasks }
+    requires core { core < length model.now.cores }
+    ensures { (priority : ℕ) → IsFirstBeyond (with_change model.now (Move task core priority)) result }
+{
+    let others = model.tasks_of_core(core);
+    if model.core_of(task) == core || others.len() < MOST_TASKS_OF_CORE {
+        return None;
+    }
+    match others.last() {
+        Some(last) => Some(later_of(task, *last)),
+        None => None,
+    }
+}
+
+/// M31 of a task.
+fn taken(task: u32) -> ModelFault
+    ensures { result ≡ ModelFault.Refused (record { code = Code.M31; place = keys.task_key task Key.Priority }) }
+{
+    ModelFault::refused(Code::M31, task_key(task as usize, Key::Priority))
+}
+
+/// M34 of a task.
+fn crowded(task: u32) -> ModelFault
+    ensures { result ≡ ModelFault.Refused (record { code = Code.M34; place = keys.task_key task Key.Core }) }
+{
+    ModelFault::refused(Code::M34, task_key(task as usize, Key::Core))
+}
+
+/// Checks M31 and M34, by the first task that each refuses.
+fn check_first(clash: Option<u32>, beyond: Option<u32>) -> Result<(), ModelFault>
+    ensures { Answers result (first_checks clash beyond) tt }
+{
+    match (clash, beyond) {
+        (None, None) => Ok(()),
+        (None, Some(last)) => Err(crowded(last)),
+        (Some(task), Some(last)) if last < task => Err(crowded(last)),
+        (Some(task), _) => Err(taken(task)),
+    }
+}
+
+/// Checks M31 and M34 for all tasks after a move to a core of the model.
+fn check_places(model: &ValidModel, task: u32, core: u32, priority: u64) -> Result<(), ModelFault>
+    requires valid { IsValid model.now }
+    requires task { task < length model.now.tasks }
+    requires core { core < length model.now.cores }
+    ensures { Answers result (place_checks (with_change model.now (Move task core priority))) tt }
+{
+    let change = Change::Move {
+        task,
+        core,
+        priority,
+    };
+    let clash = change.clash_beside(model, None, task, core);
+    check_first(clash, first_beyond(model, task, core))
+}
+
+/// Checks M31, M34 and M42 for all tasks after a move to a core of the model.
+#[tactic(auto, using(cl_model::proofs::FirstRefusals::faults))]
+fn check_moved(model: &ValidModel, task: u32, core: u32, priority: u64) -> Result<(), ModelFault>
+    requires valid { IsValid model.now }
+    requires task { task < length model.now.tasks }
+    requires core { core < length model.now.cores }
+    ensures { let changed = with_change model.now (Move task core priority) in Passes result (place_checks changed ++ deadline_checks changed) }
+{
+    check_places(model, task, core, priority)?;
+    let change = Change::Move {
+        task,
+        core,
+        priority,
+    };
+    change.check_deadlines(model)
+}
+
+/// Whether a task may be moved: E2 where no task has the name, M29 where no core has its name.
+pub(crate) fn check_move(
+    model: &ValidModel,
+    task: &Name,
+    core: &Name,
+    priority: u64,
+) -> Result<(), ModelFault>
+    ensures { Passes result (found task.now (task_names model.now) ++ refusals_of (with_place model.now (task_number model.now task.now) core.now priority)) }
+{
+    let task = found_task(model, task)?;
+    match core_named(model, core) {
+        Some(core) => check_moved(model, task, core, priority),
+        None => Err(ModelFault::refused(Code::M29, task_key(task as usize, Key::Core))),
+    }
+}
