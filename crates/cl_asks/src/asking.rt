@@ -94,7 +94,7 @@ fn of_valid<S: Shelf, L: Ledger>(
         "trace" | "check" | "forward" | "backward" | "measure" | "moments" => {
             of_trace(alloc, words, model, shelf)
         }
-        "session" | "kept" => sessions::session_lines(alloc, words, model, shelf, steps),
+        "session" | "kept" | "alike" => sessions::session_lines(alloc, words, model, shelf, steps),
         "exact" => exact_lengths::exact_lines(alloc, words, model, steps),
         "cut" => designs::cut(alloc, words, model, steps),
         "cuts" => designs::cuts(alloc, model, steps),

@@ -2,8 +2,9 @@
 ghost use Rattle.cl_edit.specs.Ranges.{IsEditInRange};
 
 use crate::asking::unfetched;
-use crate::words::{refused, said, unread, word};
-use cl_edit::{Edit, read_edits};
+use crate::words::{put_number, refused, said, unread, word};
+use cl_analyse::analyse;
+use cl_edit::{Edit, apply_edit, read_edits};
 use cl_incr::Session;
 use cl_io::{Shelf, Words};
 use cl_model::{ModelFault, SystemModel, ValidModel};
@@ -16,6 +17,8 @@ use std::sync::ledger::Ledger;
 /// `session MODEL EDITS`: the report of a copy of a model as a session has edited it, or the first edit's refusal.
 /// `kept MODEL EDITS`: what came of each edit in such a session, and whether one that was refused, or for which there was
 /// no memory, has left the model and its report as they were; later edits are made all the same.
+/// `alike MODEL EDITS`: how many edits such a session has taken and refused, and of how many it says otherwise than a
+/// fresh analysis of the model that `apply_edit` makes.
 pub(crate) fn session_lines<S: Shelf, L: Ledger>(
     alloc: Global,
     words: &Words,
@@ -88,6 +91,7 @@ fn of_session<L: Ledger>(
 ) -> Result<Text, NoMemory> {
     match word(words, 1) {
         "kept" => kept(alloc, session, edits, steps),
+        "alike" => alike(alloc, session, edits, steps),
         _ => edited(alloc, session, edits, steps),
     }
 }
@@ -164,4 +168,84 @@ fn put_refused(
     } else {
         text.put(b", changed\n")
     }
+}
+
+/// How many edits a session has taken and refused, and of how many it says otherwise than a fresh analysis.
+#[derive(Clone, Copy)]
+struct Tally {
+    taken: u64,
+    refused: u64,
+    apart: u64,
+}
+
+fn alike<L: Ledger>(
+    alloc: Global,
+    session: &mut Session,
+    edits: &[Edit],
+    steps: &mut Steps<L>,
+) -> Result<Text, NoMemory> {
+    let mut tally = Tally {
+        taken: 0,
+        refused: 0,
+        apart: 0,
+    };
+    for edit in edits {
+        if !edit.in_range() {
+            return said(alloc, "out of range");
+        }
+        tally = tallied(alloc, session, edit, steps, tally)?;
+    }
+    let mut text = Text::new(alloc);
+    put_number(&mut text, b"taken ", tally.taken)?;
+    put_number(&mut text, b" refused ", tally.refused)?;
+    put_number(&mut text, b" apart ", tally.apart)?;
+    text.put(b"\n")?;
+    Ok(text)
+}
+
+/// Makes an edit of a session, and of its model afresh, and counts what both come to.
+fn tallied<L: Ledger>(
+    alloc: Global,
+    session: &mut Session,
+    edit: &Edit,
+    steps: &mut Steps<L>,
+    tally: Tally,
+) -> Result<Tally, NoMemory>
+    requires { IsEditInRange edit.now }
+{
+    let fresh = answer_afresh(alloc, session.model(), edit, steps)?;
+    let (answer, is_taken) = match session.apply(edit, steps) {
+        Ok(()) => (report(alloc, session.model(), session.findings())?, true),
+        Err(fault) => (refused(alloc, fault)?, false),
+    };
+    let is_apart = answer.as_slice() != fresh.as_slice();
+    Ok(Tally {
+        taken: tally.taken.saturating_add(u64::from(is_taken)),
+        refused: tally.refused.saturating_add(u64::from(!is_taken)),
+        apart: tally.apart.saturating_add(u64::from(is_apart)),
+    })
+}
+
+/// The report of a fresh analysis of the model that an edit makes, or its refusal.
+fn answer_afresh<L: Ledger>(
+    alloc: Global,
+    model: &ValidModel,
+    edit: &Edit,
+    steps: &mut Steps<L>,
+) -> Result<Text, NoMemory>
+    requires { IsEditInRange edit.now }
+{
+    match apply_edit(alloc, model, edit) {
+        Ok(edited) => report_afresh(alloc, &edited, steps),
+        Err(fault) => refused(alloc, fault),
+    }
+}
+
+fn report_afresh<L: Ledger>(
+    alloc: Global,
+    model: &ValidModel,
+    steps: &mut Steps<L>,
+) -> Result<Text, NoMemory> {
+    let findings = analyse(alloc, model, steps)?;
+    report(alloc, model, &findings)
 }

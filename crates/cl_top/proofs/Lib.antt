@@ -24,6 +24,7 @@ pub mod Applied
 pub mod LinesLeft
 pub mod EditsOnce
 pub mod EditSteps
+pub mod LinesMade
 pub mod ReportLines
 pub mod AnswersOfRuns
 pub mod TracesOnce

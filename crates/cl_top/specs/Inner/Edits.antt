@@ -4,8 +4,10 @@ use Rattle.cl_model.specs.declared.model.SystemModel.{SystemModel}
 use Rattle.cl_model.specs.declared.refusal.Refusal.{Refusal}
 use Rattle.cl_edit.specs.declared.edit.Edit.{Edit}
 use Rattle.cl_edit.specs.Edited.{edited}
+use Rattle.cl_edit.specs.Listed.{OfLines}
 use Rattle.cl_incr.specs.Changed.{AsksForChanges}
-use Rattle.cl_top.specs.Commands.Edit.{IsWrittenBy}
+use Rattle.cl_top.specs.declared.outcome.Outcome.{Outcome}
+use Rattle.cl_top.specs.Commands.Edit.{IsWrittenBy, AreEditedTo}
 use Rattle.cl_top.specs.OfModel.{model_steps}
 use Rattle.cl_top.specs.Steps.{AskForChanges}
 
@@ -26,3 +28,7 @@ pub record HaveAsked (edits : List Edit) (model : SystemModel) (before after : �
   pub started : ℕ
   pub start : started ≤ before + model_steps (Ok model)
   pub ask : AskForChanges edits model started after
+
+-- the edits of these lines come to this
+abbrev pub LinesEditTo : SystemModel → (lines : List ℕ) → Outcome → Type 0
+LinesEditTo model lines found = OfLines lines (λ edits. AreEditedTo model edits found)

@@ -1,14 +1,15 @@
-ghost use Rattle.std.specs.Prelude.{◌≡◌, ℕ, ◌++◌, List, Ok, Err, All, IfOk, OnOk};
+ghost use Rattle.std.specs.Prelude.{◌≡◌, ℕ, ◌++◌, List, Ok, Err, IfOk, OnOk};
 ghost use Rattle.cl_model.specs.Place.{top};
 ghost use Rattle.cl_model.specs.declared.refusal.Refusal.{Refusal};
 ghost use Rattle.cl_edit.specs.Edited.{edited};
+ghost use Rattle.cl_edit.specs.Listed.{OfLines, ListsSome};
 ghost use Rattle.cl_edit.specs.Ranges.{IsEditInRange};
-ghost use Rattle.cl_top.specs.Commands.Edit.{edits_refused, behind, IsWrittenBy, AreEditedTo, IsOfEdits};
-ghost use Rattle.cl_top.specs.Inner.Edits.{IsMade, HasAsked, HaveAsked};
+ghost use Rattle.cl_top.specs.Commands.Edit.{edits_refused, behind, IsWrittenBy, IsOfEdits};
+ghost use Rattle.cl_top.specs.Inner.Edits.{IsMade, HasAsked, HaveAsked, LinesEditTo};
 ghost use Rattle.cl_top.specs.Steps.{AskForChanges, AreFewOfEdits};
 
 use crate::{Outcome, status};
-use cl_edit::{Edit, EditsFault, read_edits};
+use cl_edit::{Edit, EditLines, EditsFault};
 use cl_incr::Session;
 use cl_model::{Code, ModelFault, Place, Refusal, ValidModel};
 use cl_report::put_report;
@@ -30,45 +31,47 @@ pub(crate) fn edited<L: Ledger>(
     ensures outcome { IfOk result (IsOfEdits model text.now) }
     ensures steps { AreFewOfEdits (Ok model) text.now steps.old steps.new }
 {
-    match read_edits(alloc, text) {
-        Ok(edits) => report_edited(alloc, model, edits.as_slice(), steps),
+    match EditLines::of(alloc, text) {
+        Ok(lines) => report_edited(alloc, model, lines, steps),
         Err(EditsFault::BadLine { line }) => bad_line(alloc, line),
         Err(EditsFault::NoMemory) => Err(NoMemory),
     }
 }
 
-/// The reports of a model as it is edited.
+/// The reports of a model as it is edited by the edits of these lines.
 fn report_edited<L: Ledger>(
     alloc: Global,
     model: ValidModel,
-    edits: &[Edit],
+    lines: EditLines<'_>,
     steps: &mut Steps<L>,
 ) -> Result<Outcome, NoMemory>
-    requires { All IsEditInRange edits.now }
-    ensures outcome { IfOk result (AreEditedTo model edits.now) }
-    ensures steps { HaveAsked edits.now model steps.old steps.new }
+    requires { ListsSome lines }
+    ensures outcome { IfOk result (LinesEditTo model lines.entry) }
+    ensures steps { OfLines lines.entry (λ edits. HaveAsked edits model steps.old steps.new) }
 {
-    let session = Session::start(alloc, model, steps)?;
-    report_on(alloc, session, edits, steps)
+    let mut session = Session::start(alloc, model, steps)?;
+    report_lines(alloc, &mut session, lines, steps)
 }
 
-/// The reports of a session's model as it is edited.
-fn report_on<L: Ledger>(
+/// The reports of a session's model as it is edited by the edits of these lines, of which the first is line 2 of its text.
+fn report_lines<L: Ledger>(
     alloc: Global,
-    session: Session,
-    edits: &[Edit],
+    session: &mut Session,
+    lines: EditLines<'_>,
     steps: &mut Steps<L>,
 ) -> Result<Outcome, NoMemory>
-    requires { All IsEditInRange edits.now }
-    ensures outcome { IfOk result (AreEditedTo session.model edits.now) }
-    ensures steps { AskForChanges edits.now session.model steps.old steps.new }
+    requires { ListsSome lines }
+    ensures outcome { IfOk result (LinesEditTo session.old.model lines.entry) }
+    ensures steps { OfLines lines.entry (λ edits. AskForChanges edits session.old.model steps.old steps.new) }
 {
-    let mut session = session;
+    let mut lines = lines;
     let mut text = Text::new(alloc);
-    for (place, edit) in edits.iter().enumerate() {
-        if let Err(fault) = make_edit(&mut session, edit, &mut text, steps) {
-            return stopped(alloc, text, place as u64 + 2, fault);
+    let mut number = 2;
+    while let Some(edit) = lines.next(alloc)? {
+        if let Err(fault) = make_edit(session, edit, &mut text, steps) {
+            return stopped(alloc, text, number, fault);
         }
+        number += 1;
     }
     Ok(Outcome::done(text))
 }
@@ -76,18 +79,18 @@ fn report_on<L: Ledger>(
 /// Makes an edit of the session's model, and puts its report for a report line.
 fn make_edit<L: Ledger>(
     session: &mut Session,
-    edit: &Edit,
+    edit: Edit,
     text: &mut Text,
     steps: &mut Steps<L>,
 ) -> Result<(), ModelFault>
-    requires { IsEditInRange edit.now }
-    ensures made { OnOk result (IsMade session.old.model edit.now session.new.model text.old text.new) }
+    requires { IsEditInRange edit }
+    ensures made { OnOk result (IsMade session.old.model edit session.new.model text.old text.new) }
     ensures refused { (refusal : Refusal) → result ≡ Err (ModelFault.Refused refusal)
-        → (edited session.old.model edit.now ≡ Err refusal) × (text.new ≡ text.old) }
-    ensures steps { HasAsked session.old.model (edited session.old.model edit.now) steps.old steps.new }
+        → (edited session.old.model edit ≡ Err refusal) × (text.new ≡ text.old) }
+    ensures steps { HasAsked session.old.model (edited session.old.model edit) steps.old steps.new }
 {
-    session.apply(edit, steps)?;
-    put_reported(session, edit, text)?;
+    session.apply(&edit, steps)?;
+    put_reported(session, &edit, text)?;
     Ok(())
 }
 

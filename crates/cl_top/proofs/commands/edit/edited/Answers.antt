@@ -1,11 +1,22 @@
-use Rattle.std.proofs.Common.{ℕ, ap, ◌∙◌, inr}
+use Rattle.std.proofs.Common.{ℕ, ap, ◌∙◌, inl, inr}
 use Rattle.std.proofs.lemmas.Result.{IfOk-weaker}
 use Rattle.std.specs.Prelude.{Ok, Err}
 use Rattle.cl_model.specs.declared.refusal.Code.TheVariants.{E1}
 use Rattle.cl_model.specs.Place.{top}
 use Rattle.cl_top.specs.Commands.Edit.{edits_refused}
-use Rattle.cl_top.proofs.EditSteps.{few_of_none}
+use Rattle.cl_top.proofs.EditSteps.{few_of_text, few_of_none}
 use Rattle.cl_top.proofs.commands.edit.edited.Goals as goal
+
+pub returns-in-Ok-clause-outcome : goal.returns-in-Ok-clause-outcome
+returns-in-Ok-clause-outcome g c = IfOk-weaker c.report_edited.result _ _ (λ outcome is.
+    let listed = c.in-Ok.ensures.lines in
+    inl (record { edits = listed.0; are = listed.1; edited_to = is listed.0 listed.1.listed.lines listed.2 })) c.report_edited.ensures.outcome
+
+pub returns-in-Ok-clause-steps : goal.returns-in-Ok-clause-steps
+returns-in-Ok-clause-steps g c =
+    let listed = c.in-Ok.ensures.lines in
+    few_of_text c.args.model c.args.text.now listed.0 c.args.steps.now c.report_edited.new.steps listed.1
+    (c.report_edited.ensures.steps listed.0 listed.1.listed.lines listed.2)
 
 pub returns-in-Err-BadLine-clause-outcome : goal.returns-in-Err-BadLine-clause-outcome
 returns-in-Err-BadLine-clause-outcome g c = IfOk-weaker c.bad_line.result _ _ (λ outcome is. inr (record {
