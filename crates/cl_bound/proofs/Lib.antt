@@ -14,4 +14,5 @@ pub mod SettledChains
 pub mod ModelGroups
 pub mod LoopSums
 pub mod BoundSums
+pub mod FrontBounds
 pub mod NoGreater

@@ -1,5 +1,5 @@
 //! The bounds of a chain, and of a part of one. Times are in ticks.
-ghost use Rattle.std.specs.Prelude.{◌≡◌, ◌+◌, ◌^◌, ◌<◌, ◌≤◌, false, length, All};
+ghost use Rattle.std.specs.Prelude.{◌≡◌, ℕ, ◌+◌, ◌^◌, ◌<◌, ◌≤◌, false, length, take, slice_index, All};
 ghost use Rattle.cl_model.specs.declared.limits.TheConstants.{MOST_STEPS};
 ghost use Rattle.cl_model.specs.Groups.{groups_at, IsGroupOf};
 ghost use Rattle.cl_model.specs.Validity.{IsValid};
@@ -14,7 +14,7 @@ use crate::answer::TaskAnswer;
 use crate::bounds::Bounds;
 use crate::group_timing::GroupTiming;
 use crate::sums::Sums;
-use cl_model::{Group, List, ValidModel};
+use cl_model::{Group, List, MOST_STEPS, ValidModel};
 use cl_time::Steps;
 use std::sync::ledger::Ledger;
 
@@ -78,6 +78,37 @@ pub fn bound_of_groups<L: Ledger>(
     steps.tick();
     let first = timing_of(model, groups[0], settled);
     sums_along(model, first, &groups[1..], settled).bounds(&first)
+}
+
+/// The bounds on the reactions of the front parts of groups of a valid model that follow each other, the shortest part
+/// first: those that `bound_of_groups` finds, each from the sums of the one before it. Past the last group stands 0.
+///
+/// It counts one step, takes no memory, and is total. It looks at each group once.
+pub fn reaction_bounds<L: Ledger>(
+    model: &ValidModel,
+    groups: &[Group],
+    settled: &List<TaskAnswer>,
+    steps: &mut Steps<L>,
+) -> [u64; MOST_STEPS]
+    requires some { 0 < length groups.now }
+    requires few { length groups.now ≤ MOST_STEPS }
+    requires of_tasks { All (IsGroupOf model.now) groups.now }
+    requires answers { settled.now ≡ answers_of (system_of model.now) }
+    requires not_late { NoneIsLate settled.now groups.now }
+    ensures bounds { (place : ℕ) → place < length groups.now
+        → slice_index result place ≡ (bounds_of (system_of model.now) (take (place + 1) groups.now)).reaction }
+    ensures steps { steps.new ≡ steps.old + 1 }
+{
+    steps.tick();
+    let first = timing_of(model, groups[0], settled);
+    let mut sums = Sums::new(first);
+    let mut reactions = [0; MOST_STEPS];
+    reactions[0] = sums.bounds(&first).reaction();
+    for place in 1..groups.len() {
+        sums = sums.with(timing_of(model, groups[place], settled));
+        reactions[place] = sums.bounds(&first).reaction();
+    }
+    reactions
 }
 
 /// The bounds of a chain of a valid model, given by its number: `bound_of_groups` of its groups.

@@ -9,6 +9,6 @@ pub mod laws;
 mod sums;
 
 pub use answer::TaskAnswer;
-pub use bounding::{bound, bound_of_groups, timing_of};
+pub use bounding::{bound, bound_of_groups, reaction_bounds, timing_of};
 pub use bounds::Bounds;
 pub use group_timing::GroupTiming;

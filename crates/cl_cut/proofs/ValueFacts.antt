@@ -1,20 +1,17 @@
--- Values of groups past the limit, and the loop over the pieces that begin with a group.
-use Rattle.std.proofs.Common.{◌≡◌, ℕ, ◌+◌, ◌<◌, ◌≤◌, false, inl, inr, List, [], ◌∷◌, ◌++◌, length, refl, sym, subst, arith}
+-- Values of groups, and the loop over the pieces that begin with a group.
+use Rattle.std.proofs.Common.{◌≡◌, ℕ, ◌+◌, ◌-◌, ◌<◌, inl, inr, Option, Some, None, List, [], ◌∷◌, ◌++◌, length, take, take-take, drop, refl, sym, ap, subst, ◌∙◌, arith}
 use Rattle.std.specs.Prelude.{slice_index}
+use Rattle.std.specs.Option.{unwrap_or}
 use Rattle.std.proofs.lemmas.Bool.{cases_lt}
-use Rattle.std.proofs.lemmas.List.{get_or_append_left, length_push, get_or_push}
+use Rattle.std.proofs.lemmas.List.{get_or_append_left, length_push, get_or_push, length-take}
 use Rattle.cl_model.specs.declared.group.Group.{Group}
-use Rattle.cl_model.specs.declared.model.SystemModel.{SystemModel}
-use Rattle.cl_model.specs.Groups.{IsGroupOf}
 use Rattle.cl_runs.specs.TaskTiming.{System}
-use Rattle.cl_runs.specs.SystemOf.{system_of}
-use Rattle.cl_bound.specs.Answers.{answers_of, answer_at, is_late}
 use Rattle.cl_bound.specs.Bounds.{bounds_of}
+use Rattle.cl_exact.specs.ExactReactions.{IsReactionOf}
 use Rattle.cl_exact.specs.Hyperperiod.{IsPastLimit}
 use Rattle.cl_exact.proofs.ExactOnce.{hyperperiod_once}
 use Rattle.cl_cut.specs.Values.{part, IsValue}
-use Rattle.cl_cut.specs.Inner.Rears.{AreSettledGroups, AreValuesFrom}
-use Rattle.cl_cut.proofs.Parts.{length-part, All-part}
+use Rattle.cl_cut.specs.Inner.Rears.{AreValuesFrom}
 
 -- past the limit the value of groups is the bound
 pub past_value : (system : System) (groups : List Group) (value : ℕ) → IsPastLimit system groups → value ≡ (bounds_of system groups).reaction → IsValue system groups value
@@ -25,14 +22,27 @@ past_value system groups value past is = inr (record {
   value_is = is;
 })
 
--- a part of groups that can be cut can be cut too
-pub part_settled : (model : SystemModel) (groups : List Group) (first next : ℕ) → AreSettledGroups model groups → next ≤ length groups
-    → AreSettledGroups model (part groups first next)
-part_settled model groups first next are within = record {
-  few = omega (arith, are.few, length-part groups first next within, within);
-  of_tasks = All-part groups first next (IsGroupOf model) are.of_tasks;
-  not_late = All-part groups first next (λ (group : Group). is_late (answer_at (answers_of (system_of model)) group.task) ≡ false) are.not_late;
-}
+-- the value of groups, from their exact reaction where they have one within the limit, and the bound on their reaction
+pub found_value : (system : System) (groups : List Group) (exact : Option ℕ) (bound value : ℕ) → IsReactionOf system groups exact
+    → bound ≡ (bounds_of system groups).reaction → value ≡ unwrap_or exact bound → IsValue system groups value
+found_value system groups (Some reaction) bound value is bound_is value_is = inl (record {
+  timed = is.timed;
+  within = is.within;
+  exact = is.exact;
+  are_exact = is.are_exact;
+  value_is = value_is ∙ is.reaction_is;
+})
+found_value system groups None bound value none bound_is value_is = inr (record { not_exact = none; value_is = value_is ∙ bound_is })
+
+-- a front part of a rear part is the piece that begins with it
+pub front_is_piece : (groups : List Group) (first k : ℕ) → k < length (take (length groups - first) (drop first groups))
+    → take (k + 1) (take (length groups - first) (drop first groups)) ≡ part groups first (first + 1 + k)
+unfolding part
+front_is_piece groups first k below =
+    let many : k + 1 ≡ first + 1 + k - first = omega arith in
+    take-take (k + 1) (length groups - first) (drop first groups)
+    (omega (arith, below, length-take (length groups - first) (drop first groups)))
+    ∙ ap (λ n. take n (drop first groups)) many
 
 -- the values of the first pieces that begin with a group
 pub record AreFirstValues (system : System) (groups : List Group) (first count : ℕ) (values : List ℕ) : Type 0 where

@@ -1,7 +1,7 @@
 -- The moments of many job chains at once, hop after hop.
-use Rattle.std.proofs.Common.{◌≡◌, ℕ, suc, ◌+◌, ◌-◌, ◌*◌, ◌<◌, ◌≤◌, List, length, ap, arith}
+use Rattle.std.proofs.Common.{◌≡◌, ℕ, zero, suc, ◌+◌, ◌-◌, ◌*◌, ◌<◌, ◌≤◌, List, length, slice_index, ap, subst, ◌∙◌, arith}
 use Rattle.cl_exact.specs.declared.beat.Beat.{Beat}
-use Rattle.cl_exact.specs.Inner.Beats.{IsBeat, AreBeats, beat_in, read_at, first_reader}
+use Rattle.cl_exact.specs.Inner.Beats.{IsBeat, AreBeats, beat_in, read_at, first_reader, hop_to}
 use Rattle.cl_exact.specs.Inner.Blocks.{LATEST, AreRising, AreBefore, IsReadUpTo, IsEarlyBlock, AreWrites}
 use Rattle.cl_exact.proofs.BeatFacts.{reads_rise, reader_is, reader_least, reader_rises, reads_rise_back}
 use Rattle.cl_exact.proofs.ForwardJobs.{writes_rise, writes_soon}
@@ -59,3 +59,14 @@ pub steps_of_starts : (beat : Beat) (first i : ℕ) → 1 ≤ first → read_at 
 steps_of_starts beat first i some =
     let same : first + i - 1 ≡ first - 1 + i = omega arith in
     omega (arith, ap (λ job. job * beat.period) same)
+
+-- a hop from the writes of a group leads to those of the next
+pub hopped_writes : (beats : List Beat) (place first : ℕ) (moments hopped : List ℕ) → 1 ≤ place → length hopped ≡ length moments
+    → AreWrites beats (place - 1) first moments
+    → ((i : ℕ) → i < length moments → slice_index hopped i ≡ hop_to (beat_in beats place) (slice_index moments i))
+    → AreWrites beats place first hopped
+hopped_writes beats zero first moments hopped some as_many writes hops i below = absurd (omega (arith, some))
+hopped_writes beats (suc place) first moments hopped some as_many writes hops i below =
+    let there : i < length moments = omega (arith, below, as_many) in
+    let before : suc place - 1 ≡ place = omega arith in
+    hops i there ∙ ap (hop_to (beat_in beats (suc place))) (subst (λ n. AreWrites beats n first moments) before writes i there)

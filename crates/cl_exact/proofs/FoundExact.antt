@@ -55,7 +55,7 @@ module _ (system : System) (groups : List Group) (beats : List Beat) (of : AreBe
   start_up_is = same_sums (λ (group : Group). second_arrival system group + (timing_at system group.task).deadline) start_of groups beats no_group no_beat
       (sym of.as_many) (λ place within. omega (arith, second_is place within, (of.each place within).deadline))
 
-  some_group : 0 < length groups
+  pub some_group : 0 < length groups
   some_group = omega (arith, of.as_many, of.are_beats.some)
 
   -- ---- the reaction

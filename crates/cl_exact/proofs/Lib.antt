@@ -2,6 +2,7 @@ pub mod BeatFacts
 pub mod ForwardJobs
 pub mod BlockFacts
 pub mod ScanFacts
+pub mod FrontScans
 pub mod WalkFacts
 pub mod Meetings
 pub mod ModelBeats
@@ -29,3 +30,5 @@ pub mod RunExact
 pub mod SomeExact
 pub mod SameArrivals
 pub mod SteadyJobs
+pub mod FrontParts
+pub mod FrontReactions

@@ -44,3 +44,11 @@ found_within system groups beats limit None of is (ticks, least, past) = (
   λ found. absurd (true≢false (sym found)),
   λ within. absurd (within_or_past system groups within (is_past system groups beats ticks limit of least past is)),
 )
+
+pub within_or_past_is : (system : System) (groups : List Group) (beats : List Beat) (limit : ℕ) (found : Option ℕ) → AreBeatsOf system groups beats
+    → limit ≡ hyper_limit system groups
+    → (ticks : ℕ) × IsLeastMultiple beats ticks × MatchOption found (limit < ticks) (λ hyperperiod. (hyperperiod ≡ ticks) × (ticks ≤ limit))
+    → MatchOption found (IsPastLimit system groups) (λ _. IsWithinLimit system groups)
+within_or_past_is system groups beats limit (Some hyperperiod) of is (ticks, least, (same, within)) =
+    is_within system groups beats ticks hyperperiod limit of least same within is
+within_or_past_is system groups beats limit None of is (ticks, least, past) = is_past system groups beats ticks limit of least past is

@@ -94,15 +94,21 @@ module _ (beats : List Beat) (are : AreBeats beats) (ticks : ℕ) (multiple : Is
     at_least_once : (n : ℕ) → n ≤ n * turns_of 0
     at_least_once n = let more : 1 * n ≤ turns_of 0 * n = mul-le-mul_right n some_turns in omega arith
 
+    -- what is at least each reaction over one multiple is at least all
+    pub above_over_all : (first reaction : ℕ) → IsComplete beats first
+        → ((job : ℕ) → first ≤ job → job < first + turns_of 0 → reaction_of beats job ≤ reaction)
+        → (job : ℕ) → IsComplete beats job → reaction_of beats job ≤ reaction
+    above_over_all first reaction complete above job job_complete =
+        let base : ℕ = job + first * turns_of 0 in
+        let up : first ≤ base = omega (arith, at_least_once first) in
+        let same = same_turn first base up complete ∙ reaction_repeats job first job_complete in
+        omega (arith, same, above (first + (base - first) % turns_of 0) (omega arith) (omega (arith, rest_below (base - first))))
+
     -- the greatest over one multiple is the greatest over all
     pub greatest_over_all : (first : ℕ) (greatest : Greatest) → IsComplete beats first → IsGreatestOf beats first (turns_of 0) greatest
         → IsGreatestReaction beats (turns_of 0) greatest.reaction
     greatest_over_all first greatest complete is = record {
-      above_all = λ job job_complete.
-          let base : ℕ = job + first * turns_of 0 in
-          let up : first ≤ base = omega (arith, at_least_once first) in
-          let same = same_turn first base up complete ∙ reaction_repeats job first job_complete in
-          omega (arith, same, is.above_all (first + (base - first) % turns_of 0) (omega arith) (omega (arith, rest_below (base - first))));
+      above_all = above_over_all first greatest.reaction complete is.above_all;
       everywhere = λ job job_complete none.
           let base : ℕ = greatest.job + job * turns_of 0 in
           let up : job ≤ base = omega (arith, at_least_once job) in

@@ -5,3 +5,4 @@ pub mod Blocks
 pub mod Scans
 pub mod Walks
 pub mod Found
+pub mod Fronts

@@ -1,6 +1,7 @@
 pub mod TimedPeriodic
 pub mod Hyperperiod
 pub mod ExactLengths
+pub mod ExactReactions
 pub mod Ties
 pub mod SameArrivals
 pub mod Turns

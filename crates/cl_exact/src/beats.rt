@@ -1,7 +1,7 @@
 //! The beats of groups of a model. Times are in ticks.
-ghost use Rattle.std.specs.Prelude.{◌≡◌, true, ◌<◌, ◌≤◌, length, All};
+ghost use Rattle.std.specs.Prelude.{◌≡◌, true, false, ◌<◌, ◌≤◌, length, take, All};
 ghost use Rattle.cl_model.specs.declared.limits.TheConstants.{MOST_STEPS};
-ghost use Rattle.cl_model.specs.Groups.{IsGroupOf};
+ghost use Rattle.cl_model.specs.Groups.{IsGroupOf, group_at};
 ghost use Rattle.cl_model.specs.Validity.{IsValid};
 ghost use Rattle.cl_model.specs.Kinds.{is_timed, is_periodic};
 ghost use Rattle.cl_runs.specs.TaskTiming.{timing_at};
@@ -21,6 +21,22 @@ fn is_timed_periodic_task(model: &ValidModel, task: u32) -> bool
     let timed = model.task(task).access.is_timed();
     let periodic = model.stimulus_of(task).is_periodic();
     timed && periodic
+}
+
+/// How many groups stand before the first whose task isn't timed and periodic.
+pub(crate) fn timed_periodic_count(model: &ValidModel, groups: &[Group]) -> usize
+    requires { All (IsGroupOf model.now) groups.now }
+    ensures within { result ≤ length groups.now }
+    ensures timed_periodic { are_timed_periodic (system_of model.now) (take result groups.now) ≡ true }
+    ensures first_other { result < length groups.now
+        → is_timed_periodic_task (timing_at (system_of model.now) (group_at groups.now result).task) ≡ false }
+{
+    for place in 0..groups.len() {
+        if !is_timed_periodic_task(model, groups[place].task) {
+            return place;
+        }
+    }
+    groups.len()
 }
 
 /// Whether the tasks of these groups are all timed and periodic.

@@ -1,7 +1,7 @@
 //! The job chains of many first jobs at once. Times are in ticks.
-ghost use Rattle.std.specs.Prelude.{◌≡◌, ◌+◌, ◌*◌, ◌^◌, ◌≤◌, ◌<◌, length};
+ghost use Rattle.std.specs.Prelude.{◌+◌, ◌*◌, ◌^◌, ◌≤◌, ◌<◌, length};
 ghost use Rattle.cl_exact.specs.Inner.Beats.{AreBeats};
-ghost use Rattle.cl_exact.specs.Inner.Blocks.{AreSteps, AreStarts, AreEnds, IsEarlyBlock};
+ghost use Rattle.cl_exact.specs.Inner.Blocks.{AreSteps, AreWrites, AreStarts, AreEnds, IsEarlyBlock};
 
 use crate::beat::Beat;
 use crate::hop::hop;
@@ -27,14 +27,23 @@ pub(crate) fn fill_starts(beats: &[Beat], first: u64, starts: &mut [u64])
     fill_steps(beat.read(first - 1), beat.period, starts);
 }
 
-/// The moments to which they last: the writes of their last jobs.
+/// The writes of the first jobs from `first` on.
+pub(crate) fn fill_writes(beats: &[Beat], first: u64, writes: &mut [u64])
+    requires beats { AreBeats beats.now }
+    requires early { IsEarlyBlock beats.now first (length writes.old) }
+    ensures { AreWrites beats.now 0 first writes.new }
+{
+    let beat = &beats[0];
+    fill_steps(beat.write(first), beat.period, writes);
+}
+
+/// The moments to which the chains last: the writes of their last jobs.
 pub(crate) fn fill_ends(beats: &[Beat], first: u64, ends: &mut [u64])
     requires beats { AreBeats beats.now }
     requires early { IsEarlyBlock beats.now first (length ends.old) }
     ensures { AreEnds beats.now first ends.new }
 {
-    let beat = &beats[0];
-    fill_steps(beat.write(first), beat.period, ends);
+    fill_writes(beats, first, ends);
     for i in 1..beats.len() {
         hop(ends, &beats[i]);
     }

@@ -130,13 +130,31 @@ fn first_by_meetings(
     None
 }
 
+/// Whether a group is much slower than another.
+fn is_much_slower(beat: &Beat, other: &Beat) -> bool {
+    beat.period / MUCH_SLOWER >= other.period
+}
+
+/// How many groups stand before the first that is much slower than the first group.
+pub(crate) fn even_count(beats: &[Beat]) -> usize
+    requires { AreBeats beats.now }
+    ensures { result ≤ length beats.now }
+{
+    for place in 0..beats.len() {
+        if is_much_slower(&beats[place], &beats[0]) {
+            return place;
+        }
+    }
+    beats.len()
+}
+
 /// The place of a group that is much slower than the first, where there is one.
 fn much_slower(beats: &[Beat]) -> Option<usize>
     requires { AreBeats beats.now }
     ensures { IfSome result (λ place. place < length beats.now) }
 {
     let place = slowest(beats);
-    if beats[place].period / MUCH_SLOWER >= beats[0].period {
+    if is_much_slower(&beats[place], &beats[0]) {
         Some(place)
     } else {
         None

@@ -9,7 +9,7 @@ use crate::block::{fill_ends, fill_starts};
 use cl_lanes::{first_gap, greatest_gap};
 
 /// How many first jobs are looked at together.
-const BLOCK: u64 = 1_024;
+pub(crate) const BLOCK: u64 = 1_024;
 
 /// The greatest reaction of some first jobs, and the first of them that has it.
 #[derive(Clone, Copy)]

@@ -1,24 +1,21 @@
-use Rattle.std.proofs.Common.{◌≡◌, ◌+◌, ◌-◌, arith, sym, subst}
+use Rattle.std.proofs.Common.{◌+◌, ◌-◌, length, take, drop, None, subst}
+use Rattle.std.specs.Prelude.{slice_index, slice_index_or}
 use Rattle.cl_runs.specs.SystemOf.{system_of}
-use Rattle.cl_cut.specs.Values.{part, IsValue}
-use Rattle.cl_cut.proofs.ValueFacts.{AreFirstValues, one_more_value}
+use Rattle.cl_cut.specs.Values.{IsValue}
+use Rattle.cl_cut.proofs.ValueFacts.{found_value, front_is_piece, one_more_value}
 use Rattle.cl_cut.proofs.values.values_from.Goals as goal
 
-pub loop-last-preserved : goal.loop-last-preserved
-unfolding part
-loop-last-preserved g c =
-    let first = c.args.first in
-    let last = c.loop-last.last in
-    let groups = c.args.groups.now in
+pub loop-place-preserved : goal.loop-place-preserved
+loop-place-preserved g c =
     let system = system_of c.args.model.now in
-    let from = c.loop-last.invariant.from in
-    let count : last - first + 1 ≡ last + 1 - first = omega (arith, from) in
-    let end : first + 1 + (last - first) ≡ last + 1 = omega (arith, from) in
-    let value : IsValue system (part groups first (last + 1)) c.value_of.result = c.value_of.ensures in
-    record {
-      from = omega (arith, from);
-      values = subst (λ n. AreFirstValues system groups first n c.push.new.self.items) count
-          (one_more_value system groups first c.loop-last.values.items c.push.new.self.items (last - first) c.value_of.result
-          c.loop-last.invariant.values (subst (λ n. IsValue system (part groups first n) c.value_of.result) (sym end) value)
-          c.in_ok-push.ensures.items);
-    }
+    let groups = c.args.groups.now in
+    let first = c.args.first in
+    let place = c.loop-place.place in
+    let value = c.unwrap_or.result in
+    let front = take (place + 1) (take (length groups - first) (drop first groups)) in
+    let is_value : IsValue system front value =
+    found_value system front (slice_index_or c.exact_reactions-exact.result place None)
+    (slice_index c.reaction_bounds-bounds.result place) value (c.exact_reactions-exact.ensures.reactions place c.loop-place-test.true)
+    (c.reaction_bounds-bounds.ensures.bounds place c.loop-place-test.true) c.unwrap_or.ensures in
+    one_more_value system groups first c.loop-place.values.items c.push.new.self.items place value c.loop-place.invariant
+    (subst (λ list. IsValue system list value) (front_is_piece groups first place c.loop-place-test.true) is_value) c.in_ok-push.ensures.items

@@ -10,4 +10,4 @@ hop-requires-clause-rising c =
 pub hop-requires-clause-early : goal.hop-requires-clause-early
 hop-requires-clause-early c =
     are_before c.args.beats.now c.requires.beats (c.loop-i.i - 1) c.args.first c.loop-i.ends (omega (arith, c.loop-i-test.true)) c.loop-i.invariant.writes
-    (subst (IsEarlyBlock c.args.beats.now c.args.first) (sym (c.loop-i.auto.ends ∙ c.fill_steps.auto.moments)) c.requires.early)
+    (subst (IsEarlyBlock c.args.beats.now c.args.first) (sym (c.loop-i.auto.ends ∙ c.fill_writes.auto.writes)) c.requires.early)
