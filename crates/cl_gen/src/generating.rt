@@ -58,7 +58,7 @@ fn all_cores(alloc: Global, count: u64) -> Result<List<CoreDef>, NoMemory>
 {
     let mut cores = List::new(alloc);
     for number in 0..count {
-        let name = numbered(alloc, "c", number)?;
+        let name = numbered("c", number);
         cores.push(CoreDef { name })?;
     }
     Ok(cores)
@@ -80,7 +80,7 @@ fn stimulus(alloc: Global, number: u64) -> Result<StimulusDef, NoMemory>
     ensures { IfOk result (λ stimulus. stimulus ≡ generated_stimulus number) }
 {
     Ok(StimulusDef {
-        name: numbered(alloc, "p", number)?,
+        name: numbered("p", number),
         kind: StimulusKind::Periodic {
             period: PERIODS[number as usize],
             offset: 0,
@@ -94,7 +94,7 @@ fn all_labels(alloc: Global, count: u64) -> Result<List<LabelDef>, NoMemory>
 {
     let mut labels = List::new(alloc);
     for number in 0..count {
-        let name = label_name(alloc, number)?;
+        let name = label_name(number);
         labels.push(LabelDef { name })?;
     }
     Ok(labels)
@@ -117,7 +117,7 @@ fn chain(alloc: Global, number: u64) -> Result<ChainDef, NoMemory>
     ensures { IfOk result (λ chain. chain ≡ generated_chain number) }
 {
     Ok(ChainDef {
-        name: numbered(alloc, "k", 4 * number)?,
+        name: numbered("k", 4 * number),
         runnables: steps(alloc, 8 * number)?,
         labels: hops(alloc, 8 * number)?,
     })
@@ -130,7 +130,7 @@ fn steps(alloc: Global, first: u64) -> Result<List<Name>, NoMemory>
 {
     let mut names = List::new(alloc);
     for step in 0..8 {
-        names.push(runnable_name(alloc, first + step)?)?;
+        names.push(runnable_name(first + step))?;
     }
     Ok(names)
 }
@@ -142,7 +142,7 @@ fn hops(alloc: Global, first: u64) -> Result<List<Name>, NoMemory>
 {
     let mut names = List::new(alloc);
     for hop in 0..7 {
-        names.push(label_name(alloc, first + hop)?)?;
+        names.push(label_name(first + hop))?;
     }
     Ok(names)
 }
@@ -169,9 +169,9 @@ fn draw_task(alloc: Global, draws: &mut Draws, number: u64) -> Result<TaskDef, N
     let stimulus = draws.draw(0, 8);
     let access = access_of(draws.draw(0, 2));
     Ok(TaskDef {
-        name: numbered(alloc, "t", number)?,
-        core: numbered(alloc, "c", number / 16)?,
-        stimulus: numbered(alloc, "p", stimulus)?,
+        name: numbered("t", number),
+        core: numbered("c", number / 16),
+        stimulus: numbered("p", stimulus),
         priority: (8 - stimulus) * 16 + (15 - number % 16),
         access,
         deadline: None,
@@ -228,7 +228,7 @@ fn draw_runnable(
     let greatest = draws.draw(1, period / 32);
     let least = draws.draw(1, greatest);
     Ok(RunnableDef {
-        name: runnable_name(alloc, number)?,
+        name: runnable_name(number),
         least,
         greatest,
         whole: false,

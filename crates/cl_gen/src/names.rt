@@ -4,49 +4,54 @@ ghost use Rattle.std.specs.List.{list_all};
 ghost use Rattle.cl_model.specs.Name.{is_name_byte};
 ghost use Rattle.cl_gen.specs.Generated.{numbered, label_name, runnable_name, labels_read};
 
-use cl_model::{List, Name};
+use arrayvec::ArrayString;
+use cl_model::{LONGEST_NAME, List, Name};
 use cl_time::NoMemory;
+use itoa::Buffer;
 use std::alloc::Global;
 
 /// The name of a number between two words of letters.
-fn spelled(alloc: Global, letter: &str, number: u64, rest: &str) -> Result<Name, NoMemory>
+fn spelled(letter: &str, number: u64, rest: &str) -> Name
     requires letter { list_all is_name_byte letter.now ≡ true }
     requires rest { list_all is_name_byte rest.now ≡ true }
     requires short { length letter.now + length rest.now ≤ 2 }
-    ensures { IfOk result (λ name. name ≡ letter.now ++ decimal number ++ rest.now) }
+    ensures { result ≡ letter.now ++ decimal number ++ rest.now }
 {
-    let text = format!(in alloc; "{letter}{number}{rest}")?;
-    let Some(name) = Name::read(text.as_bytes()) else {
+    let mut text = ArrayString::<LONGEST_NAME>::new();
+    text.push_str(letter);
+    text.push_str(Buffer::new().format(number));
+    text.push_str(rest);
+    let Some(name) = Name::read(text.as_str().as_bytes()) else {
         unreachable!();
     };
-    Ok(name)
+    name
 }
 
 /// The name of a letter and a number.
-pub(crate) fn numbered(alloc: Global, letter: &str, number: u64) -> Result<Name, NoMemory>
+pub(crate) fn numbered(letter: &str, number: u64) -> Name
     requires letter { list_all is_name_byte letter.now ≡ true }
     requires short { length letter.now ≤ 2 }
-    ensures { IfOk result (λ name. name ≡ numbered letter.now number) }
+    ensures { result ≡ numbered letter.now number }
 {
-    spelled(alloc, letter, number, "")
+    spelled(letter, number, "")
 }
 
 /// The name of a label, by its number.
 #[tactic(auto, unfolding(crate::specs::Generated::label_name))]
-pub(crate) fn label_name(alloc: Global, label: u64) -> Result<Name, NoMemory>
-    ensures { IfOk result (λ name. name ≡ label_name label) }
+pub(crate) fn label_name(label: u64) -> Name
+    ensures { result ≡ label_name label }
 {
     let letter = if label % 2 == 0 { "m" } else { "l" };
-    numbered(alloc, letter, label / 2)
+    numbered(letter, label / 2)
 }
 
 /// The name of a runnable, by its number.
 #[tactic(auto, unfolding(crate::specs::Generated::runnable_name))]
-pub(crate) fn runnable_name(alloc: Global, runnable: u64) -> Result<Name, NoMemory>
-    ensures { IfOk result (λ name. name ≡ runnable_name runnable) }
+pub(crate) fn runnable_name(runnable: u64) -> Name
+    ensures { result ≡ runnable_name runnable }
 {
     let letter = if runnable % 2 == 0 { "a" } else { "b" };
-    spelled(alloc, "t", runnable / 2, letter)
+    spelled("t", runnable / 2, letter)
 }
 
 /// The label that a runnable reads, if there is one.
@@ -55,7 +60,7 @@ pub(crate) fn labels_read(alloc: Global, runnable: u64) -> Result<List<Name>, No
 {
     let mut labels = List::new(alloc);
     if runnable > 0 {
-        labels.push(label_name(alloc, runnable - 1)?)?;
+        labels.push(label_name(runnable - 1))?;
     }
     Ok(labels)
 }
@@ -65,6 +70,6 @@ pub(crate) fn labels_written(alloc: Global, runnable: u64) -> Result<List<Name>,
     ensures { IfOk result (λ labels. labels ≡ label_name runnable ∷ []) }
 {
     let mut labels = List::new(alloc);
-    labels.push(label_name(alloc, runnable)?)?;
+    labels.push(label_name(runnable))?;
     Ok(labels)
 }

@@ -3,8 +3,10 @@ pub mod Passing
 pub mod ReadTables
 pub mod ReadBack
 pub mod Depth
-pub mod Inserted
 pub mod NameTexts
 pub mod PlainData
 pub mod PlainModel
+pub mod Sorted
+pub mod PrintedLines
+pub mod PrintedModel
 pub mod SomeTexts

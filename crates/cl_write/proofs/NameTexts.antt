@@ -65,3 +65,7 @@ pub name_is_ascii : (s : List ℕ) → IsName s → IsAscii (string_text s)
 name_is_ascii s named =
     let (fits, bytes) = both_pass _ (list_all is_name_byte s) named in
     subst IsAscii (sym (name_text s bytes)) (IsAscii-append (quote ∷ []) (s ++ quote ∷ []) quoted (IsAscii-append s (quote ∷ []) (ascii_bytes s bytes) quoted))
+
+-- what is written for a name
+pub quoted_name : (s : List ℕ) → IsName s → string_text s ≡ quote ∷ s ++ quote ∷ []
+quoted_name s named = name_text s (both_pass _ (list_all is_name_byte s) named).1

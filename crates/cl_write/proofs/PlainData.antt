@@ -1,6 +1,7 @@
--- Plain data: names, numbers of a model, booleans, and arrays and tables of these. A text is written of it.
+-- Plain data: names, numbers of a model, booleans, and arrays and tables of these. A text that writes it is ASCII.
 use Rattle.std.proofs.Common.{◌≡◌, ℕ, ℤ, pos, negsuc, zero, suc, ◌≤◌, ◌<◌, Bool, true, false, cond, List, [], ◌∷◌, ◌++◌, refl, sym, subst, ◌∙◌, arith}
-use Rattle.std.specs.Prelude.{codes, decimal}
+use Rattle.std.specs.Prelude.{codes}
+use Rattle.std.specs.Fmt.{signed_decimal}
 use Rattle.std.specs.List.{AllByRecursion}
 use Rattle.std.specs.Str.{IsAscii}
 use Rattle.std.proofs.lemmas.List.{append_assoc}
@@ -83,12 +84,6 @@ mutual
 
 -- ---- values
 
--- some text of ASCII alone
-pub record SomeText (P : List ℕ → Type 0) : Type 0 where
-  pub text : List ℕ
-  pub is : P text
-  pub ascii : IsAscii text
-
 -- a text of which each byte passes
 pub by_bytes : (bs : List ℕ) → AllByRecursion (λ b. b < 128) bs → IsAscii bs
 by_bytes [] all i = omega arith
@@ -97,6 +92,10 @@ by_bytes (b ∷ bs) all (suc i) = by_bytes bs all.1 i
 
 join : (a b : List ℕ) → IsAscii a → IsAscii b → IsAscii (a ++ b)
 join = IsAscii-append
+
+-- a text that is this one
+same : (text other : List ℕ) → text ≡ other → IsAscii other → IsAscii text
+same text other is ascii = subst IsAscii (sym is) ascii
 
 start : (lines is_first : Bool) → IsAscii (before_item lines is_first)
 start true is_first = by_bytes (codes "\n    ") (omega arith, (omega arith, (omega arith, (omega arith, (omega arith, tt)))))
@@ -122,57 +121,40 @@ end_of_members false = by_bytes (codes " }") (omega arith, (omega arith, tt))
 equals : IsAscii (codes " = ")
 equals = by_bytes (codes " = ") (omega arith, (omega arith, (omega arith, tt)))
 
-number_text : (z : ℤ) → IsPlainNumber z → SomeText (IsValueText false (integer z))
-number_text (pos n) plain = record { text = decimal n; is = (refl, omega (arith, plain)); ascii = IsAscii-decimal n (omega (arith, plain)) }
-number_text (negsuc n) plain = absurd plain
+number_ascii : (z : ℤ) → IsPlainNumber z → IsAscii (signed_decimal z)
+number_ascii (pos n) plain = IsAscii-decimal n (omega (arith, plain))
+number_ascii (negsuc n) plain = absurd plain
 
-boolean_text : (b : Bool) → SomeText (IsValueText false (boolean b))
-boolean_text true = record { text = codes "true"; is = refl; ascii = by_bytes (codes "true") (omega arith, (omega arith, (omega arith, (omega arith, tt)))) }
-boolean_text false = record { text = codes "false"; is = refl; ascii = by_bytes (codes "false") (omega arith, (omega arith, (omega arith, (omega arith, (omega arith, tt))))) }
+boolean_ascii : (b : Bool) → IsAscii (cond b (codes "true") (codes "false"))
+boolean_ascii true = by_bytes (codes "true") (omega arith, (omega arith, (omega arith, (omega arith, tt))))
+boolean_ascii false = by_bytes (codes "false") (omega arith, (omega arith, (omega arith, (omega arith, (omega arith, tt)))))
 
 mutual
-  value_text : (d : Data) → IsPlain d → SomeText (IsValueText false d)
-  value_text (string s) plain = record { text = string_text s; is = refl; ascii = name_is_ascii s plain }
-  value_text (integer z) plain = number_text z plain
-  value_text (float x) plain = absurd plain
-  value_text (boolean b) plain = boolean_text b
-  value_text (datetime dt) plain = absurd plain
-  value_text (array ds) plain =
-      let rest = items_text (breaks_lines false ds) true ds plain in
-      record {
-        text = codes "[" ++ rest.text;
-        is = (rest.text, refl, rest.is);
-        ascii = join (codes "[") rest.text (by_bytes (codes "[") (omega arith, tt)) rest.ascii;
-      }
-  value_text (table ms) plain =
-      let rest = members_text true ms plain in
-      record {
-        text = codes "{" ++ rest.text;
-        is = (rest.text, refl, rest.is);
-        ascii = join (codes "{") rest.text (by_bytes (codes "{") (omega arith, tt)) rest.ascii;
-      }
+  value_ascii : (d : Data) → IsPlain d → (text : List ℕ) → IsValueText false d text → IsAscii text
+  value_ascii (string s) plain text is = same text (string_text s) is (name_is_ascii s plain)
+  value_ascii (integer z) plain text is = same text (signed_decimal z) is.0 (number_ascii z plain)
+  value_ascii (float x) plain text is = absurd plain
+  value_ascii (boolean b) plain text is = same text (cond b (codes "true") (codes "false")) is (boolean_ascii b)
+  value_ascii (datetime dt) plain text is = absurd plain
+  value_ascii (array ds) plain text (rest, is, items) =
+      same text (codes "[" ++ rest) is (join (codes "[") rest (by_bytes (codes "[") (omega arith, tt)) (items_ascii (breaks_lines false ds) true ds plain rest items))
+  value_ascii (table ms) plain text (rest, is, members) =
+      same text (codes "{" ++ rest) is (join (codes "{") rest (by_bytes (codes "{") (omega arith, tt)) (members_ascii true ms plain rest members))
 
-  items_text : (lines is_first : Bool) (ds : Items) → ArePlainItems ds → SomeText (IsItemsText false lines is_first ds)
-  items_text lines is_first no_items plain = record { text = array_end lines; is = refl; ascii = end_of_items lines }
-  items_text lines is_first (item d ds) plain =
-      let this = value_text d plain.0 in
-      let rest = items_text lines false ds plain.1 in
-      record {
-        text = before_item lines is_first ++ (this.text ++ (after_item lines ++ rest.text));
-        is = (this.text, rest.text, refl, this.is, rest.is);
-        ascii = join _ _ (start lines is_first) (join _ _ this.ascii (join _ _ (stop lines) rest.ascii));
-      }
+  items_ascii : (lines is_first : Bool) (ds : Items) → ArePlainItems ds → (text : List ℕ) → IsItemsText false lines is_first ds text → IsAscii text
+  items_ascii lines is_first no_items plain text is = same text (array_end lines) is (end_of_items lines)
+  items_ascii lines is_first (item d ds) plain text (this, rest, is, value, items) =
+      let ascii = value_ascii d plain.0 this value in
+      let others = items_ascii lines false ds plain.1 rest items in
+      same text (before_item lines is_first ++ (this ++ (after_item lines ++ rest))) is (join _ _ (start lines is_first) (join _ _ ascii (join _ _ (stop lines) others)))
 
-  members_text : (is_first : Bool) (ms : Members) → ArePlain ms → SomeText (IsMembersText false is_first ms)
-  members_text is_first no_members plain = record { text = table_end is_first; is = refl; ascii = end_of_members is_first }
-  members_text is_first (member k d ms) plain =
-      let this = value_text d plain.2 in
-      let rest = members_text false ms plain.3 in
-      record {
-        text = before_member is_first ++ (key_text k ++ (codes " = " ++ (this.text ++ rest.text)));
-        is = (this.text, rest.text, refl, this.is, rest.is, plain.1);
-        ascii = join _ _ (start_member is_first) (join _ _ plain.0 (join (codes " = ") _ equals (join _ _ this.ascii rest.ascii)));
-      }
+  members_ascii : (is_first : Bool) (ms : Members) → ArePlain ms → (text : List ℕ) → IsMembersText false is_first ms text → IsAscii text
+  members_ascii is_first no_members plain text is = same text (table_end is_first) is (end_of_members is_first)
+  members_ascii is_first (member k d ms) plain text (this, rest, is, value, members, sorted) =
+      let ascii = value_ascii d plain.2 this value in
+      let others = members_ascii false ms plain.3 rest members in
+      same text (before_member is_first ++ (key_text k ++ (codes " = " ++ (this ++ rest)))) is
+      (join _ _ (start_member is_first) (join _ _ plain.0 (join (codes " = ") _ equals (join _ _ ascii others))))
 
 -- ---- lines
 
@@ -203,23 +185,16 @@ closed false = by_bytes (codes "]\n") (omega arith, (omega arith, tt))
 header_ascii : (started is_array : Bool) (key : Key) → IsAscii (dotted_text key) → IsAscii (gap started ++ (header_open is_array ++ (dotted_text key ++ header_close is_array)))
 header_ascii started is_array key ascii = join _ _ (before_header started) (join _ _ (opened is_array) (join _ _ ascii (closed is_array)))
 
-line_text : (started : Bool) (key : Key) (def : Definition) → IsAscii (dotted_text key) → IsPlainDefinition def → SomeText (IsLineText false started key def)
-line_text started key (key_value d) ascii plain =
-    let this = value_text d plain in
-    record {
-      text = dotted_text key ++ (codes " = " ++ (this.text ++ line_feed ∷ []));
-      is = (this.text, refl, this.is);
-      ascii = join _ _ ascii (join (codes " = ") _ equals (join _ _ this.ascii feed));
-    }
-line_text started key std_table ascii plain = record { text = _; is = refl; ascii = header_ascii started false key ascii }
-line_text started key array_table ascii plain = record { text = _; is = refl; ascii = header_ascii started true key ascii }
+line_ascii : (started : Bool) (key : Key) (def : Definition) → IsAscii (dotted_text key) → IsPlainDefinition def → (text : List ℕ) → IsLineText false started key def text → IsAscii text
+line_ascii started key (key_value d) ascii plain text (this, is, value) =
+    same text (dotted_text key ++ (codes " = " ++ (this ++ line_feed ∷ []))) is (join _ _ ascii (join (codes " = ") _ equals (join _ _ (value_ascii d plain this value) feed)))
+line_ascii started key std_table ascii plain text is = same text _ is (header_ascii started false key ascii)
+line_ascii started key array_table ascii plain text is = same text _ is (header_ascii started true key ascii)
 
-lines_text : (started : Bool) (es : List Expression) → AllByRecursion IsPlainLine es → SomeText (IsLinesText false started es)
-lines_text started [] all = record { text = []; is = refl; ascii = IsAscii-nil }
-lines_text started (e ∷ es) all =
-    let this = line_text started e.0 e.1 all.0.0 all.0.1 in
-    let rest = lines_text true es all.1 in
-    record { text = this.text ++ rest.text; is = (this.text, rest.text, refl, this.is, rest.is); ascii = join _ _ this.ascii rest.ascii }
+lines_ascii : (started : Bool) (es : List Expression) → AllByRecursion IsPlainLine es → (text : List ℕ) → IsLinesText false started es text → IsAscii text
+lines_ascii started [] all text is = same text [] is IsAscii-nil
+lines_ascii started (e ∷ es) all text (this, rest, is, first, more) =
+    same text (this ++ rest) is (join this rest (line_ascii started e.0 e.1 all.0.0 all.0.1 this first) (lines_ascii true es all.1 rest more))
 
 -- ---- the lines of plain members
 
@@ -275,6 +250,7 @@ mutual
   elements_plain key (item (boolean b) ds) ascii plain = elements_plain key ds ascii plain.1
   elements_plain key (item (datetime dt) ds) ascii plain = elements_plain key ds ascii plain.1
 
--- plain members have a text
-pub document_text : (ms : Members) → ArePlain ms → SomeText (IsDocumentText false ms)
-document_text ms plain = lines_text false (expressions ms) (all_joined (pairs ms) (sections [] ms) (pairs_plain ms plain) (sections_plain [] ms IsAscii-nil plain))
+-- a text of plain members is ASCII
+pub document_ascii : (ms : Members) → ArePlain ms → (text : List ℕ) → IsDocumentText false ms text → IsAscii text
+document_ascii ms plain text is =
+    lines_ascii false (expressions ms) (all_joined (pairs ms) (sections [] ms) (pairs_plain ms plain) (sections_plain [] ms IsAscii-nil plain)) text is

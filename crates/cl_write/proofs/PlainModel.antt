@@ -162,12 +162,12 @@ runnable_plain : (r : RunnableDef) → IsRunnableInRange r → IsRunnableNamed r
 runnable_plain r in_range named =
     (named.name, (omega (arith, in_range.least.1), (omega (arith, in_range.greatest.1), (when_true_plain r.whole, (names_plain r.reads named.reads, (names_plain r.writes named.writes, tt))))))
 
-access_plain : (access : AccessKind) → IsName (access_word access)
+pub access_plain : (access : AccessKind) → IsName (access_word access)
 access_plain Explicit = refl
 access_plain Implicit = refl
 access_plain Timed = refl
 
-deadline_plain : (n : Option ℕ) → IfSome n IsTime → IfSome n (λ n. n ≤ MOST_REQUIRED)
+pub deadline_plain : (n : Option ℕ) → IfSome n IsTime → IfSome n (λ n. n ≤ MOST_REQUIRED)
 deadline_plain None within = tt
 deadline_plain (Some n) within = omega (arith, within.1)
 
@@ -195,7 +195,7 @@ task_plain t in_range named = (
 chain_plain : (c : ChainDef) → IsChainNamed c → ArePlainEntries (chain_entries c)
 chain_plain c named = (named.name, (names_plain c.runnables named.runnables, (names_plain c.labels named.labels, tt)))
 
-length_plain : (kind : LengthKind) → IsName (length_word kind)
+pub length_plain : (kind : LengthKind) → IsName (length_word kind)
 length_plain Reaction = refl
 length_plain Age = refl
 length_plain Reduced = refl

@@ -1,6 +1,6 @@
 -- The document that is written of a model means the model.
 use Rattle.std.proofs.Common.{◌≡◌, ℕ, ◌≤◌, List, [], length, get_or, map, All, Some, Ok, refl, ap, ◌∙◌}
-use Rattle.toml.specs.Data.{table, Members, no_members}
+use Rattle.toml.specs.Data.{table, Members}
 use Rattle.cl_model.specs.declared.limits.TheConstants.{MOST_CORES, MOST_STIMULI, MOST_LABELS, MOST_TASKS, MOST_CHAINS, MOST_REQUIREMENTS}
 use Rattle.cl_model.specs.declared.model.SystemModel.{SystemModel}
 use Rattle.cl_model.specs.declared.place.Key.{Key}
@@ -19,7 +19,7 @@ use Rattle.cl_model.specs.Reading.Tables.{core_meaning, stimulus_meaning, label_
 use Rattle.cl_model.specs.Reading.Checks.{fields_checks}
 use Rattle.cl_model.specs.Refusals.{answer}
 use Rattle.cl_model.proofs.NoRefusals.{AllNone, none_in_order}
-use Rattle.cl_write.specs.Entries.{Entry, tables, with_entries, members_with}
+use Rattle.cl_write.specs.Entries.{Entry, tables, members_with}
 use Rattle.cl_write.specs.Writing.{core_table_entries, label_entries, stimulus_entries, task_entries, chain_entries, requirement_entries, model_entries, document}
 use Rattle.cl_write.proofs.Found.{entry_at, found, only}
 use Rattle.cl_write.proofs.Passing.{unless_empty_passes, unless_empty_means}
@@ -102,8 +102,3 @@ reads_as_model bytes model in_range named is =
 pub reads_as_version : (bytes : List ℕ) (model : SystemModel) → document_of bytes ≡ Some (document model) → version_of bytes ≡ 2
 unfolding version_of document
 reads_as_version bytes model is = rw is (ap (λ v. found_or 0 number_in v) (at model key.Version))
-
--- entries put into no members make the document
-pub made : (model : SystemModel) (before after : Members) → before ≡ no_members → after ≡ with_entries (model_entries model) before → after ≡ document model
-unfolding document
-made model before after none is = is ∙ ap (with_entries (model_entries model)) none

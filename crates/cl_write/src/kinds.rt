@@ -1,16 +1,15 @@
-//! The kinds of a model as words, and the entries of each kind of stimulus. Times are in ticks.
-ghost use Rattle.std.specs.Prelude.{◌≡◌, ◌≤◌, OnOk};
-ghost use Rattle.toml.specs.View.{table_view};
+//! The kinds of a model as words, and the lines of each kind of stimulus. Times are in ticks.
+ghost use Rattle.std.specs.Prelude.{◌≡◌, ◌++◌, OnOk};
+ghost use Rattle.std.specs.List.{concat};
 ghost use Rattle.cl_model.specs.declared.stimulus.StimulusKind.TheVariants.{Periodic, Sporadic, Burst};
-ghost use Rattle.cl_model.specs.Ranges.{IsKindInRange};
-ghost use Rattle.cl_write.specs.Entries.{with_entries};
-ghost use Rattle.cl_write.specs.Writing.{length_word, kind_entries};
+ghost use Rattle.cl_model.specs.Name.{IsName};
+ghost use Rattle.cl_write.specs.Writing.{length_word};
+ghost use Rattle.cl_write.specs.Inner.Printed.{lines_of_kind};
 
-use crate::values::{put_number, put_unless_zero, put_word};
-use cl_model::{Key, LengthKind, StimulusKind};
+use crate::lines::{put_name, put_number, put_unless_zero, put_word};
+use cl_model::{Key, LengthKind, Name, StimulusKind};
+use cl_text::Text;
 use cl_time::NoMemory;
-use std::alloc::Global;
-use toml::Table;
 
 /// The word of a kind of length.
 pub(crate) fn length_word(kind: LengthKind) -> &'static str
@@ -24,65 +23,71 @@ pub(crate) fn length_word(kind: LengthKind) -> &'static str
 }
 
 fn put_periodic(
-    alloc: Global,
-    table: &mut Table,
+    text: &mut Text,
+    name: &Name,
     period: u64,
     offset: u64,
     jitter: u64,
 ) -> Result<(), NoMemory>
-    requires { IsKindInRange (Periodic period offset jitter) }
-    ensures { OnOk result (table_view table.new ≡ with_entries (kind_entries (Periodic period offset jitter)) (table_view table.old)) }
+    ensures printed { OnOk result (text.new ≡ text.old ++ concat (lines_of_kind name.now (Periodic period offset jitter))) }
+    ensures named { OnOk result (IsName name.now) }
 {
-    put_word(alloc, table, Key::Kind, "periodic")?;
-    put_number(alloc, table, Key::Period, period)?;
-    put_unless_zero(alloc, table, Key::Offset, offset)?;
-    put_unless_zero(alloc, table, Key::Jitter, jitter)
+    put_unless_zero(text, Key::Jitter, jitter)?;
+    put_word(text, Key::Kind, b"periodic")?;
+    put_name(text, Key::Name, name)?;
+    put_unless_zero(text, Key::Offset, offset)?;
+    put_number(text, Key::Period, period)?;
+    Ok(())
 }
 
-fn put_sporadic(alloc: Global, table: &mut Table, least: u64, greatest: u64) -> Result<(), NoMemory>
-    requires { IsKindInRange (Sporadic least greatest) }
-    ensures { OnOk result (table_view table.new ≡ with_entries (kind_entries (Sporadic least greatest)) (table_view table.old)) }
+fn put_sporadic(text: &mut Text, name: &Name, least: u64, greatest: u64) -> Result<(), NoMemory>
+    ensures printed { OnOk result (text.new ≡ text.old ++ concat (lines_of_kind name.now (Sporadic least greatest))) }
+    ensures named { OnOk result (IsName name.now) }
 {
-    put_word(alloc, table, Key::Kind, "sporadic")?;
-    put_number(alloc, table, Key::Least, least)?;
-    put_number(alloc, table, Key::Greatest, greatest)
+    put_number(text, Key::Greatest, greatest)?;
+    put_word(text, Key::Kind, b"sporadic")?;
+    put_number(text, Key::Least, least)?;
+    put_name(text, Key::Name, name)?;
+    Ok(())
 }
 
 fn put_burst(
-    alloc: Global,
-    table: &mut Table,
+    text: &mut Text,
+    name: &Name,
     period: u64,
     offset: u64,
     count: u64,
     distance: u64,
 ) -> Result<(), NoMemory>
-    requires { IsKindInRange (Burst period offset count distance) }
-    ensures { OnOk result (table_view table.new ≡ with_entries (kind_entries (Burst period offset count distance)) (table_view table.old)) }
+    ensures printed { OnOk result (text.new ≡ text.old ++ concat (lines_of_kind name.now (Burst period offset count distance))) }
+    ensures named { OnOk result (IsName name.now) }
 {
-    put_word(alloc, table, Key::Kind, "burst")?;
-    put_number(alloc, table, Key::Period, period)?;
-    put_unless_zero(alloc, table, Key::Offset, offset)?;
-    put_number(alloc, table, Key::Count, count)?;
-    put_number(alloc, table, Key::Distance, distance)
+    put_number(text, Key::Count, count)?;
+    put_number(text, Key::Distance, distance)?;
+    put_word(text, Key::Kind, b"burst")?;
+    put_name(text, Key::Name, name)?;
+    put_unless_zero(text, Key::Offset, offset)?;
+    put_number(text, Key::Period, period)?;
+    Ok(())
 }
 
-/// Puts the kind of a stimulus and its numbers.
-pub(crate) fn put_kind(alloc: Global, table: &mut Table, kind: StimulusKind) -> Result<(), NoMemory>
-    requires { IsKindInRange kind }
-    ensures { OnOk result (table_view table.new ≡ with_entries (kind_entries kind) (table_view table.old)) }
+/// Puts the lines of a stimulus of this name and kind.
+pub(crate) fn put_kind(text: &mut Text, name: &Name, kind: StimulusKind) -> Result<(), NoMemory>
+    ensures printed { OnOk result (text.new ≡ text.old ++ concat (lines_of_kind name.now kind)) }
+    ensures named { OnOk result (IsName name.now) }
 {
     match kind {
         StimulusKind::Periodic {
             period,
             offset,
             jitter,
-        } => put_periodic(alloc, table, period, offset, jitter),
-        StimulusKind::Sporadic { least, greatest } => put_sporadic(alloc, table, least, greatest),
+        } => put_periodic(text, name, period, offset, jitter),
+        StimulusKind::Sporadic { least, greatest } => put_sporadic(text, name, least, greatest),
         StimulusKind::Burst {
             period,
             offset,
             count,
             distance,
-        } => put_burst(alloc, table, period, offset, count, distance),
+        } => put_burst(text, name, period, offset, count, distance),
     }
 }

@@ -1,11 +1,11 @@
 //! Writing a model as the text of a model file.
 #![tactic(auto)]
 
-mod arrays;
+mod entries;
 mod kinds;
 pub mod laws;
+mod lines;
 mod tables;
-mod values;
 mod writing;
 
 pub use writing::write_model;

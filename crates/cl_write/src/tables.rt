@@ -1,211 +1,138 @@
-//! The tables of a document, one writer for each.
-ghost use Rattle.std.specs.Prelude.{◌≡◌, ◌≤◌, OnOk};
-ghost use Rattle.toml.specs.Data.{string, table};
-ghost use Rattle.toml.specs.View.{table_view};
+//! The entries of each section, one writer for each.
+ghost use Rattle.std.specs.Prelude.{◌≡◌, ◌++◌, OnOk};
+ghost use Rattle.std.specs.List.{concat};
 ghost use Rattle.cl_model.specs.AreNamed.{IsRunnableNamed, IsTaskNamed, IsChainNamed, IsRequirementNamed};
 ghost use Rattle.cl_model.specs.Name.{IsName};
-ghost use Rattle.cl_model.specs.Ranges.{IsKindInRange, IsRunnableInRange, IsTaskInRange, IsChainInRange};
-ghost use Rattle.cl_model.specs.declared.limits.TheConstants.{MOST_REQUIRED};
-ghost use Rattle.cl_write.specs.Entries.{members_with, with_entries};
-ghost use Rattle.cl_write.specs.Writing.{core_table_entries, label_entries, stimulus_entries, runnable_entries, task_entries, chain_entries, requirement_entries};
+ghost use Rattle.cl_write.specs.Inner.Printed.{core_text, label_text, stimulus_text, runnable_text, lines_of_runnable, task_text, lines_of_task, chain_text, requirement_text, lines_of_requirement};
 
-use crate::arrays::{Written, put_array};
+use crate::entries::{Written, put_all};
 use crate::kinds::{length_word, put_kind};
-use crate::values::{name_value, put_name, put_number, put_number_if, put_when_true, put_word};
+use crate::lines::{put_name, put_names, put_number, put_number_if, put_when_true, put_word};
 use cl_model::{
-    ChainDef, CoreDef, Key, LabelDef, Name, RequirementDef, RunnableDef, StimulusDef, TaskDef,
+    ChainDef, CoreDef, Key, LabelDef, RequirementDef, RunnableDef, StimulusDef, TaskDef,
 };
+use cl_text::Text;
 use cl_time::NoMemory;
-use std::alloc::Global;
-use toml::{Table, Value};
-
-impl Written for Name {
-    ghost is_in_range = { λ name. Unit {0} };
-
-    ghost is_named = { IsName };
-
-    ghost written = { string };
-
-    fn write(&self, alloc: Global) -> Result<Value, NoMemory> {
-        name_value(alloc, self)
-    }
-}
 
 impl Written for CoreDef {
-    ghost is_in_range = { λ core. Unit {0} };
-
     ghost is_named = { λ core. IsName core.name };
 
-    ghost written = { λ core. table (members_with (core_table_entries core)) };
+    ghost printed = { core_text };
 
-    fn write(&self, alloc: Global) -> Result<Value, NoMemory> {
-        let mut table = Table::new(alloc);
-        put_core(alloc, &mut table, self)?;
-        Ok(Value::Table(table))
+    fn put(&self, text: &mut Text) -> Result<(), NoMemory> {
+        text.put(b"\n[[core]]\n")?;
+        put_name(text, Key::Name, &self.name)
     }
 }
 
 impl Written for StimulusDef {
-    ghost is_in_range = { λ stimulus. IsKindInRange stimulus.kind };
-
     ghost is_named = { λ stimulus. IsName stimulus.name };
 
-    ghost written = { λ stimulus. table (members_with (stimulus_entries stimulus)) };
+    ghost printed = { stimulus_text };
 
-    fn write(&self, alloc: Global) -> Result<Value, NoMemory> {
-        let mut table = Table::new(alloc);
-        put_stimulus(alloc, &mut table, self)?;
-        Ok(Value::Table(table))
+    fn put(&self, text: &mut Text) -> Result<(), NoMemory> {
+        text.put(b"\n[[stimulus]]\n")?;
+        put_kind(text, &self.name, self.kind)
     }
 }
 
 impl Written for LabelDef {
-    ghost is_in_range = { λ label. Unit {0} };
-
     ghost is_named = { λ label. IsName label.name };
 
-    ghost written = { λ label. table (members_with (label_entries label)) };
+    ghost printed = { label_text };
 
-    fn write(&self, alloc: Global) -> Result<Value, NoMemory> {
-        let mut table = Table::new(alloc);
-        put_label(alloc, &mut table, self)?;
-        Ok(Value::Table(table))
+    fn put(&self, text: &mut Text) -> Result<(), NoMemory> {
+        text.put(b"\n[[label]]\n")?;
+        put_name(text, Key::Name, &self.name)
     }
 }
 
 impl Written for RunnableDef {
-    ghost is_in_range = { IsRunnableInRange };
-
     ghost is_named = { IsRunnableNamed };
 
-    ghost written = { λ runnable. table (members_with (runnable_entries runnable)) };
+    ghost printed = { runnable_text };
 
-    fn write(&self, alloc: Global) -> Result<Value, NoMemory> {
-        let mut table = Table::new(alloc);
-        put_runnable(alloc, &mut table, self)?;
-        Ok(Value::Table(table))
+    fn put(&self, text: &mut Text) -> Result<(), NoMemory> {
+        text.put(b"\n[[task.runnable]]\n")?;
+        put_runnable(text, self)?;
+        Ok(())
     }
 }
 
 impl Written for TaskDef {
-    ghost is_in_range = { IsTaskInRange };
-
     ghost is_named = { IsTaskNamed };
 
-    ghost written = { λ task. table (members_with (task_entries task)) };
+    ghost printed = { task_text };
 
-    fn write(&self, alloc: Global) -> Result<Value, NoMemory> {
-        let mut table = Table::new(alloc);
-        put_task(alloc, &mut table, self)?;
-        Ok(Value::Table(table))
+    fn put(&self, text: &mut Text) -> Result<(), NoMemory> {
+        text.put(b"\n[[task]]\n")?;
+        put_task(text, self)?;
+        put_all(text, self.runnables.as_slice())
     }
 }
 
 impl Written for ChainDef {
-    ghost is_in_range = { IsChainInRange };
-
     ghost is_named = { IsChainNamed };
 
-    ghost written = { λ chain. table (members_with (chain_entries chain)) };
+    ghost printed = { chain_text };
 
-    fn write(&self, alloc: Global) -> Result<Value, NoMemory> {
-        let mut table = Table::new(alloc);
-        put_chain(alloc, &mut table, self)?;
-        Ok(Value::Table(table))
+    fn put(&self, text: &mut Text) -> Result<(), NoMemory> {
+        text.put(b"\n[[chain]]\n")?;
+        put_names(text, Key::Labels, &self.labels)?;
+        put_name(text, Key::Name, &self.name)?;
+        put_names(text, Key::Runnables, &self.runnables)
     }
 }
 
 impl Written for RequirementDef {
-    ghost is_in_range = { λ requirement. requirement.most ≤ MOST_REQUIRED };
-
     ghost is_named = { IsRequirementNamed };
 
-    ghost written = { λ requirement. table (members_with (requirement_entries requirement)) };
+    ghost printed = { requirement_text };
 
-    fn write(&self, alloc: Global) -> Result<Value, NoMemory> {
-        let mut table = Table::new(alloc);
-        put_requirement(alloc, &mut table, self)?;
-        Ok(Value::Table(table))
+    fn put(&self, text: &mut Text) -> Result<(), NoMemory> {
+        text.put(b"\n[[requirement]]\n")?;
+        put_requirement(text, self)?;
+        Ok(())
     }
 }
 
-fn put_core(alloc: Global, table: &mut Table, core: &CoreDef) -> Result<(), NoMemory>
-    ensures data { OnOk result (table_view table.new ≡ with_entries (core_table_entries core.now) (table_view table.old)) }
-    ensures named { OnOk result (IsName core.now.name) }
-{
-    put_name(alloc, table, Key::Name, &core.name)?;
-    Ok(())
-}
-
-fn put_stimulus(alloc: Global, table: &mut Table, stimulus: &StimulusDef) -> Result<(), NoMemory>
-    requires { IsKindInRange stimulus.now.kind }
-    ensures data { OnOk result (table_view table.new ≡ with_entries (stimulus_entries stimulus.now) (table_view table.old)) }
-    ensures named { OnOk result (IsName stimulus.now.name) }
-{
-    put_name(alloc, table, Key::Name, &stimulus.name)?;
-    put_kind(alloc, table, stimulus.kind)?;
-    Ok(())
-}
-
-fn put_label(alloc: Global, table: &mut Table, label: &LabelDef) -> Result<(), NoMemory>
-    ensures data { OnOk result (table_view table.new ≡ with_entries (label_entries label.now) (table_view table.old)) }
-    ensures named { OnOk result (IsName label.now.name) }
-{
-    put_name(alloc, table, Key::Name, &label.name)?;
-    Ok(())
-}
-
-fn put_runnable(alloc: Global, table: &mut Table, runnable: &RunnableDef) -> Result<(), NoMemory>
-    requires { IsRunnableInRange runnable.now }
-    ensures data { OnOk result (table_view table.new ≡ with_entries (runnable_entries runnable.now) (table_view table.old)) }
+/// Puts the lines of a runnable.
+fn put_runnable(text: &mut Text, runnable: &RunnableDef) -> Result<(), NoMemory>
+    ensures printed { OnOk result (text.new ≡ text.old ++ concat (lines_of_runnable runnable.now)) }
     ensures named { OnOk result (IsRunnableNamed runnable.now) }
 {
-    put_name(alloc, table, Key::Name, &runnable.name)?;
-    put_number(alloc, table, Key::Least, runnable.least)?;
-    put_number(alloc, table, Key::Greatest, runnable.greatest)?;
-    put_when_true(alloc, table, Key::Whole, runnable.whole)?;
-    put_array(alloc, table, Key::Reads, &runnable.reads)?;
-    put_array(alloc, table, Key::Writes, &runnable.writes)?;
+    put_number(text, Key::Greatest, runnable.greatest)?;
+    put_number(text, Key::Least, runnable.least)?;
+    put_name(text, Key::Name, &runnable.name)?;
+    put_names(text, Key::Reads, &runnable.reads)?;
+    put_when_true(text, Key::Whole, runnable.whole)?;
+    put_names(text, Key::Writes, &runnable.writes)?;
     Ok(())
 }
 
-fn put_task(alloc: Global, table: &mut Table, task: &TaskDef) -> Result<(), NoMemory>
-    requires { IsTaskInRange task.now }
-    ensures data { OnOk result (table_view table.new ≡ with_entries (task_entries task.now) (table_view table.old)) }
-    ensures named { OnOk result (IsTaskNamed task.now) }
+/// Puts the lines of a task that stand before its runnables.
+fn put_task(text: &mut Text, task: &TaskDef) -> Result<(), NoMemory>
+    ensures printed { OnOk result (text.new ≡ text.old ++ concat (lines_of_task task.now)) }
+    ensures name { OnOk result (IsName task.now.name) }
+    ensures core { OnOk result (IsName task.now.core) }
+    ensures stimulus { OnOk result (IsName task.now.stimulus) }
 {
-    put_name(alloc, table, Key::Name, &task.name)?;
-    put_name(alloc, table, Key::Core, &task.core)?;
-    put_name(alloc, table, Key::Stimulus, &task.stimulus)?;
-    put_number(alloc, table, Key::Priority, task.priority)?;
-    put_word(alloc, table, Key::Access, task.access.word())?;
-    put_number_if(alloc, table, Key::Deadline, task.deadline)?;
-    put_array(alloc, table, Key::Runnable, &task.runnables)?;
+    put_word(text, Key::Access, task.access.word().as_bytes())?;
+    put_name(text, Key::Core, &task.core)?;
+    put_number_if(text, Key::Deadline, task.deadline)?;
+    put_name(text, Key::Name, &task.name)?;
+    put_number(text, Key::Priority, task.priority)?;
+    put_name(text, Key::Stimulus, &task.stimulus)?;
     Ok(())
 }
 
-fn put_chain(alloc: Global, table: &mut Table, chain: &ChainDef) -> Result<(), NoMemory>
-    ensures data { OnOk result (table_view table.new ≡ with_entries (chain_entries chain.now) (table_view table.old)) }
-    ensures named { OnOk result (IsChainNamed chain.now) }
-{
-    put_name(alloc, table, Key::Name, &chain.name)?;
-    put_array(alloc, table, Key::Runnables, &chain.runnables)?;
-    put_array(alloc, table, Key::Labels, &chain.labels)?;
-    Ok(())
-}
-
-fn put_requirement(
-    alloc: Global,
-    table: &mut Table,
-    requirement: &RequirementDef,
-) -> Result<(), NoMemory>
-    requires { requirement.now.most ≤ MOST_REQUIRED }
-    ensures data { OnOk result (table_view table.new ≡ with_entries (requirement_entries requirement.now) (table_view table.old)) }
+/// Puts the lines of a requirement.
+fn put_requirement(text: &mut Text, requirement: &RequirementDef) -> Result<(), NoMemory>
+    ensures printed { OnOk result (text.new ≡ text.old ++ concat (lines_of_requirement requirement.now)) }
     ensures named { OnOk result (IsRequirementNamed requirement.now) }
 {
-    put_name(alloc, table, Key::Name, &requirement.name)?;
-    put_name(alloc, table, Key::Chain, &requirement.chain)?;
-    put_word(alloc, table, Key::Kind, length_word(requirement.kind))?;
-    put_number(alloc, table, Key::Most, requirement.most)?;
-    Ok(())
+    put_name(text, Key::Chain, &requirement.chain)?;
+    put_word(text, Key::Kind, length_word(requirement.kind).as_bytes())?;
+    put_number(text, Key::Most, requirement.most)?;
+    put_name(text, Key::Name, &requirement.name)
 }

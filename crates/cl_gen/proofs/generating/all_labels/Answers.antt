@@ -8,4 +8,4 @@ pub loop-number-preserved : goal.loop-number-preserved
 loop-number-preserved c =
     let named : List ℕ → LabelDef = λ name. record { name = name } in
     mapped_more generated_label 0 c.loop-number.number c.loop-number.number _ _ _ (omega arith) c.loop-number.invariant
-    (ap named c.in_ok-name.ensures) c.in_ok-push.ensures.ok
+    (ap named c.label_name-name.ensures) c.in_ok-push.ensures.ok

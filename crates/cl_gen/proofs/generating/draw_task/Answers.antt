@@ -29,13 +29,13 @@ returns-clause-task c =
     (c.draw.ensures.drawn
     ∙ ap (λ (t : Taken). draw 0 2 (word_of t.seed t.words)) c.draw-stimulus.ensures.taken
     ∙ ap (λ n. draw 0 2 (word (n + 1))) c.requires.next) in
-    let stimulus : c.in_ok-numbered-3.field-0 ≡ numbered (codes "p") (draw 0 8 (word (6 * i)))
-    = c.in_ok-numbered-3.ensures ∙ ap (λ n. numbered (codes "p") n) e in
+    let stimulus : c.numbered-3.result ≡ numbered (codes "p") (draw 0 8 (word (6 * i)))
+    = c.numbered-3.ensures ∙ ap (λ n. numbered (codes "p") n) e in
     let runnables : c.in_ok-draw_runnables.field-0 ≡ generated_runnable word (2 * i) ∷ generated_runnable word (2 * i + 1) ∷ []
     = c.in_ok-draw_runnables.ensures.runnables
     ∙ ap (λ s. generated_runnable (word_of s) (2 * i) ∷ generated_runnable (word_of s) (2 * i + 1) ∷ []) seed in
-    let name : c.in_ok-numbered.field-0 ≡ numbered (codes "t") i = c.in_ok-numbered.ensures in
-    let core : c.in_ok-numbered-2.field-0 ≡ numbered (codes "c") (i / 16) = c.in_ok-numbered-2.ensures in
+    let name : c.numbered.result ≡ numbered (codes "t") i = c.numbered.ensures in
+    let core : c.numbered-2.result ≡ numbered (codes "c") (i / 16) = c.numbered-2.ensures in
     λ k. record {
       name = name k;
       core = core k;

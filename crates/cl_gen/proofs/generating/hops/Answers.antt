@@ -6,4 +6,4 @@ use Rattle.cl_gen.proofs.generating.hops.Goals as goal
 pub loop-hop-preserved : goal.loop-hop-preserved
 loop-hop-preserved c =
     mapped_more label_name c.args.first c.loop-hop.hop (c.args.first + c.loop-hop.hop) _ _ _ refl c.loop-hop.invariant
-    c.in_ok-label_name.ensures c.in_ok-push.ensures.ok
+    c.label_name.ensures c.in_ok-push.ensures.ok

@@ -6,4 +6,4 @@ use Rattle.cl_gen.proofs.generating.steps.Goals as goal
 pub loop-step-preserved : goal.loop-step-preserved
 loop-step-preserved c =
     mapped_more runnable_name c.args.first c.loop-step.step (c.args.first + c.loop-step.step) _ _ _ refl c.loop-step.invariant
-    c.in_ok-runnable_name.ensures c.in_ok-push.ensures.ok
+    c.runnable_name.ensures c.in_ok-push.ensures.ok

@@ -1,0 +1,3 @@
+-- What only private clauses cite: a reader of the public contracts needs none of it.
+pub mod Lines
+pub mod Printed
