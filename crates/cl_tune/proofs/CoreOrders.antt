@@ -12,9 +12,9 @@ use Rattle.cl_runs.specs.SystemOf.{system_of}
 use Rattle.cl_runs.specs.TaskTiming.{System, timing_at}
 use Rattle.cl_runs.proofs.ModelSystem.{count_is, system_sound}
 use Rattle.cl_tune.specs.BestOrders.{IsBestOrder, HasNoOrder}
-use Rattle.cl_tune.specs.Inner.Filling.{best_order}
+use Rattle.cl_tune.specs.Inner.Filling.{best_order, AreDistinct}
 use Rattle.cl_tune.specs.Orders.{IsPassing, IsPassingOrder}
-use Rattle.cl_tune.proofs.Members.{has, has_filter, AreDistinct, HaveSame, permutes, permuted_same, permuted_distinct}
+use Rattle.cl_tune.proofs.Members.{has, has_filter, HaveSame, permutes, permuted_same, permuted_distinct}
 use Rattle.cl_tune.proofs.FilledOrders.{AreAscending, ascending_distinct, ascending_filter, ascending_range, AllFit, IsOrderOf, IsFirstFit, IsAnswer, filled}
 use Rattle.cl_tune.proofs.NewPriorities.{ordered_system}
 use Rattle.cl_tune.proofs.Timings.{core_is}

@@ -6,13 +6,15 @@ use Rattle.std.specs.Prelude.{◌==◌, filter, find}
 use Rattle.std.specs.List.{range_with_len}
 use Rattle.std.specs.Option.{option_map, option_and_then}
 use Rattle.std.proofs.lemmas.Bool.{true≢false, false≢true, eqb-true, and_parts, and_right, cases_order, false_from_ne_true, not_from_true, not_from_false, cond-true, cond-false}
+use Rattle.cl_model.specs.declared.model.SystemModel.{SystemModel}
+use Rattle.cl_model.specs.ByNumber.{core_of, tasks_of_core}
 use Rattle.cl_runs.specs.Pattern.{IsPattern}
 use Rattle.cl_runs.specs.TaskTiming.{System, timing_at}
 use Rattle.cl_resp.specs.Question.{longest_hold}
 use Rattle.cl_resp.proofs.FirstFound.{none_passes}
 use Rattle.cl_tune.specs.Dictionary.{ComesNoLater}
-use Rattle.cl_tune.specs.Inner.Filling.{without, fits_below, fits, best_order}
-use Rattle.cl_tune.proofs.Members.{has, has_itself, has_head, has_more, has_cases, has_filter, AreDistinct, HaveSame, all_at, distinct_filter, without_head, without_other, length_without, same_without, lengths_agree}
+use Rattle.cl_tune.specs.Inner.Filling.{without, fits_below, fits, best_order, AreDistinct}
+use Rattle.cl_tune.proofs.Members.{has, has_itself, has_head, has_more, has_cases, has_filter, HaveSame, all_at, distinct_filter, without_head, without_other, length_without, same_without, lengths_agree}
 use Rattle.cl_tune.proofs.FitsBelow.{fits_same, fits_moved_up}
 
 -- ---- ascending lists
@@ -43,6 +45,12 @@ range_from a (suc n) y is = elim (has_cases y a (range_with_len (a + 1) n) is) [
 pub ascending_range : (a n : ℕ) → AreAscending (range_with_len a n)
 ascending_range a zero = tt
 ascending_range a (suc n) = ((λ y is. omega (arith, range_from (a + 1) n y is)), ascending_range (a + 1) n)
+
+-- no task stands in the list of a core twice
+pub tasks_distinct : (model : SystemModel) (core : ℕ) → AreDistinct (tasks_of_core model core)
+tasks_distinct model core =
+    ascending_distinct (tasks_of_core model core)
+    (ascending_filter (λ i. core_of model i == core) (range_with_len 0 (length model.tasks)) (ascending_range 0 (length model.tasks)))
 
 -- ---- what is found first
 

@@ -23,8 +23,8 @@ use Rattle.cl_resp.specs.Response.{Response, demand, response_to, AsksNoMore}
 use Rattle.cl_resp.proofs.Greatest.{greatest_within}
 use Rattle.cl_resp.proofs.LessAsked.{answered_no_later}
 use Rattle.cl_resp.proofs.StimulusKinds.{kind_of-as_stimulus}
-use Rattle.cl_tune.specs.Inner.Filling.{without, question_below, spans_few, fits_below}
-use Rattle.cl_tune.proofs.Members.{has, AreDistinct, HaveSame, all_at, has_filter, sum_without, sums_agree, has_place}
+use Rattle.cl_tune.specs.Inner.Filling.{without, question_below, spans_few, fits_below, AreDistinct}
+use Rattle.cl_tune.proofs.Members.{has, HaveSame, all_at, has_filter, sum_without, sums_agree, has_place}
 
 -- ---- at least one job
 

@@ -1,5 +1,7 @@
 pub mod Timings
+pub mod OthersTaken
 pub mod QuestionRanges
+pub mod AskedPlaces
 pub mod FillingSteps
 pub mod Members
 pub mod FitsBelow

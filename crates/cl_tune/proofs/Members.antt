@@ -8,7 +8,7 @@ use Rattle.std.proofs.lemmas.List.Elements.{All-head, All-tail}
 use Rattle.std.proofs.lemmas.List.Folds.{list_any_at}
 use Rattle.std.proofs.lemmas.List.Sums.{sum_by-cons}
 use Rattle.std.proofs.lemmas.List.Sorted.{IsPermutation-refl, IsPermutation-cons, IsPermutation-trans, IsPermutation-middle, IsPermutation-sym, sum_by-IsPermutation, list_any-IsPermutation}
-use Rattle.cl_tune.specs.Inner.Filling.{without}
+use Rattle.cl_tune.specs.Inner.Filling.{without, AreDistinct}
 
 -- ---- which numbers a list has
 
@@ -61,11 +61,6 @@ has_append x [] ys = refl
 has_append x (z ∷ zs) ys = elim (z == x) as (λ b. (b || has x (zs ++ ys)) ≡ ((b || has x zs) || has x ys)) [ true ↦ refl | false ↦ has_append x zs ys ]
 
 -- ---- once
-
--- no number stands in the list twice
-abbrev pub AreDistinct : List ℕ → Type 0
-AreDistinct [] = Unit {0}
-AreDistinct (x ∷ xs) = (has x xs ≡ false) × AreDistinct xs
 
 pub distinct_filter : (p : ℕ → Bool) (xs : List ℕ) → AreDistinct xs → AreDistinct (filter p xs)
 distinct_filter p [] once = tt

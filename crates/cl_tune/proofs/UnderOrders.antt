@@ -22,9 +22,9 @@ use Rattle.cl_resp.proofs.Filters.{filter-map}
 use Rattle.cl_resp.proofs.Greatest.{greatest_least, greatest_within, greatest_agrees, greatest_mapped}
 use Rattle.cl_resp.proofs.StimulusKinds.{kind_of-as_stimulus}
 use Rattle.cl_bound.specs.Answers.{answer_with, answer_to, is_late}
-use Rattle.cl_tune.specs.Inner.Filling.{question_below, spans_few, fits_below}
+use Rattle.cl_tune.specs.Inner.Filling.{question_below, spans_few, fits_below, AreDistinct}
 use Rattle.cl_tune.specs.Orders.{priority_in, IsPassing}
-use Rattle.cl_tune.proofs.Members.{has, has_head, has_more, has_cases, has_append, has_filter, has_place, AreDistinct, HaveSame, all_at, distinct_filter, sums_agree}
+use Rattle.cl_tune.proofs.Members.{has, has_head, has_more, has_cases, has_append, has_filter, has_place, HaveSame, all_at, distinct_filter, sums_agree}
 use Rattle.cl_tune.proofs.FitsBelow.{load, demand_below, asks_less}
 use Rattle.cl_tune.proofs.FilledOrders.{AllFit, ascending_range, ascending_distinct}
 use Rattle.cl_tune.proofs.NewPriorities.{timing_with, system_with, count_with, timing_with_is, priority_within}

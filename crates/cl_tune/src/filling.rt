@@ -4,9 +4,9 @@ ghost use Rattle.std.specs.Option.{option_map};
 ghost use Rattle.cl_model.specs.ByNumber.{tasks_of_core};
 ghost use Rattle.cl_model.specs.Validity.{IsValid};
 ghost use Rattle.cl_runs.specs.SystemOf.{system_of};
-ghost use Rattle.cl_tune.specs.Inner.Filling.{fits, best_order};
+ghost use Rattle.cl_tune.specs.Inner.Filling.{AreDistinct, fits, best_order};
 
-use crate::fitting::{fits, longest_hold, without};
+use crate::fitting::{all_above, first_too_long_for_any, fits, longest_hold, put_above, without};
 use cl_model::{MOST_TASKS_OF_CORE, MOST_TICKS, ValidModel};
 use cl_time::{NoMemory, Steps};
 use std::alloc::Global;
@@ -24,12 +24,22 @@ fn first_fitting<L: Ledger>(
     requires block { block ≤ MOST_TICKS }
     requires unplaced { All (λ other. other < length model.now.tasks) unplaced.now }
     requires few { length unplaced.now ≤ MOST_TASKS_OF_CORE }
+    requires distinct { AreDistinct unplaced.now }
     ensures { IfOk result (λ found. found ≡ find (fits (system_of model.now) block unplaced.now) unplaced.now) }
 {
-    for task in unplaced {
-        if fits(alloc, model, block, unplaced, *task, steps)? {
+    let Some((_, later)) = unplaced.split_first() else {
+        return Ok(None);
+    };
+    let too_long = first_too_long_for_any(model, unplaced);
+    // what all unplaced tasks take but the one that is tried: from one to the next a single place changes
+    let mut others = all_above(alloc, model, later)?;
+    for (place, task) in unplaced.iter().enumerate() {
+        let (fit, same) = fits(model, block, too_long, others, *task, steps);
+        if fit {
             return Ok(Some(*task));
         }
+        others = same;
+        put_above(model, &mut others, place, *task);
     }
     Ok(None)
 }

@@ -1,15 +1,16 @@
 //! Whether a task passes below others of its core. Times are in ticks. An order is filled from priority 1 upward; a
 //! task is unplaced while it has no place in it, and then stands above all tasks that have one.
-ghost use Rattle.std.specs.Prelude.{◌≡◌, ◌+◌, ◌*◌, ◌<◌, ◌≤◌, not, map, max, length, IfOk, All, Contains};
-ghost use Rattle.std.specs.List.{list_all};
+ghost use Rattle.std.specs.Prelude.{◌≡◌, ℕ, ◌<◌, ◌≤◌, ◌^◌, ◌&&◌, nat_le, nat_lt, map, max, length, slice_set, is_some, IfOk, All};
+ghost use Rattle.cl_model.specs.ByNumber.{deadline_of};
 ghost use Rattle.cl_model.specs.Validity.{IsValid};
 ghost use Rattle.cl_model.specs.ValidTasks.{spans_too_many};
 ghost use Rattle.cl_runs.specs.SystemOf.{system_of};
 ghost use Rattle.cl_runs.specs.TaskTiming.{timing_at};
-ghost use Rattle.cl_resp.specs.Question.{longest_hold, taken_by};
-ghost use Rattle.cl_tune.specs.Inner.Filling.{without, question_below, spans_few, fits};
+ghost use Rattle.cl_resp.specs.Question.{longest_hold, taken_by, IsQuestionInRange};
+ghost use Rattle.cl_resp.specs.Response.{response_to};
+ghost use Rattle.cl_tune.specs.Inner.Filling.{without, question_over, spans_few_of};
 
-use cl_model::{List, MOST_DISTANCES, MOST_TASKS_OF_CORE, MOST_TICKS, StimulusKind, ValidModel};
+use cl_model::{List, MOST_DISTANCES, MOST_TICKS, StimulusKind, ValidModel};
 use cl_resp::{Above, Question, respond};
 use cl_stim::AnyStimulus;
 use cl_time::{NoMemory, Steps};
@@ -37,37 +38,40 @@ pub(crate) fn longest_hold(model: &ValidModel, task: u32) -> u64
     model.task(task).longest_hold()
 }
 
-/// Whether a deadline, with the jitter of a task of higher priority, spans too many least distances of that task.
-fn spans_too_many(deadline: u64, above: StimulusKind) -> bool
-    ensures { result ≡ spans_too_many deadline above }
+/// The first deadline that spans too many least distances of a task of higher priority, with the jitter of that task.
+fn first_too_long(above: StimulusKind) -> u128
+    ensures { (deadline : ℕ) → spans_too_many deadline above ≡ nat_le result deadline }
 {
     let limit = u128::from(MOST_DISTANCES) * u128::from(above.least_distance());
-    limit < u128::from(deadline) + u128::from(above.greatest_jitter())
+    (limit + 1).saturating_sub(u128::from(above.greatest_jitter()))
 }
 
-/// Whether the deadline of a task spans few least distances of each of the others.
-fn spans_few(model: &ValidModel, others: &[u32], task: u32) -> bool
-    requires task { task < length model.now.tasks }
-    requires others { All (λ other. other < length model.now.tasks) others.now }
-    ensures { result ≡ spans_few (system_of model.now) others.now task }
+/// The first deadline that spans too many least distances of one of the tasks, or one that is longer than any.
+pub(crate) fn first_too_long_for_any(model: &ValidModel, tasks: &[u32]) -> u128
+    requires { All (λ task. task < length model.now.tasks) tasks.now }
+    ensures { (deadline : ℕ) → deadline < 2 ^ 64
+        → spans_few_of (system_of model.now) deadline tasks.now ≡ nat_lt deadline result }
 {
-    let deadline = model.deadline_of(task);
-    for other in others {
-        if spans_too_many(deadline, model.stimulus_of(*other)) {
-            return false;
-        }
+    let mut first = u128::MAX;
+    for task in tasks {
+        first = first.min(first_too_long(model.stimulus_of(*task)));
     }
-    true
+    first
 }
 
 /// What the others take, in file order.
-fn all_above(alloc: Global, model: &ValidModel, others: &[u32]) -> Result<List<Above>, NoMemory>
+pub(crate) fn all_above(
+    alloc: Global,
+    model: &ValidModel,
+    others: &[u32],
+) -> Result<List<Above>, NoMemory>
     requires valid { IsValid model.now }
     requires others { All (λ other. other < length model.now.tasks) others.now }
     ensures { IfOk result (λ above. above ≡ map (λ other. taken_by (timing_at (system_of model.now) other)) others.now) }
 {
     let mut above = List::new(alloc);
     for other in others {
+        // made here and not by `above_of`, of whose stimulus `push` would not know the type
         let stimulus = AnyStimulus::of(model.stimulus_of(*other));
         let time = model.time_of(*other);
         above.push(Above { stimulus, time })?;
@@ -75,49 +79,65 @@ fn all_above(alloc: Global, model: &ValidModel, others: &[u32]) -> Result<List<A
     Ok(above)
 }
 
-/// The question of a task below others, where whole runnables of the tasks below it block it for so long.
-fn question_below(
-    alloc: Global,
-    model: &ValidModel,
-    block: u64,
-    others: &[u32],
-    task: u32,
-) -> Result<Question, NoMemory>
+/// What a task takes of its core.
+fn above_of(model: &ValidModel, task: u32) -> Above
     requires valid { IsValid model.now }
     requires task { task < length model.now.tasks }
-    requires others { All (λ other. other < length model.now.tasks) others.now }
-    ensures { IfOk result (λ question. question ≡ question_below (system_of model.now) block others.now task) }
+    ensures { result ≡ taken_by (timing_at (system_of model.now) task) }
 {
-    Ok(Question {
+    Above {
+        stimulus: AnyStimulus::of(model.stimulus_of(task)),
+        time: model.time_of(task),
+    }
+}
+
+/// Puts what a task takes in the place of what another one takes. Past the end nothing changes.
+pub(crate) fn put_above(model: &ValidModel, above: &mut List<Above>, place: usize, task: u32)
+    requires valid { IsValid model.now }
+    requires task { task < length model.now.tasks }
+    ensures { above.new ≡ slice_set above.old place (taken_by (timing_at (system_of model.now) task)) }
+{
+    if place < above.len() {
+        *above.item_mut(place) = above_of(model, task);
+    }
+}
+
+/// The question of a task below others that take so much, where whole runnables of the tasks below it block it for so
+/// long.
+fn question_over(model: &ValidModel, block: u64, above: List<Above>, task: u32) -> Question
+    requires { task < length model.now.tasks }
+    ensures { result ≡ question_over (system_of model.now) block above task }
+{
+    Question {
         time: model.time_of(task),
         block: block.max(longest_hold(model, task)),
         jitter: model.jitter_of(task),
         deadline: model.deadline_of(task),
-        above: all_above(alloc, model, others)?,
-    })
+        above,
+    }
 }
 
-/// Whether a task passes at the lowest place that is free: below all others that have no place yet, where the whole
-/// runnables of those below it block it for so long. The only error is want of memory.
+/// Whether a task fits below others, where the whole runnables of those below it block it for so long: its deadline
+/// comes before the first that is too long for them, and it passes. What the others take comes back.
 pub(crate) fn fits<L: Ledger>(
-    alloc: Global,
     model: &ValidModel,
     block: u64,
-    unplaced: &[u32],
+    too_long: u128,
+    others: List<Above>,
     task: u32,
     steps: &mut Steps<L>,
-) -> Result<bool, NoMemory>
-    requires valid { IsValid model.now }
-    requires block { block ≤ MOST_TICKS }
-    requires unplaced { All (λ other. other < length model.now.tasks) unplaced.now }
-    requires few { length unplaced.now ≤ MOST_TASKS_OF_CORE }
-    requires task { Contains unplaced.now task }
-    ensures { IfOk result (λ fit. fit ≡ fits (system_of model.now) block unplaced.now task) }
+) -> (bool, List<Above>)
+    requires task { task < length model.now.tasks }
+    requires in_range { deadline_of model.now task < too_long
+        → IsQuestionInRange (question_over (system_of model.now) block others task) }
+    ensures fit { result.0 ≡ (nat_lt (deadline_of model.now task) too_long
+        && is_some (response_to (question_over (system_of model.now) block others task))) }
+    ensures others { result.1 ≡ others }
 {
-    let others = without(alloc, unplaced, task)?;
-    if !spans_few(model, others.as_slice(), task) {
-        return Ok(false);
+    if u128::from(model.deadline_of(task)) >= too_long {
+        return (false, others);
     }
-    let question = question_below(alloc, model, block, others.as_slice(), task)?;
-    Ok(respond(&question, steps).is_ok())
+    let question = question_over(model, block, others, task);
+    let passes = respond(&question, steps).is_ok();
+    (passes, question.above)
 }

@@ -1,11 +1,12 @@
 -- How an order is filled from the lowest priority upward: by the first task that fits below all others without a place
 -- yet.
-use Rattle.std.specs.Prelude.{ℕ, zero, suc, Bool, not, ◌&&◌, ◌==◌, max, List, [], ◌∷◌, map, filter, find, is_some, Option, Some}
-use Rattle.std.specs.List.{list_all}
+use Rattle.std.specs.Prelude.{◌≡◌, ℕ, zero, suc, Bool, false, not, ◌&&◌, ◌==◌, max, List, [], ◌∷◌, map, filter, find, is_some, Option, Some}
+use Rattle.std.specs.List.{list_all, list_any}
 use Rattle.std.specs.Option.{option_map, option_and_then}
 use Rattle.cl_model.specs.Timing.{greatest_jitter}
 use Rattle.cl_model.specs.ValidTasks.{spans_too_many}
 use Rattle.cl_runs.specs.TaskTiming.{System, timing_at}
+use Rattle.cl_resp.specs.declared.question.Above.{Above}
 use Rattle.cl_resp.specs.declared.question.Question.{Question}
 use Rattle.cl_resp.specs.Question.{greatest_execution, longest_hold, taken_by}
 use Rattle.cl_resp.specs.Response.{response_to}
@@ -14,19 +15,34 @@ use Rattle.cl_resp.specs.Response.{response_to}
 abbrev pub without : (task : ℕ) → List ℕ → List ℕ
 without task tasks = filter (λ other. not (other == task)) tasks
 
--- the question of a task below others, where whole runnables of the tasks below it block it for so long
-abbrev pub question_below : System → (block : ℕ) (others : List ℕ) → (task : ℕ) → Question
-question_below system block others task = record {
+-- no task stands in a list twice
+abbrev pub AreDistinct : List ℕ → Type 0
+AreDistinct [] = Unit {0}
+AreDistinct (x ∷ xs) = (list_any (λ y. y == x) xs ≡ false) × AreDistinct xs
+
+-- the question of a task below others that take so much, where whole runnables of the tasks below it block it for so
+-- long
+abbrev pub question_over : System → (block : ℕ) (above : List Above) → (task : ℕ) → Question
+question_over system block above task = record {
   time = greatest_execution (timing_at system task);
   block = max block (longest_hold (timing_at system task));
   jitter = greatest_jitter (timing_at system task).pattern;
   deadline = (timing_at system task).deadline;
-  above = map (λ other. taken_by (timing_at system other)) others;
+  above = above;
 }
+
+-- the question of a task below others, where whole runnables of the tasks below it block it for so long
+abbrev pub question_below : System → (block : ℕ) (others : List ℕ) → (task : ℕ) → Question
+question_below system block others task =
+    question_over system block (map (λ other. taken_by (timing_at system other)) others) task
+
+-- whether a deadline spans few least distances of each of the others
+abbrev pub spans_few_of : System → (deadline : ℕ) → (others : List ℕ) → Bool
+spans_few_of system deadline others = list_all (λ other. not (spans_too_many deadline (timing_at system other).pattern)) others
 
 -- whether the deadline of a task spans few least distances of each of the others
 abbrev pub spans_few : System → (others : List ℕ) → (task : ℕ) → Bool
-spans_few system others task = list_all (λ other. not (spans_too_many (timing_at system task).deadline (timing_at system other).pattern)) others
+spans_few system others task = spans_few_of system (timing_at system task).deadline others
 
 -- whether a task passes below the others
 abbrev pub fits_below : System → (block : ℕ) (others : List ℕ) → (task : ℕ) → Bool

@@ -9,6 +9,8 @@ use Rattle.cl_runs.specs.TaskTiming.{timing_at}
 use Rattle.cl_resp.specs.Question.{longest_hold}
 use Rattle.cl_resp.proofs.Filters.{shorter}
 use Rattle.cl_tune.specs.Inner.Filling.{without, fits, best_order}
+use Rattle.cl_tune.proofs.Members.{distinct_filter}
+use Rattle.cl_tune.proofs.FilledOrders.{tasks_distinct}
 use Rattle.cl_tune.proofs.FillingSteps.{found_known, behind, none_fits, one_fits, all_placed}
 use Rattle.cl_tune.proofs.filling.best_order.Invariants.{IsSoFar}
 use Rattle.cl_tune.proofs.filling.best_order.Goals as goal
@@ -31,6 +33,7 @@ loop-init g c =
       small = omega arith;
       known = subst (λ (list : List ℕ). All (λ other. other < length model.tasks) list) c.tasks_of_core-tasks.ensures.tasks c.tasks_of_core-tasks.ensures.within;
       few = few_tasks model c.requires.valid c.args.core;
+      once = tasks_distinct model c.args.core;
     })))
 
 pub returns-in_default : goal.returns-in_default
@@ -69,6 +72,7 @@ loop-preserved g c =
       small = small;
       known = All-filter (λ other. not (other == task)) (λ other. other < length model.tasks) c.loop.unplaced.items c.loop.invariant.known;
       few = short;
+      once = distinct_filter (λ other. not (other == task)) c.loop.unplaced.items c.loop.invariant.once;
     })))
 
 pub returns : goal.returns

@@ -4,7 +4,7 @@ use Rattle.cl_model.specs.declared.limits.TheConstants.{MOST_TICKS, MOST_TASKS_O
 use Rattle.cl_model.specs.declared.model.SystemModel.{SystemModel}
 use Rattle.cl_model.specs.ByNumber.{tasks_of_core}
 use Rattle.cl_runs.specs.SystemOf.{system_of}
-use Rattle.cl_tune.specs.Inner.Filling.{best_order}
+use Rattle.cl_tune.specs.Inner.Filling.{AreDistinct, best_order}
 use Rattle.cl_tune.proofs.FillingSteps.{behind}
 use Rattle.std.proofs.Common.{List}
 use Rattle.cl_tune.proofs.filling.best_order.Given as goal
@@ -16,6 +16,7 @@ pub record IsSoFar (model : SystemModel) (core : ℕ) (placed : List ℕ) (left 
   pub small : block ≤ MOST_TICKS
   pub known : All (λ other. other < length model.tasks) unplaced
   pub few : length unplaced ≤ MOST_TASKS_OF_CORE
+  pub once : AreDistinct unplaced
 
 abbrev pub invariant-loop : goal.invariant-loop
 invariant-loop g l = IsSoFar l.model l.core l.order.items (l.end - l.counter) l.block l.unplaced.items
