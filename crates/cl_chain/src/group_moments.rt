@@ -6,12 +6,13 @@ ghost use Rattle.cl_model.specs.Validity.{IsValid};
 ghost use Rattle.cl_runs.specs.SystemOf.{system_of};
 ghost use Rattle.cl_runs.specs.Legal.{IsLegal};
 ghost use Rattle.cl_runs.specs.Moments.{Reads, Writes};
+ghost use Rattle.cl_check.specs.Apart.{StandApart};
 ghost use Rattle.cl_check.specs.JobMoments.{IsMomentOf};
 ghost use Rattle.cl_chain.specs.Inner.Ends.{end_of, EndsAt};
 ghost use Rattle.cl_chain.specs.Inner.GroupTables.{AreMomentsAt, AreTables, IsTimedWrite, AreTimedWrites};
 
 use crate::hops::moment_at;
-use cl_check::{Moment, moments};
+use cl_check::{Moment, moments_apart, tasks_apart};
 use cl_model::{AccessKind, List, ValidModel};
 use cl_run_data::RunData;
 use cl_runs::Job;
@@ -47,6 +48,7 @@ fn ends_of(
     alloc: Global,
     model: &ValidModel,
     run: &RunData,
+    apart: &RunData,
     task: u32,
     place: u32,
     end: End,
@@ -54,10 +56,11 @@ fn ends_of(
     requires is_task { task < length model.now.tasks }
     requires is_runnable { place < length (task_at model.now task).runnables }
     requires legal { IsLegal (system_of model.now) run.now }
+    requires apart { StandApart (system_of model.now) run.now apart.now }
     ensures { IfOk result (λ ends.
         AreMomentsAt (λ job t. EndsAt end (system_of model.now) run.now task job place t) ends) }
 {
-    let found = moments(alloc, model, run, task, place)?;
+    let found = moments_apart(alloc, model, run, apart, task, place)?;
     let mut ends = List::new(alloc);
     for moment in found.as_slice() {
         ends.push(end_of(end, *moment))?;
@@ -122,18 +125,20 @@ fn reads_of(
     alloc: Global,
     model: &ValidModel,
     run: &RunData,
+    apart: &RunData,
     task: u32,
     place: u32,
 ) -> Result<List<Option<u64>>, NoMemory>
     requires is_task { task < length model.now.tasks }
     requires is_runnable { place < length (task_at model.now task).runnables }
     requires legal { IsLegal (system_of model.now) run.now }
+    requires apart { StandApart (system_of model.now) run.now apart.now }
     ensures { IfOk result (λ reads.
         AreMomentsAt (λ job t. Reads (system_of model.now) run.now task job place t) reads) }
 {
     match access_of(model, task).0 {
-        AccessKind::Explicit => ends_of(alloc, model, run, task, place, End::Start),
-        AccessKind::Implicit => ends_of(alloc, model, run, task, 0, End::Start),
+        AccessKind::Explicit => ends_of(alloc, model, run, apart, task, place, End::Start),
+        AccessKind::Implicit => ends_of(alloc, model, run, apart, task, 0, End::Start),
         AccessKind::Timed => arrivals_of(alloc, run.table().jobs_of(task)),
     }
 }
@@ -143,21 +148,23 @@ fn writes_of(
     alloc: Global,
     model: &ValidModel,
     run: &RunData,
+    apart: &RunData,
     task: u32,
     place: u32,
 ) -> Result<List<Option<u64>>, NoMemory>
     requires is_task { task < length model.now.tasks }
     requires is_runnable { place < length (task_at model.now task).runnables }
     requires legal { IsLegal (system_of model.now) run.now }
+    requires apart { StandApart (system_of model.now) run.now apart.now }
     ensures { IfOk result (λ writes.
         AreMomentsAt (λ job t. Writes (system_of model.now) run.now task job place t) writes) }
 {
     let (access, runnables) = access_of(model, task);
     match access {
-        AccessKind::Explicit => ends_of(alloc, model, run, task, place, End::Finish),
-        AccessKind::Implicit => ends_of(alloc, model, run, task, runnables - 1, End::Finish),
+        AccessKind::Explicit => ends_of(alloc, model, run, apart, task, place, End::Finish),
+        AccessKind::Implicit => ends_of(alloc, model, run, apart, task, runnables - 1, End::Finish),
         AccessKind::Timed => {
-            let finishes = ends_of(alloc, model, run, task, runnables - 1, End::Finish)?;
+            let finishes = ends_of(alloc, model, run, apart, task, runnables - 1, End::Finish)?;
             let deadline = model.deadline_of(task);
             let table = run.table();
             timed_writes(
@@ -171,15 +178,17 @@ fn writes_of(
     }
 }
 
-/// When the jobs of each group of a chain read and write.
-pub(crate) fn moments_of_groups(
+/// When the jobs of each group of a chain read and write, by the lists of the tasks where these stand apart.
+pub(crate) fn moments_of_groups_apart(
     alloc: Global,
     model: &ValidModel,
     run: &RunData,
+    apart: &RunData,
     chain: u32,
 ) -> Result<List<GroupMoments>, NoMemory>
     requires is_chain { chain < length model.now.chains }
     requires legal { IsLegal (system_of model.now) run.now }
+    requires apart { StandApart (system_of model.now) run.now apart.now }
     ensures tables { IfOk result (AreTables (system_of model.now) run.now (groups_at model.now chain)) }
     ensures some { 0 < length (groups_at model.now chain) }
     ensures valid { IsValid model.now }
@@ -190,9 +199,26 @@ pub(crate) fn moments_of_groups(
     for place in 0..model.group_count(chain) {
         let group = model.group(chain, place);
         tables.push(GroupMoments {
-            reads: reads_of(alloc, model, run, group.task, group.first)?,
-            writes: writes_of(alloc, model, run, group.task, group.last)?,
+            reads: reads_of(alloc, model, run, apart, group.task, group.first)?,
+            writes: writes_of(alloc, model, run, apart, group.task, group.last)?,
         })?;
     }
     Ok(tables)
+}
+
+/// When the jobs of each group of a chain read and write.
+pub(crate) fn moments_of_groups(
+    alloc: Global,
+    model: &ValidModel,
+    run: &RunData,
+    chain: u32,
+) -> Result<List<GroupMoments>, NoMemory>
+    requires is_chain { chain < length model.now.chains }
+    requires legal { IsLegal (system_of model.now) run.now }
+    ensures tables { IfOk result (AreTables (system_of model.now) run.now (groups_at model.now chain)) }
+    ensures some { IfOk result (λ _. 0 < length (groups_at model.now chain)) }
+    ensures valid { IfOk result (λ _. IsValid model.now) }
+{
+    let apart = tasks_apart(alloc, model, run)?;
+    moments_of_groups_apart(alloc, model, run, &apart, chain)
 }

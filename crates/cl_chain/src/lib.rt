@@ -14,4 +14,4 @@ mod tails;
 
 pub use chains_of_jobs::{backward, forward};
 pub use job_chain::{JobChain, Measured};
-pub use measuring::measure;
+pub use measuring::{measure, measure_apart};

@@ -6,6 +6,7 @@ ghost use Rattle.cl_runs.specs.Legal.{IsLegal};
 ghost use Rattle.cl_runs.specs.Chains.{first_job, last_job};
 ghost use Rattle.cl_runs.specs.RunChains.{run_moments};
 ghost use Rattle.cl_runs.specs.Measured.{IsMeasured, IsMeasuredBy, IsCountOf};
+ghost use Rattle.cl_check.specs.Apart.{StandApart};
 ghost use Rattle.cl_check.specs.JobMoments.{IsMomentOf};
 ghost use Rattle.cl_chain.specs.JobChains.{option_of, measured_of};
 ghost use Rattle.cl_chain.specs.Inner.GroupTables.{AreMomentsAt};
@@ -15,11 +16,12 @@ ghost use Rattle.cl_chain.specs.Inner.Rows.{AreRowsOf};
 
 use crate::backward_jobs::{age_over, next_write, reduced_over};
 use crate::forward_jobs::forward_over;
-use crate::group_moments::{GroupMoments, moments_of_groups};
+use crate::group_moments::{GroupMoments, moments_of_groups_apart};
 use crate::heads::heads;
 use crate::job_chain::{JobChain, Measured};
 use crate::rows::{Rows, longest, rows_of};
 use crate::tails::tails;
+use cl_check::tasks_apart;
 use cl_model::{List, ValidModel};
 use cl_run_data::RunData;
 use cl_time::NoMemory;
@@ -239,6 +241,25 @@ pub fn measure(
     ensures { IfOk result (λ measured.
         IsMeasured (run_moments (system_of model.now) run.now) (groups_at model.now chain) (measured_of measured)) }
 {
-    let groups = moments_of_groups(alloc, model, run, chain)?;
+    let apart = tasks_apart(alloc, model, run)?;
+    measure_apart(alloc, model, run, &apart, chain)
+}
+
+/// The measured chains of a chain of the model in a run, as `measure` says, by the lists of the tasks where these stand
+/// apart. It takes a time proportional to the jobs of the tasks of the chain's groups and the stretches of their lists.
+pub fn measure_apart(
+    alloc: Global,
+    model: &ValidModel,
+    run: &RunData,
+    apart: &RunData,
+    chain: u32,
+) -> Result<Measured, NoMemory>
+    requires is_chain { chain < length model.now.chains }
+    requires legal { IsLegal (system_of model.now) run.now }
+    requires apart { StandApart (system_of model.now) run.now apart.now }
+    ensures { IfOk result (λ measured.
+        IsMeasured (run_moments (system_of model.now) run.now) (groups_at model.now chain) (measured_of measured)) }
+{
+    let groups = moments_of_groups_apart(alloc, model, run, apart, chain)?;
     measured_over(alloc, groups.as_slice())
 }

@@ -175,16 +175,30 @@ begins_next stretches place next tick stretch next_is h read is = record {
 
 module _ (run : Run) (core : ℕ) (stretches : List Stretch) (of : AreStretchesOf (core_entries run core) stretches)
     (ticks : length (core_entries run core) ≡ run.table.ticks) where
+  -- a stretch lasts from its beginning
+  lasts_from : (place tick : ℕ) (stretch : Stretch) → place < length stretches → stretch ≡ get_or stretches place stretch
+      → BeginsAt stretches place tick → LastsFrom stretches place tick stretch.end
+  lasts_from place tick stretch h read begins = record {
+    within = h;
+    first = begins.first;
+    next = begins.next;
+    ends = λ d. ap (λ (s : Stretch). s.end) (read ∙ get_or_default stretches place stretch d h);
+  }
+
+  -- for a tick at least
+  pub some_at : (place tick : ℕ) (stretch : Stretch) → place < length stretches → stretch ≡ get_or stretches place stretch
+      → BeginsAt stretches place tick → tick < stretch.end
+  some_at place tick stretch h read begins =
+      lasts_some (core_entries run core) stretches of place tick stretch.end (lasts_from place tick stretch h read begins)
+
   -- the entries from its beginning on are those of a stretch
   pub lasts_at : (place tick : ℕ) (stretch : Stretch) → place < length stretches → stretch ≡ get_or stretches place stretch
       → BeginsAt stretches place tick → Lasts run core tick stretch
   lasts_at place tick stretch h read begins =
-      let ends : (d : Stretch) → stretch.end ≡ (get_or stretches place d).end
-      = λ d. ap (λ (s : Stretch). s.end) (read ∙ get_or_default stretches place stretch d h) in
-      let from : LastsFrom stretches place tick stretch.end = record { within = h; first = begins.first; next = begins.next; ends = ends } in
+      let from = lasts_from place tick stretch h read begins in
       record {
-        ahead = omega (arith, lasts_some (core_entries run core) stretches of place tick stretch.end from);
-        within = omega (arith, ticks, end_within (core_entries run core) stretches of place stretch h, ends stretch);
+        ahead = omega (arith, some_at place tick stretch h read begins);
+        within = omega (arith, ticks, end_within (core_entries run core) stretches of place stretch h, from.ends stretch);
         entries = λ t after before. entry_of_tick (core_entries run core) stretches of place tick stretch.end from t stretch after before
             ∙ ap (λ (s : Stretch). s.who) (sym read);
       }

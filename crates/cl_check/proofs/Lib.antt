@@ -5,3 +5,5 @@ pub mod TableFaults
 pub mod LawfulFaults
 pub mod FollowedRuns
 pub mod BrokenRules
+pub mod ApartTasks
+pub mod ApartMoments

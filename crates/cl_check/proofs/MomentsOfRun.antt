@@ -1,5 +1,5 @@
 -- The moments that walks find are the starts and finishes of a legal run.
-use Rattle.std.proofs.Common.{◌≡◌, ℕ, suc, ◌-◌, ◌<◌, ◌≤◌, inl, inr, Option, Some, None, List, length, get_or, sym, ap, ◌∙◌, subst, arith}
+use Rattle.std.proofs.Common.{◌≡◌, ℕ, suc, ◌-◌, ◌<◌, ◌≤◌, inl, inr, Option, Some, None, List, length, get_or, refl, sym, ap, ◌∙◌, subst, arith}
 use Rattle.std.specs.Prelude.{slice_index, All}
 use Rattle.std.proofs.lemmas.Bool.{cases_lt}
 use Rattle.std.proofs.lemmas.List.{get_or_default}
@@ -23,7 +23,9 @@ use Rattle.cl_run_data.specs.Stretches.{entries_from, AreStretchesOf}
 use Rattle.cl_check.specs.declared.job_moments.Moment.{Moment}
 use Rattle.cl_check.specs.JobMoments.{IsMomentOf, AreMoments}
 use Rattle.cl_check.specs.Inner.Walks.{executed_in, RunsAfter, EndsAfter, AreMomentsIn}
+use Rattle.cl_check.specs.Apart.{StandApart}
 use Rattle.cl_check.proofs.WalkFacts.{executed_more, executed_grows}
+use Rattle.cl_check.proofs.ApartMoments.{moments_alike}
 
 -- ---- a task of a legal run, and the entries of its core
 
@@ -171,3 +173,20 @@ module _ (model : SystemModel) (valid : IsValid model) (run : Run) (legal : IsLe
           → AreMoments (system_of model) run task place moments
       moments_are jobs same moments found = found_are moments
           (subst (λ (js : List Job). (length moments ≡ length js) × AreMomentsIn (entries_from 0 ss) js task place moments) same found)
+
+    -- and so are those over the task's own list, where the tasks stand apart
+    pub moments_are_apart : (apart : Run) → StandApart (system_of model) run apart → (ss : List Stretch) → AreStretchesOf (core_entries apart task) ss
+        → (jobs : List Job) → jobs ≡ jobs_of run task → (moments : List Moment)
+        → (length moments ≡ length jobs) × AreMomentsIn (entries_from 0 ss) jobs task place moments
+        → AreMoments (system_of model) run task place moments
+    moments_are_apart apart is_apart ss stretches jobs same moments found =
+        let alike = is_apart.alike task is_task in
+        let own = subst (λ es. AreMomentsIn es jobs task place moments) stretches.entries_are found.1 in
+        let on_its_core = moments_alike task (core_entries apart task) (core_entries run (timing_at (system_of model) task).core) alike jobs place moments own in
+        let as_jobs = subst (λ (js : List Job). (length moments ≡ length js) × AreMomentsIn (core_entries run (timing_at (system_of model) task).core) js task place moments)
+        same (found.0, on_its_core) in
+        record {
+          one_a_job = as_jobs.0;
+          starts = λ job h. is_start (system_of model) sound run legal task is_task _ refl job place (omega (arith, h, as_jobs.0)) place_is _ (as_jobs.1.starts job h);
+          finishes = λ job h. is_finish (system_of model) sound run legal task is_task _ refl job place (omega (arith, h, as_jobs.0)) place_is _ (as_jobs.1.finishes job h);
+        }

@@ -15,7 +15,7 @@ use Rattle.cl_check.specs.declared.walk.Walk.{Walk}
 use Rattle.cl_check.specs.Inner.Walks.{executed_in, RunsAfter, StandsIn}
 
 -- an entry that passes the test is the task
-is_that_task : (task : ℕ) (who : Option ℕ) → is_task task who ≡ true → who ≡ Some task
+pub is_that_task : (task : ℕ) (who : Option ℕ) → is_task task who ≡ true → who ≡ Some task
 is_that_task task None is = absurd (false≢true is)
 is_that_task task (Some runs) is = ap Some (eqb-true runs task is)
 
@@ -35,7 +35,7 @@ module _ (entries : List (Option ℕ)) (task : ℕ) where
       → executed_in entries task (suc t) ≡ suc (executed_in entries task t)
   executed_more t h runs = simp add-one at (count_by_more_yes (is_task task) entries t None h (ap (is_task task) runs ∙ eq-eqb task task refl))
 
-  one_more : (who : Option ℕ) (b : Bool) → is_task task who ≡ b → (t : ℕ) → t < length entries → get_or entries t None ≡ who
+  pub one_more : (who : Option ℕ) (b : Bool) → is_task task who ≡ b → (t : ℕ) → t < length entries → get_or entries t None ≡ who
       → executed_in entries task (t + 1) ≡ executed_in entries task t + cond b 1 0
   one_more who true is t h same = count_by_more_yes (is_task task) entries t None h (ap (is_task task) same ∙ is)
   one_more who false is t h same = omega (arith, count_by_more_no (is_task task) entries t None h (ap (is_task task) same ∙ is))

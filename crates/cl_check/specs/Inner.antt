@@ -2,3 +2,4 @@
 pub mod Walks
 pub mod Finding
 pub mod Following
+pub mod PutApart

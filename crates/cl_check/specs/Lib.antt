@@ -1,3 +1,4 @@
 pub mod JobMoments
+pub mod Apart
 pub mod Inner
 pub mod Legality

@@ -5,6 +5,7 @@ ghost use Rattle.cl_runs.specs.declared.job.Job.{Job};
 ghost use Rattle.cl_runs.specs.SystemOf.{system_of};
 ghost use Rattle.cl_runs.specs.Legal.{IsLegal};
 ghost use Rattle.cl_run_data.specs.Stretches.{entries_from, AreLongest};
+ghost use Rattle.cl_check.specs.Apart.{StandApart};
 ghost use Rattle.cl_check.specs.JobMoments.{IsMomentOf, AreMoments};
 ghost use Rattle.cl_check.specs.Inner.Walks.{RunsAfter, EndsAfter, StandsIn, AreMomentsIn};
 
@@ -106,5 +107,30 @@ pub fn moments(
     // read for its range: the core's entries are as many as the ticks
     let _ticks = table.ticks;
     let stretches = run.stretches(model.core_of(task));
+    moments_in(alloc, stretches, table.jobs_of(task), task, place as usize)
+}
+
+/// When a runnable of a task starts and finishes, as `moments` says, by the task's own list where the tasks of the run
+/// stand apart. It takes a time proportional to the stretches of that list and the jobs of the task.
+pub fn moments_apart(
+    alloc: Global,
+    model: &ValidModel,
+    run: &RunData,
+    apart: &RunData,
+    task: u32,
+    place: u32,
+) -> Result<List<Moment>, NoMemory>
+    requires is_task { task < length model.now.tasks }
+    requires is_runnable { place < length (task_at model.now task).runnables }
+    requires legal { IsLegal (system_of model.now) run.now }
+    requires apart { StandApart (system_of model.now) run.now apart.now }
+    ensures { IfOk result (AreMoments (system_of model.now) run.now task place) }
+{
+    let runnables = model.task(task).runnables.len();
+    prove!((place as usize) < runnables);
+    let table = run.table();
+    // read for its range: the task's entries are at most as many as the ticks
+    let _ticks = table.ticks;
+    let stretches = apart.stretches(task);
     moments_in(alloc, stretches, table.jobs_of(task), task, place as usize)
 }

@@ -1,6 +1,7 @@
 //! Whether a run is legal, and what it shows of its jobs: when they start and finish.
 #![tactic(auto)]
 
+mod apart;
 mod checking;
 mod interval;
 mod job_moments;
@@ -9,6 +10,7 @@ mod schedule_check;
 mod table_check;
 mod walk;
 
+pub use apart::tasks_apart;
 pub use checking::check_run;
-pub use job_moments::{Moment, moments};
+pub use job_moments::{Moment, moments, moments_apart};
 pub use run_fault::{Rule, RunFault};

@@ -8,7 +8,8 @@ ghost use Rattle.cl_chain.specs.JobChains.{measured_of};
 ghost use Rattle.cl_replay.specs.Margins.{HaveMargins};
 ghost use Rattle.cl_replay.specs.Replay.{AreMeasured};
 
-use cl_chain::{Measured, measure};
+use cl_chain::{Measured, measure_apart};
+use cl_check::tasks_apart;
 use cl_model::{List, ValidModel};
 use cl_run_data::RunData;
 use cl_time::NoMemory;
@@ -26,9 +27,10 @@ pub(crate) fn measure_all(
     ensures margins { IfOk result (λ measured. (findings : Findings) → AreFindings model.now findings
         → HaveMargins model.now findings (map measured_of measured)) }
 {
+    let apart = tasks_apart(alloc, model, run)?;
     let mut measured = List::new(alloc);
     for chain in 0..model.chains() {
-        measured.push(measure(alloc, model, run, chain)?)?;
+        measured.push(measure_apart(alloc, model, run, &apart, chain)?)?;
     }
     Ok(measured)
 }

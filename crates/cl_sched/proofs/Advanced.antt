@@ -10,7 +10,7 @@ use Rattle.cl_sched.specs.declared.progress.Progress.{Progress}
 use Rattle.cl_sched.specs.declared.core_progress.CoreProgress.{CoreProgress}
 use Rattle.cl_sched.specs.declared.core_progress.Next.{Next}
 use Rattle.cl_sched.specs.Progress.{IsAtRunnable, HasComeTo}
-use Rattle.cl_sched.specs.CoreProgress.{ticks_of, progress_at, IsOfCore, IsListed, AreOfCore, Holds, IsBestOf, IsChoice, IsReached, IsNext}
+use Rattle.cl_sched.specs.CoreProgress.{ticks_of, progress_at, IsOfCore, StandsAmong, AreOfCore, Holds, IsBestOf, IsChoice, IsReached, IsNext}
 use Rattle.cl_sched.specs.Inner.Executing.{HasExecuted}
 use Rattle.cl_sched.proofs.Standing.{some_job_released, some_job_holds}
 use Rattle.cl_sched.proofs.Steady.{own_ticks, others_ticks, idle_ticks}
@@ -88,7 +88,7 @@ module _ (system : System) (table : JobTable) (core : ℕ) (entries : List (Opti
       | inr other ↦ other_of_core k (omega (arith, h, executed.as_many)) other
     ]
 
-    listed : (task : ℕ) → IsListed task old.tasks.items → IsListed task new.tasks.items
+    listed : (task : ℕ) → StandsAmong task old.tasks.items → StandsAmong task new.tasks.items
     listed task there = record {
       index = there.index;
       within = omega (arith, there.within, executed.as_many);

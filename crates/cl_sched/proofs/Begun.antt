@@ -12,7 +12,7 @@ use Rattle.cl_runs.specs.Table.{table_jobs}
 use Rattle.cl_runs.proofs.ModelSystem.{timing_is, count_is}
 use Rattle.cl_sched.specs.declared.progress.Progress.{Progress}
 use Rattle.cl_sched.specs.Progress.{HasComeTo, IsHolding}
-use Rattle.cl_sched.specs.CoreProgress.{progress_at, IsOfCore, IsListed, AreOfCore, IsHeldIndex}
+use Rattle.cl_sched.specs.CoreProgress.{progress_at, IsOfCore, StandsAmong, AreOfCore, IsHeldIndex}
 use Rattle.cl_sched.specs.Inner.Executing.{IsUnbegun}
 use Rattle.cl_sched.proofs.CoreLists.{passing, passing_there, passing_fine, passing_rise}
 
@@ -48,7 +48,7 @@ module _ (model : SystemModel) (table : JobTable) (core : ℕ) (tasks : List Pro
         has_come = subst (λ i. HasComeTo (table_jobs table i) 0 (progress_at tasks k)) (sym own) one.has_come;
       }
 
-  listed : (task : ℕ) → task < length (system_of model).tasks → (timing_at (system_of model) task).core ≡ core → IsListed task tasks
+  listed : (task : ℕ) → task < length (system_of model).tasks → (timing_at (system_of model) task).core ≡ core → StandsAmong task tasks
   listed task h on =
       let is : task < length model.tasks = omega (arith, h, count_is model) in
       let there = passing_there is_on (length model.tasks) task is (eq-eqb (core_of model task) core (sym (core_is task is) ∙ on)) in

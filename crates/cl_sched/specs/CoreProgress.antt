@@ -40,7 +40,7 @@ abbrev pub Holds : System → JobTable → Progress → Type 0
 Holds system table progress = IsHolding (timing_at system progress.task) (table_jobs table progress.task) progress
 
 -- where a task of a core stands in a list
-pub record IsListed (task : ℕ) (tasks : List Progress) : Type 0 where
+pub record StandsAmong (task : ℕ) (tasks : List Progress) : Type 0 where
   pub index : ℕ
   pub within : index < length tasks
   pub is : (progress_at tasks index).task ≡ task
@@ -49,7 +49,7 @@ pub record IsListed (task : ℕ) (tasks : List Progress) : Type 0 where
 pub record AreOfCore (system : System) (table : JobTable) (core : ℕ) (entries : List (Option ℕ)) (tasks : List Progress)
     : Type 0 where
   pub each : (index : ℕ) → index < length tasks → IsOfCore system table core entries (progress_at tasks index)
-  pub all : (task : ℕ) → task < length system.tasks → (timing_at system task).core ≡ core → IsListed task tasks
+  pub all : (task : ℕ) → task < length system.tasks → (timing_at system task).core ≡ core → StandsAmong task tasks
   pub once : (one other : ℕ) → one < length tasks → other < length tasks
       → (progress_at tasks one).task ≡ (progress_at tasks other).task → one ≡ other
 

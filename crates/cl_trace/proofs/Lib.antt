@@ -10,6 +10,7 @@ pub mod LineLengths
 pub mod TraceLength
 pub mod ShortTraces
 pub mod PieceFacts
+pub mod LeadingDigits
 pub mod LineFacts
 pub mod JobLines
 pub mod StretchItems

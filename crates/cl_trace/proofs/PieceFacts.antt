@@ -1,5 +1,5 @@
 -- Words at the beginning of a text: names and printed numbers.
-use Rattle.std.proofs.Common.{◌≡◌, ◌≢◌, ℕ, ◌^◌, ◌<◌, true, false, Option, Some, None, List, [], ◌∷◌, ◌++◌, length, get_or, refl, sym, ap, ◌∙◌, arith}
+use Rattle.std.proofs.Common.{◌≡◌, ◌≢◌, ℕ, ◌<◌, true, false, Option, Some, None, List, [], ◌∷◌, ◌++◌, length, get_or, refl, sym, ap, ◌∙◌, arith}
 use Rattle.std.specs.Prelude.{decimal, MatchOption, IfSome, IfNone}
 use Rattle.std.specs.List.{AllPass, list_all}
 use Rattle.std.proofs.lemmas.Bool.Decides.{nat_tests}
@@ -8,8 +8,7 @@ use Rattle.std.proofs.lemmas.List.Sums.{AllPass-from_list_all}
 use Rattle.cl_model.specs.Name.{IsName, is_name_byte}
 use Rattle.cl_model.proofs.Names.{name_bytes}
 use Rattle.cl_text.specs.Line.{first_word, is_graphic}
-use Rattle.cl_text.proofs.LineLemmas.{first_word-ended, graphic_decimal}
-use Rattle.cl_text.proofs.DecimalLemmas.{grammar_of_decimal}
+use Rattle.cl_text.proofs.LineLemmas.{first_word-ended}
 use Rattle.cl_trace.specs.Trace.{number_text}
 
 -- both sides of a match
@@ -34,15 +33,9 @@ graphic_name name is k d lt = name_byte_graphic (get_or name k d) (AllPass-from_
 pub name_is_some : (name : List ℕ) → IsName name → name ≢ []
 name_is_some name is none = omega (arith, name_some name is, ap length none)
 
-pub decimal_is_some : (n : ℕ) → n < 2 ^ 64 → decimal n ≢ []
-decimal_is_some n fits = (grammar_of_decimal (decimal n) n fits refl).not_empty
-
 -- what stands behind the blank of a number
 pub behind_blank : (text behind rest : List ℕ) (n byte : ℕ) → text ≡ 32 ∷ behind → text ≡ number_text n ++ byte ∷ rest → behind ≡ decimal n ++ byte ∷ rest
 behind_blank text behind rest n byte is fits = cc (sym is ∙ fits)
-
-pub number_word : (behind rest : List ℕ) (n byte : ℕ) → n < 2 ^ 64 → is_graphic byte ≡ false → behind ≡ decimal n ++ byte ∷ rest → first_word behind ≡ decimal n
-number_word behind rest n byte small other is = ap first_word is ∙ first_word-ended (decimal n) rest byte (graphic_decimal n small) other
 
 pub name_word : (text name rest : List ℕ) (byte : ℕ) → IsName name → is_graphic byte ≡ false → text ≡ name ++ byte ∷ rest → first_word text ≡ name
 name_word text name rest byte named other is = ap first_word is ∙ first_word-ended name rest byte (graphic_name name named) other

@@ -1,6 +1,7 @@
 //! Traces: runs as text.
 #![tactic(auto)]
 
+mod guesses;
 mod job_lines;
 pub mod laws;
 mod limits;

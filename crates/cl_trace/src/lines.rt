@@ -10,8 +10,9 @@ ghost use Rattle.cl_trace.specs.Trace.{numbers, ticks_words, run_words, JobOf, R
 ghost use Rattle.cl_trace.specs.Rules.{IsJobOf};
 ghost use Rattle.cl_trace.specs.Inner.Pieces.{AreRead, AreTimes, AreTasksNamed};
 
+use crate::guesses::Guesses;
 use crate::limits::{MOST_TRACE_NUMBER, MOST_TRACE_TICKS};
-use crate::pieces::{after, number_after, task_after};
+use crate::pieces::{after, byte_after, number_after, task_after};
 use cl_model::{List, ValidModel};
 use cl_runs::Job;
 use cl_time::NoMemory;
@@ -33,7 +34,7 @@ pub(crate) fn ticks_after(text: &[u8]) -> Option<(u64, &[u8])>
 {
     let text = after(text, b"ticks")?;
     let (ticks, text) = number_after(text, MOST_TRACE_TICKS)?;
-    let rest = after(text, b"\n")?;
+    let rest = byte_after(text, b'\n')?;
     Some((ticks, rest))
 }
 
@@ -106,7 +107,7 @@ pub(crate) fn job_after<'a>(
     let Some((times, behind)) = times_after(alloc, behind, task.runnables.len())? else {
         return Ok(None);
     };
-    match after(behind, b"\n") {
+    match byte_after(behind, b'\n') {
         None => Ok(None),
         Some(rest) => Ok(Some((
             Job {
@@ -125,6 +126,7 @@ pub(crate) fn run_after<'a>(
     model: &ValidModel,
     text: &'a [u8],
     most: u64,
+    guesses: &mut Guesses,
 ) -> Option<(RunLine, &'a [u8])>
     requires named { AreTasksNamed model.now }
     requires valid { IsValid model.now }
@@ -136,8 +138,8 @@ pub(crate) fn run_after<'a>(
         → text.now ≡ item_text model.now (Runs task from to) ++ rest → (read.0 ≡ record { task = task; from = from; to = to }) × (read.1.now ≡ rest)) }
 {
     let text = after(text, b"run ")?;
-    let (task, text) = task_after(model, text)?;
+    let (task, text) = task_after(model, text, guesses)?;
     let (from, to, text) = two_after(text, most)?;
-    let rest = after(text, b"\n")?;
+    let rest = byte_after(text, b'\n')?;
     Some((RunLine { task, from, to }, rest))
 }

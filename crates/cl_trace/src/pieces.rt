@@ -1,14 +1,15 @@
 //! The pieces of a line: fixed words, numbers, names. Each reading answers what follows the piece.
-ghost use Rattle.std.specs.Prelude.{◌≡◌, ◌≢◌, ◌<◌, ◌≤◌, ℕ, List, [], ◌∷◌, ◌++◌, false, length, All, IfSome, IfNone};
+ghost use Rattle.std.specs.Prelude.{◌≡◌, ◌≢◌, ◌↔◌, ◌^◌, ◌<◌, ◌≤◌, ℕ, List, [], ◌∷◌, ◌++◌, false, length, slice_index, All, IsTrue, Some, None, IfSome, IfNone, decimal};
 ghost use Rattle.cl_text.specs.Line.{first_word, is_graphic};
 ghost use Rattle.cl_model.specs.Name.{IsName};
-ghost use Rattle.cl_model.specs.ByNumber.{task_at};
+ghost use Rattle.cl_model.specs.ByNumber.{task_at, task_named};
 ghost use Rattle.cl_model.specs.Validity.{IsValid};
 ghost use Rattle.cl_trace.specs.Trace.{number_text};
-ghost use Rattle.cl_trace.specs.Inner.Pieces.{IsRead};
+ghost use Rattle.cl_trace.specs.Inner.Pieces.{IsRead, AreDigitsOf};
 
+use crate::guesses::Guesses;
 use cl_model::{Name, ValidModel};
-use cl_text::{next_word, read_decimal};
+use cl_text::next_word;
 
 /// What follows a piece that the text begins with. `None` exactly where it begins with another.
 pub(crate) fn after<'a>(text: &'a [u8], piece: &[u8]) -> Option<&'a [u8]>
@@ -28,20 +29,80 @@ pub(crate) fn word_after(text: &[u8]) -> Option<(&[u8], &[u8])>
     Some((&text[..end], &text[end..]))
 }
 
+/// What follows a byte that the text begins with. `None` exactly where it begins with another.
+pub(crate) fn byte_after(text: &[u8], byte: u8) -> Option<&[u8]>
+    ensures some { IfSome result (λ rest. text.now ≡ byte ∷ rest.now) }
+    ensures none { IfNone result ((rest : List ℕ) → text.now ≢ byte ∷ rest) }
+{
+    let (first, rest) = text.split_first()?;
+    if *first == byte { Some(rest) } else { None }
+}
+
+/// The number that the digits which the text begins with write, as many as stand there, and how many they are. There is
+/// none where it is past 64 bits.
+fn digits_of(text: &[u8]) -> Option<(u64, usize)>
+    ensures some { IfSome result (λ read. AreDigitsOf text.now read.1 read.0) }
+    ensures none { IfNone result ((n byte : ℕ) (rest : List ℕ) → n < 2 ^ 64 → is_graphic byte ≡ false → text.now ≢ decimal n ++ byte ∷ rest) }
+{
+    let mut number: u64 = 0;
+    for (count, byte) in text.iter().enumerate() {
+        if !byte.is_ascii_digit() {
+            return Some((number, count));
+        }
+        number = number
+            .checked_mul(10)?
+            .checked_add(u64::from(*byte - b'0'))?;
+    }
+    Some((number, text.len()))
+}
+
+/// Whether so many digits that the text begins with are printed: one at least, and no further one behind a zero.
+fn are_printed(text: &[u8], count: usize) -> bool
+    requires { count ≤ length text.now }
+    ensures { IsTrue result ↔ ((0 < count) × (slice_index text.now 0 ≡ 48 → count ≡ 1)) }
+{
+    count == 1 || (count > 1 && text[0] != b'0')
+}
+
 /// The number of at most `most` after a blank that the text begins with, and what follows it.
 pub(crate) fn number_after(text: &[u8], most: u64) -> Option<(u64, &[u8])>
     ensures some { IfSome result (λ read. (text.now ≡ number_text read.0 ++ read.1.now) × (read.0 ≤ most)) }
     ensures only { (n byte : ℕ) (rest : List ℕ) → n ≤ most → is_graphic byte ≡ false → text.now ≡ number_text n ++ byte ∷ rest
         → IsRead result n (byte ∷ rest) }
 {
-    let text = after(text, b" ")?;
-    let (word, rest) = word_after(text)?;
-    let number = read_decimal(word, most)?;
-    Some((number, rest))
+    let digits = byte_after(text, b' ')?;
+    let (number, count) = digits_of(digits)?;
+    if number <= most && are_printed(digits, count) {
+        Some((number, &digits[count..]))
+    } else {
+        None
+    }
+}
+
+/// The task of the model whose name a word is. It is compared with the guess first, since lines name the same tasks again
+/// and again.
+fn task_of(model: &ValidModel, word: &[u8], guesses: &mut Guesses) -> Option<u32>
+    requires { IsValid model.now }
+    ensures within { IfSome result (λ task. task < length model.now.tasks) }
+    ensures found { IfSome result (λ task. task_named model.now word.now ≡ Some task) }
+    ensures none { IfNone result (IsName word.now → task_named model.now word.now ≡ None) }
+{
+    let guess = guesses.at(word);
+    if guess < model.tasks() && model.task(guess).name.as_slice() == word {
+        return Some(guess);
+    }
+    let name = Name::read(word)?;
+    let task = model.task_named(&name)?;
+    guesses.keep(word, task);
+    Some(task)
 }
 
 /// The task of the model whose name the text begins with, and what follows it.
-pub(crate) fn task_after<'a>(model: &ValidModel, text: &'a [u8]) -> Option<(u32, &'a [u8])>
+pub(crate) fn task_after<'a>(
+    model: &ValidModel,
+    text: &'a [u8],
+    guesses: &mut Guesses,
+) -> Option<(u32, &'a [u8])>
     requires { IsValid model.now }
     ensures within { IfSome result (λ read. read.0 < length model.now.tasks) }
     ensures some { IfSome result (λ read. text.now ≡ (task_at model.now read.0).name ++ read.1.now) }
@@ -49,7 +110,6 @@ pub(crate) fn task_after<'a>(model: &ValidModel, text: &'a [u8]) -> Option<(u32,
         → is_graphic byte ≡ false → text.now ≡ (task_at model.now task).name ++ byte ∷ rest → IsRead result task (byte ∷ rest) }
 {
     let (word, rest) = word_after(text)?;
-    let name = Name::read(word)?;
-    let task = model.task_named(&name)?;
+    let task = task_of(model, word, guesses)?;
     Some((task, rest))
 }

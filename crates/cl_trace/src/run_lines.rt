@@ -7,6 +7,7 @@ ghost use Rattle.cl_trace.specs.Trace.{Runs, item_text};
 ghost use Rattle.cl_trace.specs.Inner.Bodies.{IsStretchWithin, FitsEntries, AreAllEntriesOf, IsRunWith, AreCores, entries_appended};
 ghost use Rattle.cl_trace.specs.Inner.Pieces.{AreTasksNamed};
 
+use crate::guesses::Guesses;
 use crate::lines::{RunLine, run_after};
 use cl_model::ValidModel;
 use cl_run_data::RunData;
@@ -32,6 +33,7 @@ fn stretch_after<'a>(
     run: &RunData,
     core: u32,
     text: &'a [u8],
+    guesses: &mut Guesses,
 ) -> Option<(RunLine, &'a [u8])>
     requires named { AreTasksNamed model.now }
     requires valid { IsValid model.now }
@@ -42,7 +44,7 @@ fn stretch_after<'a>(
     ensures none { IfNone result ((task from to : ℕ) (rest : List ℕ) → IsStretchWithin model.now run.now.table.ticks task from to
         → FitsEntries model.now core (core_entries run.now core) task from → text.now ≢ item_text model.now (Runs task from to) ++ rest) }
 {
-    let (line, rest) = run_after(model, text, run.table().ticks)?;
+    let (line, rest) = run_after(model, text, run.table().ticks, guesses)?;
     if line.from < line.to && fits_core(model, run, core, line) {
         Some((line, rest))
     } else {
@@ -69,6 +71,7 @@ fn entries_after<'a>(
     run: &mut RunData,
     core: u32,
     text: &'a [u8],
+    guesses: &mut Guesses,
 ) -> Result<&'a [u8], NoMemory>
     requires named { AreTasksNamed model.now }
     requires valid { IsValid model.now }
@@ -79,7 +82,7 @@ fn entries_after<'a>(
     ensures entries { IfOk result (λ rest. AreAllEntriesOf model.now run.old.table.ticks core text.now (core_entries run.new core) rest.now) }
 {
     let mut left = text;
-    while let Some((line, rest)) = stretch_after(model, run, core, left) {
+    while let Some((line, rest)) = stretch_after(model, run, core, left, guesses) {
         append(run, core, line)?;
         left = rest;
     }
@@ -101,9 +104,10 @@ pub(crate) fn runs_after<'a>(
     ensures cores { OnOk result (length run.new.entries ≡ length model.now.cores) }
     ensures entries { IfOk result (λ rest. AreCores model.now run.old.table.ticks (length model.now.cores) text.now run.new rest.now) }
 {
+    let mut guesses = Guesses::new();
     let mut left = text;
     for core in 0..model.cores() {
-        left = entries_after(model, run, core, left)?;
+        left = entries_after(model, run, core, left, &mut guesses)?;
     }
     Ok(left)
 }

@@ -1,5 +1,7 @@
 -- What the reading of a piece or of a line answers.
-use Rattle.std.specs.Prelude.{◌≡◌, ℕ, ◌<◌, ◌≤◌, List, ◌++◌, Option, Some, None, length, All, count_by, ◌==◌}
+use Rattle.std.specs.Prelude.{◌≡◌, ℕ, ◌^◌, ◌<◌, ◌≤◌, List, ◌++◌, Option, Some, None, length, take, slice_index, All, count_by, ◌==◌}
+use Rattle.std.specs.Char.{IsAsciiDigit}
+use Rattle.std.specs.Str.Parse.{AllDigits, digits_value}
 use denote.Bor.{Bor}
 use Rattle.cl_model.specs.Name.{IsName}
 use Rattle.cl_model.specs.declared.model.SystemModel.{SystemModel}
@@ -11,6 +13,14 @@ use Rattle.cl_trace.specs.Trace.{numbers}
 abbrev pub IsRead : Option (ℕ × Bor (List ℕ)) → ℕ → List ℕ → Type 0
 IsRead None n rest = ⊥
 IsRead (Some read) n rest = (read.0 ≡ n) × (read.1.now ≡ rest)
+
+-- so many digits write this number of 64 bits, and the text begins with no more of them
+pub record AreDigitsOf (text : List ℕ) (count number : ℕ) : Type 0 where
+  pub within : count ≤ length text
+  pub digits : AllDigits 10 (take count text)
+  pub value : digits_value 10 (take count text) ≡ number
+  pub fits : number < 2 ^ 64
+  pub ends : count < length text → ¬ IsAsciiDigit (slice_index text count)
 
 -- it answers these two numbers, before this rest
 abbrev pub AreRead : Option (ℕ × ℕ × Bor (List ℕ)) → (m n : ℕ) → List ℕ → Type 0

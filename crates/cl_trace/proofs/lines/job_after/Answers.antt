@@ -52,9 +52,9 @@ returns-in-None-clause-none c = λ job rest of_task is.
     let read = (rw c.in-Some-2.is at c.in_ok-times.ensures.only) job.times rest are in
     c.in-None.ensures.none rest read.1
 
-pub returns-in-Some-after-clause-some : goal.returns-in-Some-after-clause-some
+pub returns-in-Some-byte_after-clause-some : goal.returns-in-Some-byte_after-clause-some
 unfolding item_text
-returns-in-Some-after-clause-some c =
+returns-in-Some-byte_after-clause-some c =
     let name = name_of c.args.model.now c.args.task c.as_slice.result.now c.task-task.result.now c.as_slice.ensures.bytes c.task-task.ensures.task in
     let count = count_of c.args.model.now c.args.task c.len.result c.task-task.result.now c.len.ensures c.task-task.ensures.task in
     let times = rw c.in-Some-2.is at c.in_ok-times.ensures.some in
@@ -69,6 +69,6 @@ returns-in-Some-after-clause-some c =
       },
       c.in-Some.ensures.some
           ∙ ap (λ n. codes "job " ++ (n ++ (numbers (c.in-Some.arrival ∷ c.in-Some.release ∷ []) ++ c.in-Some.behind.now))) name
-          ∙ ap (λ t. codes "job " ++ ((task_at c.args.model.now c.args.task).name ++ t)) (behind ∙ ap (λ t. numbers_of ++ t) c.in-Some-after.ensures.some)
-          ∙ sym (split_line (codes "job ") (task_at c.args.model.now c.args.task).name numbers_of c.in-Some-after.rest.now),
+          ∙ ap (λ t. codes "job " ++ ((task_at c.args.model.now c.args.task).name ++ t)) (behind ∙ ap (λ t. numbers_of ++ t) c.in-Some-byte_after.ensures.some)
+          ∙ sym (split_line (codes "job ") (task_at c.args.model.now c.args.task).name numbers_of c.in-Some-byte_after.rest.now),
     )

@@ -1,24 +1,43 @@
-use Rattle.std.proofs.Common.{◌≡◌, ◌^◌, ◌<◌, ◌∷◌, Some, sym, ◌∙◌, arith}
+use Rattle.std.proofs.Common.{◌≡◌, ◌-◌, ◌^◌, ◌<◌, ◌∷◌, ◌++◌, length, take, drop, ap, sym, ◌∙◌, refl, arith}
 use Rattle.std.specs.Prelude.{decimal}
-use Rattle.cl_trace.proofs.PieceFacts.{behind_blank, number_word, decimal_is_some, rest_is}
+use Rattle.std.proofs.lemmas.Bool.{false≢true}
+use Rattle.std.proofs.lemmas.List.{length-drop, take_all}
+use Rattle.cl_trace.proofs.PieceFacts.{behind_blank}
+use Rattle.cl_trace.proofs.LeadingDigits.{digits_are_printed, count_of_printed, number_of_printed, rest_of_printed, printed_passes}
 use Rattle.cl_trace.proofs.pieces.number_after.Goals as goal
+use Rattle.cl_trace.proofs.pieces.number_after.Goals.{else-number-most-via-then-number-most+else-are_printed, else-number-most-via-else-number-most}
 
-pub returns-in_err-word-clause-only : goal.returns-in_err-word-clause-only
-returns-in_err-word-clause-only c = λ n byte rest most other fits.
-    let small : n < 2 ^ 64 = omega arith in
-    let behind = behind_blank c.args.text.now c.in_ok-text.text.now rest n byte c.in_ok-text.ensures.some fits in
-    absurd (decimal_is_some n small (sym (number_word c.in_ok-text.text.now rest n byte small other behind) ∙ c.in_err-word.ensures.none))
+pub returns-then-are_printed-clause-some : goal.returns-then-are_printed-clause-some
+returns-then-are_printed-clause-some c =
+    let digits = c.in_ok-digits.digits.now in
+    let count = c.in_ok-number.count in
+    let all = take_all (length digits - count) (drop count digits) (omega (arith, length-drop count digits)) in
+    let passes = c.if-are_printed.ensures.0 refl in (
+      c.in_ok-digits.ensures.some ∙ ap (λ t. 32 ∷ t) (digits_are_printed digits count c.in_ok-number.number c.in_ok-number.ensures.some passes.0 passes.1
+          ∙ ap (λ t. decimal c.in_ok-number.number ++ t) (sym all)),
+      omega arith,
+    )
 
-pub returns-in_err-number-clause-only : goal.returns-in_err-number-clause-only
-returns-in_err-number-clause-only c = λ n byte rest most other fits.
+pub returns-then-are_printed-clause-only : goal.returns-then-are_printed-clause-only
+returns-then-are_printed-clause-only c = λ n byte rest most other fits.
+    let digits = c.in_ok-digits.digits.now in
+    let count = c.in_ok-number.count in
     let small : n < 2 ^ 64 = omega arith in
-    let behind = behind_blank c.args.text.now c.in_ok-text.text.now rest n byte c.in_ok-text.ensures.some fits in
-    absurd (c.in_err-number.ensures.none n most (c.in_ok-word.ensures.word ∙ number_word c.in_ok-text.text.now rest n byte small other behind))
+    let all = take_all (length digits - count) (drop count digits) (omega (arith, length-drop count digits)) in
+    let is = behind_blank c.args.text.now digits rest n byte c.in_ok-digits.ensures.some fits in (
+      number_of_printed digits rest n byte small other is count c.in_ok-number.number c.in_ok-number.ensures.some,
+      all ∙ rest_of_printed digits rest n byte small other is count c.in_ok-number.number c.in_ok-number.ensures.some,
+    )
 
-pub returns-clause-only : goal.returns-clause-only
-returns-clause-only c = λ n byte rest most other fits.
+pub returns-else-number-most-clause-only : goal.returns-else-number-most-clause-only
+returns-else-number-most-clause-only c = λ n byte rest most other fits.
+    let digits = c.in_ok-digits.digits.now in
+    let count = c.in_ok-number.count in
     let small : n < 2 ^ 64 = omega arith in
-    let behind = behind_blank c.args.text.now c.in_ok-text.text.now rest n byte c.in_ok-text.ensures.some fits in
-    let word : c.in_ok-word.word.now ≡ decimal n = c.in_ok-word.ensures.word ∙ number_word c.in_ok-text.text.now rest n byte small other behind in
-    let read : Some c.in_ok-number.number ≡ Some n = sym c.in_ok-number.was ∙ c.read_decimal.ensures.printed n most word in
-    (cc read, rest_is c.in_ok-text.text.now c.in_ok-word.word.now (decimal n) c.in_ok-word.rest.now (byte ∷ rest) c.in_ok-word.ensures.some word behind)
+    let is = behind_blank c.args.text.now digits rest n byte c.in_ok-digits.ensures.some fits in
+    let same = number_of_printed digits rest n byte small other is count c.in_ok-number.number c.in_ok-number.ensures.some in
+    let passes = printed_passes digits rest n byte small other is count c.in_ok-number.number c.in_ok-number.ensures.some in
+    elim c.else-number-most.branch [
+      | else-number-most-via-then-number-most+else-are_printed w ↦ absurd (false≢true (w.if-are_printed.ensures.1 passes))
+      | else-number-most-via-else-number-most w ↦ absurd (omega (arith, same, most, w.if-number-most.false))
+    ]

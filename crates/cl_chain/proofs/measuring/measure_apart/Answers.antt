@@ -5,7 +5,7 @@ use Rattle.cl_runs.specs.SystemOf.{system_of}
 use Rattle.cl_chain.specs.JobChains.{measured_of}
 use Rattle.cl_chain.specs.Inner.GroupTables.{AreTables}
 use Rattle.cl_chain.proofs.RunTables.{measured_answer, tables_ordered}
-use Rattle.cl_chain.proofs.measuring.measure.Goals as goal
+use Rattle.cl_chain.proofs.measuring.measure_apart.Goals as goal
 
 pub measured_over-requires : goal.measured_over-requires
 measured_over-requires c =

@@ -3,7 +3,7 @@ use Rattle.cl_model.specs.Groups.{groups_at, group_at}
 use Rattle.cl_runs.specs.SystemOf.{system_of}
 use Rattle.cl_chain.specs.declared.group_moments.GroupMoments.{GroupMoments}
 use Rattle.cl_chain.proofs.GroupReads.{reads_pushed, writes_pushed}
-use Rattle.cl_chain.proofs.group_moments.moments_of_groups.Goals as goal
+use Rattle.cl_chain.proofs.group_moments.moments_of_groups_apart.Goals as goal
 
 pub loop-place-preserved : goal.loop-place-preserved
 loop-place-preserved c =
