@@ -25,9 +25,9 @@ pub fn judge_all(
     Ok(verdicts)
 }
 
-/// The verdict on a requirement.
+/// The verdict on a requirement, from what was found of all chains.
 #[tactic(auto, unfolding(crate::specs::Verdicts::verdict_of))]
-fn judge(
+pub fn judge(
     model: &ValidModel,
     chains: &List<ChainAnswer>,
     exacts: &List<ExactAnswer>,

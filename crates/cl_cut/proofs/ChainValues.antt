@@ -47,7 +47,7 @@ module _ (system : System) (sound : IsSound system) where
       let reaction = exact.are_exact.reaction in
       omega (
         arith,
-        exact.value_is,
+        exact.reaction_is,
         reaction.length,
         ideal_forward_ordered system sound groups (groups_of_tasks groups settled) (chain_of exact.exact.reaction) reaction.longest.is_chain.is_chain,
       )
@@ -102,7 +102,7 @@ module _ (model : SystemModel) (valid : IsValid model) (chain : ℕ) (is_chain :
       by_kind true is = elim (exact_lengths_exist model valid chain is_chain is) [
         | inl (exact, are, within) ↦ (
           exact.reaction.length,
-          inl (record { timed = is; within = within; exact = exact; are_exact = are; value_is = refl }),
+          inl (record { timed = is; within = within; exact = exact; are_exact = are; reaction_is = refl }),
           exact_within (system_of model) (system_sound model valid) groups settled is exact are,
         )
         | inr past ↦ (
@@ -127,7 +127,7 @@ module _ (model : SystemModel) (valid : IsValid model) (chain : ℕ) (is_chain :
     best_no_worse = record {
       bound = let (value, is_value, within) = whole_value in omega (arith, within, uncut value is_value);
       exact = λ exact timed within are.
-          uncut exact.reaction.length (inl (record { timed = timed; within = within; exact = exact; are_exact = are; value_is = refl }));
+          uncut exact.reaction.length (inl (record { timed = timed; within = within; exact = exact; are_exact = are; reaction_is = refl }));
     }
 
 -- the pieces of groups that can be cut are worth something

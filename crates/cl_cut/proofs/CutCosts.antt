@@ -14,7 +14,7 @@ use Rattle.cl_cut.proofs.SafeCuts.{cut_rest, cut_begins}
 -- groups have one value
 pub value_once : (system : System) (groups : List Group) (one other : ℕ) → IsValue system groups one → IsValue system groups other → one ≡ other
 value_once system groups one other (inl a) (inl b) =
-    a.value_is ∙ ap (λ (exact : Witnesses). exact.reaction.length) (exact_unique system groups a.exact b.exact a.are_exact b.are_exact) ∙ sym b.value_is
+    a.reaction_is ∙ ap (λ (exact : Witnesses). exact.reaction.length) (exact_unique system groups a.exact b.exact a.are_exact b.are_exact) ∙ sym b.reaction_is
 value_once system groups one other (inl a) (inr b) = absurd (b.not_exact a.timed a.within)
 value_once system groups one other (inr a) (inl b) = absurd (a.not_exact b.timed b.within)
 value_once system groups one other (inr a) (inr b) = a.value_is ∙ sym b.value_is

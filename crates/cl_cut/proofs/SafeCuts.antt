@@ -88,7 +88,7 @@ module _ (system : System) (sound : IsSound system) where
   pub value_safe : (groups : List Group) → IsSettledChain system groups → (value : ℕ) → IsValue system groups value → IsSafeReaction system groups value
   value_safe groups settled value (inl exact) run legal chain complete = omega (
     arith,
-    exact.value_is,
+    exact.reaction_is,
     ((exact_in_runs system sound groups (settled_timed system sound groups settled exact.timed) exact.exact exact.are_exact).greatest run legal).reaction
         chain complete,
   )

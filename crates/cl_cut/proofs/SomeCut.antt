@@ -113,7 +113,7 @@ module _ (model : SystemModel) (valid : IsValid model) (groups : List Group) (of
       by_kind true is = elim (exact_of_groups_exist model valid groups (record { some = some; few = few; of_tasks = of_tasks; timed_periodic = is })) [
         | inl (exact, are, within) ↦ record {
           value = exact.reaction.length;
-          is_value = inl (record { timed = is; within = within; exact = exact; are_exact = are; value_is = refl });
+          is_value = inl (record { timed = is; within = within; exact = exact; are_exact = are; reaction_is = refl });
         }
         | inr past ↦ record {
           value = (bounds_of (system_of model) groups).reaction;

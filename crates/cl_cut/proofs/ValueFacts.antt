@@ -30,7 +30,7 @@ found_value system groups (Some reaction) bound value is bound_is value_is = inl
   within = is.within;
   exact = is.exact;
   are_exact = is.are_exact;
-  value_is = value_is ∙ is.reaction_is;
+  reaction_is = value_is ∙ is.reaction_is;
 })
 found_value system groups None bound value none bound_is value_is = inr (record { not_exact = none; value_is = value_is ∙ bound_is })
 

@@ -29,7 +29,7 @@ use Rattle.cl_draw.specs.declared.stops.Reaction.{Reaction}
 use Rattle.cl_draw.specs.declared.stops.Stop.{Stop}
 use Rattle.cl_draw.specs.ChainLines.{middle_of, line_at, half_of, leave, first_stop, last_stop, stop_pieces, reaction_title_line, falls_line, step_pieces_at, steps_line, frame_line, input_line}
 use Rattle.cl_draw.specs.ChainLines.{output_line, length_line, words_left, words_right, words_place, words_line, inside_lines, open_lines, none_line, outside_line, is_whole_inside, reaction_lines, shown_lines, chain_lines}
-use Rattle.cl_draw.specs.Reactions.{no_stop, stop_at_group, IsShown, IsShownOf, IsReactionOf}
+use Rattle.cl_draw.specs.Reactions.{no_stop, stop_at_group, IsShown, IsShownOf, IsDrawnReaction}
 use Rattle.cl_draw.proofs.SmallNumbers.{IsHeight, height_digits, row_height_is, task_short, job_below}
 
 -- ---- the numbers of a reaction
@@ -97,7 +97,7 @@ module _ (model : SystemModel) (valid : IsValid model) (run : Run) (legal : IsLe
         stops = λ k within. small_stop longest reaction shown k (omega (arith, within, shown.one_a_group));
       }
 
-  pub small_reaction : (reaction : Option Reaction) → IsReactionOf model run chain reaction → IsSmallShown model (length (groups_at model chain)) reaction
+  pub small_reaction : (reaction : Option Reaction) → IsDrawnReaction model run chain reaction → IsSmallShown model (length (groups_at model chain)) reaction
   small_reaction reaction is = small_shown is.measured.reaction reaction is.is_measured.is_reaction is.shown
 
 -- ---- lines

@@ -28,7 +28,7 @@ use Rattle.cl_draw.specs.declared.stops.Reaction.{Reaction}
 use Rattle.cl_draw.specs.declared.drawing.Drawing.{Drawing}
 use Rattle.cl_draw.specs.Items.{part_item, band, bands}
 use Rattle.cl_draw.specs.Rows.{IsRowOf, no_row, row_at}
-use Rattle.cl_draw.specs.Reactions.{no_stop, IsShownOf, IsReactionOf, reaction_at}
+use Rattle.cl_draw.specs.Reactions.{no_stop, IsShownOf, IsDrawnReaction, reaction_at}
 use Rattle.cl_draw.specs.Picture.{AreTaskRows, AreReactions}
 use Rattle.cl_draw.specs.Inner.TaskRuns.{IsTaskRun, IsPartOf}
 use Rattle.cl_draw.specs.Inner.DrawnBars.{IsSayable, IsDrawableBar}
@@ -110,7 +110,7 @@ module _ (model : SystemModel) (valid : IsValid model) (run : Run) (chain : ℕ)
         omega (arith, (shown.stops i in_groups).task, (known_group i in_groups).known));
   }
 
-  pub reaction_drawable : (reaction : Option Reaction) → IsReactionOf model run chain reaction → looks.IsDrawableReaction model reaction
+  pub reaction_drawable : (reaction : Option Reaction) → IsDrawnReaction model run chain reaction → looks.IsDrawableReaction model reaction
   reaction_drawable reaction is = shown_drawable is.measured.reaction reaction is.is_measured.is_reaction is.shown
 
 -- ---- the drawing

@@ -27,7 +27,7 @@ use Rattle.cl_draw.specs.declared.stops.Reaction.{Reaction}
 use Rattle.cl_draw.specs.Parts.{AreFinishes}
 use Rattle.cl_draw.specs.Items.{part_item, bands}
 use Rattle.cl_draw.specs.Rows.{IsRowOf}
-use Rattle.cl_draw.specs.Reactions.{no_stop, stop_at_group, IsStop, IsShown, IsShownOf, IsReactionOf}
+use Rattle.cl_draw.specs.Reactions.{no_stop, stop_at_group, IsStop, IsShown, IsShownOf, IsDrawnReaction}
 use Rattle.cl_draw.specs.Inner.TaskRuns.{IsTaskRun}
 use Rattle.cl_draw.proofs.OneParts.{one_parts}
 
@@ -101,7 +101,7 @@ module _ (moments : Moments) (groups : List Group) (unique : AreUnique moments g
 
 module _ (model : SystemModel) (run : Run) (chain : ℕ) where
   -- what is shown is the reaction of whatever is measured
-  pub shown_of_measured : (reaction : Option Reaction) → IsReactionOf model run chain reaction → (measured : Measured)
+  pub shown_of_measured : (reaction : Option Reaction) → IsDrawnReaction model run chain reaction → (measured : Measured)
       → IsMeasured (run_moments (system_of model) run) (groups_at model chain) measured
       → IsShownOf (run_moments (system_of model) run) (groups_at model chain) measured.reaction reaction
   shown_of_measured reaction is measured other =
@@ -109,6 +109,6 @@ module _ (model : SystemModel) (run : Run) (chain : ℕ) where
       is.measured measured is.is_measured other in
       subst (λ (m : Measured). IsShownOf (run_moments (system_of model) run) (groups_at model chain) m.reaction reaction) same is.shown
 
-  pub one_reaction : (a b : Option Reaction) → IsReactionOf model run chain a → IsReactionOf model run chain b → a ≡ b
+  pub one_reaction : (a b : Option Reaction) → IsDrawnReaction model run chain a → IsDrawnReaction model run chain b → a ≡ b
   one_reaction a b one other = one_shown_of (run_moments (system_of model) run) (groups_at model chain) (run_unique (system_of model) run (groups_at model chain))
       one.measured.reaction a b one.shown (shown_of_measured b other one.measured one.is_measured)

@@ -25,7 +25,7 @@ use Rattle.cl_draw.specs.declared.stops.Stop.{Stop}
 use Rattle.cl_draw.specs.declared.stops.Reaction.{Reaction}
 use Rattle.cl_draw.specs.Items.{part_item, bands}
 use Rattle.cl_draw.specs.Rows.{IsRowOf, no_row}
-use Rattle.cl_draw.specs.Reactions.{no_stop, IsStop, IsShownOf, IsReactionOf}
+use Rattle.cl_draw.specs.Reactions.{no_stop, IsStop, IsShownOf, IsDrawnReaction}
 use Rattle.cl_draw.specs.Picture.{picture, window_between, IsPictureOf}
 use Rattle.cl_draw.specs.Inner.TaskRuns.{IsTaskRun}
 use Rattle.cl_draw.proofs.StopFacts.{reads_somewhere, is_stop}
@@ -99,7 +99,7 @@ module _ (model : SystemModel) (valid : IsValid model) (run : Run) (legal : IsLe
           record { from = refl; to = refl; one_a_group = stops.1; stops = stops.2 },
         )
 
-    some_reaction : (reaction : Option Reaction) × IsReactionOf model run chain reaction
+    some_reaction : (reaction : Option Reaction) × IsDrawnReaction model run chain reaction
     some_reaction =
         let measured = run_measured (system_of model) run (groups_at model chain) (groups_at_some model valid chain is_chain) in
         let shown = some_shown measured.0.reaction measured.1.is_reaction in
@@ -110,7 +110,7 @@ module _ (model : SystemModel) (valid : IsValid model) (run : Run) (legal : IsLe
   some_picture from to =
       let window : Window = window_between from to in
       let rows = some_list (λ task (row : Row). IsRowOf model run window task row) (length model.tasks) no_row (some_row window) in
-      let reactions = some_list (λ chain (reaction : Option Reaction). IsReactionOf model run chain reaction) (length model.chains) None some_reaction in (
+      let reactions = some_list (λ chain (reaction : Option Reaction). IsDrawnReaction model run chain reaction) (length model.chains) None some_reaction in (
         print (picture model run window rows.0 reactions.0),
         record {
           rows = rows.0;

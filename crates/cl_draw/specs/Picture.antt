@@ -14,7 +14,7 @@ use Rattle.cl_draw.specs.declared.stops.Reaction.{Reaction}
 use Rattle.cl_draw.specs.Places.{core_top, row_top, chains_top, chain_top, bottom}
 use Rattle.cl_draw.specs.Rows.{IsRowOf, row_at}
 use Rattle.cl_draw.specs.RowLines.{row_lines}
-use Rattle.cl_draw.specs.Reactions.{IsReactionOf, reaction_at}
+use Rattle.cl_draw.specs.Reactions.{IsDrawnReaction, reaction_at}
 use Rattle.cl_draw.specs.ChainLines.{chain_lines}
 
 -- ---- heads and names
@@ -97,7 +97,7 @@ AreTaskRows model run window rows = (task : ℕ) → task < length model.tasks �
 
 -- the longest reactions of all chains
 abbrev pub AreReactions : SystemModel → Run → List (Option Reaction) → Type 0
-AreReactions model run reactions = (chain : ℕ) → chain < length model.chains → IsReactionOf model run chain (reaction_at reactions chain)
+AreReactions model run reactions = (chain : ℕ) → chain < length model.chains → IsDrawnReaction model run chain (reaction_at reactions chain)
 
 -- a window from one tick to another
 abbrev pub window_between : (from to : ℕ) → Window

@@ -41,7 +41,7 @@ IsShownOf moments groups (Some chain) None = ⊥
 IsShownOf moments groups (Some chain) (Some reaction) = IsShown moments groups chain reaction
 
 -- what is shown of a chain is the longest of its complete forward chains, by what is measured of it in the run
-pub record IsReactionOf (model : SystemModel) (run : Run) (chain : ℕ) (reaction : Option Reaction) : Type 0 where
+pub record IsDrawnReaction (model : SystemModel) (run : Run) (chain : ℕ) (reaction : Option Reaction) : Type 0 where
   pub measured : Measured
   pub is_measured : IsMeasured (run_moments (system_of model) run) (groups_at model chain) measured
   pub shown : IsShownOf (run_moments (system_of model) run) (groups_at model chain) measured.reaction reaction

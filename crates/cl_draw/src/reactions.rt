@@ -6,7 +6,7 @@ ghost use Rattle.cl_runs.specs.RunChains.{run_moments};
 ghost use Rattle.cl_runs.specs.Chains.{IsForwardChain};
 ghost use Rattle.cl_runs.specs.SystemOf.{system_of};
 ghost use Rattle.cl_chain.specs.JobChains.{job_chain_of};
-ghost use Rattle.cl_draw.specs.Reactions.{IsShown, IsReactionOf};
+ghost use Rattle.cl_draw.specs.Reactions.{IsShown, IsDrawnReaction};
 
 use crate::stops::{Reaction, stop_of};
 use cl_chain::{JobChain, measure};
@@ -50,7 +50,7 @@ pub(crate) fn longest_reaction(
 ) -> Result<Option<Reaction>, NoMemory>
     requires legal { IsLegal (system_of model.now) run.now }
     requires is_chain { chain < length model.now.chains }
-    ensures { IfOk result (IsReactionOf model.now run.now chain) }
+    ensures { IfOk result (IsDrawnReaction model.now run.now chain) }
 {
     let measured = measure(alloc, model, run, chain)?;
     match &measured.reaction {

@@ -27,7 +27,7 @@ use Rattle.cl_edit.specs.FewListChecks.{new_chain_name_check, new_chain_checks, 
 use Rattle.cl_edit.proofs.CheckParts.{name_parts, chain_names_left, names_and_chains_left, requirements_left, chain_moves}
 use Rattle.cl_edit.proofs.EachChecked.{each_more, each_same, none_of_each, each_moves, unless_true, unless_not}
 use Rattle.cl_edit.proofs.NameChecks.{apart_pass, repeats_more, map-remove, left_names, known_longer}
-use Rattle.cl_edit.proofs.Removals.{stood_at, apart_removed}
+use Rattle.cl_model.proofs.Removals.{stood_at, apart_removed}
 
 -- ---- chains change nothing of the parts before them
 

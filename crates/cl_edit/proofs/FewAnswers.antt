@@ -31,7 +31,7 @@ use Rattle.cl_edit.proofs.PlaceLaws.{swap_needs_few}
 use Rattle.cl_edit.specs.declared.pace.Change.TheVariants as change
 use Rattle.cl_edit.specs.FewChecks.{number_refusals}
 use Rattle.cl_edit.specs.Inner.Paces.{pace_after, limit_checks, all_limits_on}
-use Rattle.cl_edit.proofs.FoundFacts.{kind_passes, kind_fails, kind_changed, none_is_first}
+use Rattle.cl_edit.proofs.FoundFacts.{kind_passes, kind_fails, kind_missing, kind_changed, none_is_first}
 use Rattle.cl_edit.proofs.LimitChecks.{deadline_left, kind_left}
 use Rattle.cl_model.specs.ByNumber.{stimulus_number}
 use Rattle.cl_edit.specs.Edited.{found, kind_found, all_names, task_number, edit_checks, with_edit}
@@ -123,16 +123,25 @@ any_default [] i d e lt = absurd (omega arith)
 any_default (x ∷ xs) zero d e lt = refl
 any_default (x ∷ xs) (suc i) d e lt = any_default xs i d e (omega arith)
 
+-- no stimulus has the name
+pub stimulus_missing : (model : SystemModel) (name : List ℕ) (edit : Edit) (fault : ModelFault) → index_of name (stimulus_names model) ≡ None → fault ≡ Refused (record { code = E2; place = top })
+    → IsFaultOf (by_numbers model name edit) fault
+stimulus_missing model name edit fault missing is_fault =
+    subst (λ (f : ModelFault). IsFaultOf (by_numbers model name edit) f) (sym is_fault)
+    (first_with_more (kind_found (kind_named model name) (sets edit)) (refusals_of (with_kind model (stimulus_number model name) (with_numbers edit))) (record { code = E2; place = top })
+    (kind_missing model name (sets edit) missing))
+
+-- an edit whose checks pass finds its stimulus
+pub stimulus_there : (model : SystemModel) (name : List ℕ) (edit : Edit) → index_of name (stimulus_names model) ≡ None → kind_found (kind_named model name) (sets edit) ≡ [] → ⊥
+stimulus_there model name edit missing none = none_is_first (record { code = E2; place = top }) (sym (ap first none) ∙ kind_missing model name (sets edit) missing)
+
 module _ (model : SystemModel) (name : List ℕ) (edit : Edit) (stimuli : List StimulusDef) (s : ℕ) (d : StimulusDef) (all : stimuli ≡ model.stimuli)
-    (at : index_of name (map (λ (x : StimulusDef). x.name) stimuli) ≡ Some s) where
-  within : s < length stimuli
-  within = omega (arith, found_below name (map (λ (x : StimulusDef). x.name) stimuli) s at, length-map stimuli (λ (x : StimulusDef). x.name))
+    (named : index_of name (stimulus_names model) ≡ Some s) where
+  within : s < length model.stimuli
+  within = omega (arith, found_below name (stimulus_names model) s named, length-map model.stimuli (λ (x : StimulusDef). x.name))
 
   here : get_or stimuli s d ≡ stimulus_at model s
-  here = ap (λ l. get_or l s d) all ∙ any_default model.stimuli s d no_stimulus_def (subst (λ (l : List StimulusDef). s < length l) all within)
-
-  named : index_of name (stimulus_names model) ≡ Some s
-  named = ap (λ l. index_of name (map (λ (x : StimulusDef). x.name) l)) (sym all) ∙ at
+  here = ap (λ l. get_or l s d) all ∙ any_default model.stimuli s d no_stimulus_def within
 
   -- the edit sets the stimulus
   pub stimulus_set : IsValid model → (kind : StimulusKind) (result : Result (Unit {0}) ModelFault) → Some kind ≡ cond (sets edit (get_or stimuli s d).kind) (Some (with_numbers edit (get_or stimuli s d).kind)) None
@@ -140,7 +149,7 @@ module _ (model : SystemModel) (name : List ℕ) (edit : Edit) (stimuli : List S
   stimulus_set valid kind result chosen passes =
       let parts = some_if (sets edit (get_or stimuli s d).kind) kind (with_numbers edit (get_or stimuli s d).kind) chosen in
       kind_passes_all model valid name s (with_numbers edit) kind (sets edit) result named (ap (λ (x : StimulusDef). sets edit x.kind) (sym here) ∙ parts.0)
-      (parts.1 ∙ ap (λ (x : StimulusDef). with_numbers edit x.kind) here) (subst (λ (l : List StimulusDef). s < length l) all within) passes
+      (parts.1 ∙ ap (λ (x : StimulusDef). with_numbers edit x.kind) here) within passes
 
   -- it doesn't set this kind
   pub stimulus_unset : (fault : ModelFault) (place : Place) → None ≡ cond (sets edit (get_or stimuli s d).kind) (Some (with_numbers edit (get_or stimuli s d).kind)) None → fault ≡ Refused (record { code = E3; place = place }) → place ≡ top

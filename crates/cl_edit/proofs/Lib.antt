@@ -19,7 +19,6 @@ pub mod BadEdits
 pub mod OneAnswer
 pub mod SomeAnswer
 pub mod EachChecked
-pub mod Removals
 pub mod CheckParts
 pub mod NameChecks
 pub mod ChainChanges

@@ -17,7 +17,7 @@ use Rattle.cl_model.specs.Refusals.{when}
 use Rattle.cl_model.specs.ValidNames.{repeat_check, repeats}
 use Rattle.cl_model.proofs.NamePlaces.{known_stands, found_below, found_named, one_place}
 use Rattle.cl_edit.proofs.EachChecked.{each_more, each_same, none_of_each, when_false}
-use Rattle.cl_edit.proofs.Removals.{stood_at}
+use Rattle.cl_model.proofs.Removals.{stood_at}
 use Rattle.cl_edit.proofs.StepFacts.{place_is}
 
 -- names that are apart aren't refused

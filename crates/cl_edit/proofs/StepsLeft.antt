@@ -1,6 +1,6 @@
 -- The chains of a valid model without one of its tasks: a step is missing where it is a runnable of that task, and
 -- each other step stays what it is.
-use Rattle.std.proofs.Common.{◌≡◌, ℕ, ◌+◌, ◌<◌, Bool, true, false, not, ◌⊎◌, inl, inr, List, [], ◌++◌, length, get_or, refl, sym, ap, ◌∙◌, subst, arith}
+use Rattle.std.proofs.Common.{◌≡◌, ℕ, ◌+◌, ◌<◌, Bool, true, false, not, ◌⊎◌, inl, inr, List, [], ◌++◌, length, get_or, refl, sym, ap, ◌∙◌, arith}
 use Rattle.std.specs.Prelude.{Option, Some, None, slice_get}
 use Rattle.std.specs.Option.{option_and_then}
 use Rattle.std.proofs.lemmas.Bool.{false_from_ne_true, or_parts, or_from, or_right}
@@ -16,16 +16,17 @@ use Rattle.cl_model.specs.declared.refusal.Refusal.{Refusal}
 use Rattle.cl_model.specs.declared.task.RunnableDef.{RunnableDef}
 use Rattle.cl_model.specs.declared.task.TaskDef.{TaskDef}
 use Rattle.cl_model.specs.ByNumber.{no_task, task_at, runnable_at, no_runnable}
-use Rattle.cl_model.specs.Groups.{step_named, IsStepOf}
+use Rattle.cl_model.specs.Groups.{step_named}
 use Rattle.cl_model.specs.Named.{has_name, index_of, is_some_and, runnable_names, runnable_named, all_runnables}
 use Rattle.cl_model.specs.Place.{entry_of, at_key, at_spot}
 use Rattle.cl_model.specs.Refusals.{unless, each}
 use Rattle.cl_model.specs.Validity.{IsValid, misses_label, lengths_check, step_check, hop_check, chain_check}
+use Rattle.cl_model.proofs.DroppedTasks.{was_step}
 use Rattle.cl_model.proofs.NamePlaces.{known_stands}
 use Rattle.cl_model.proofs.NoRefusals.{all_none}
 use Rattle.cl_model.proofs.PassedChecks.{chains_pass}
 use Rattle.cl_model.proofs.Refused.{unless_none, each_none}
-use Rattle.cl_model.proofs.StepFacts.{step_stands_in, step_has_name, runnable_found}
+use Rattle.cl_model.proofs.StepFacts.{runnable_found}
 use Rattle.cl_model.proofs.StepsApart.{one_of_name, own_step}
 use Rattle.cl_model.specs.Changes.{without_task}
 use Rattle.cl_edit.specs.FewListChecks.{kept_step_check, kept_steps_check}
@@ -33,7 +34,6 @@ use Rattle.cl_edit.proofs.CheckParts.{chain_lists}
 use Rattle.cl_edit.proofs.EachChecked.{each_same, each_moves, when_fewer, unless_not}
 use Rattle.cl_edit.proofs.FoundFacts.{found_known}
 use Rattle.cl_edit.proofs.NameChecks.{any_removed, only_other}
-use Rattle.cl_edit.proofs.Removals.{stood_at}
 use Rattle.cl_edit.proofs.TaskLists.{name_among}
 
 -- of three lists where the middle one is left
@@ -44,29 +44,6 @@ module _ (model : SystemModel) (valid : IsValid model) (t : ℕ) (known : t < le
   abbrev left : SystemModel
   left = without_task model t
 
-  -- a runnable of the changed model is one of another task of the model
-  record WasStep (name : List ℕ) : Type 0 where
-    step : Step
-    is : IsStepOf model step
-    other : step.task ≡ t → ⊥
-    same : runnable_at model step ≡ runnable_at left (step_named left name)
-    named : (runnable_at model step).name ≡ name
-
-  was_step : (name : List ℕ) → has_name name (runnable_names (all_runnables left.tasks)) ≡ true → WasStep name
-  was_step name still =
-      let now = step_named left name in
-      let is = step_stands_in left name still in
-      let was = stood_at model.tasks t now.task no_task known is.known in
-      let runnable : runnable_at model (record { task = was.at; place = now.place }) ≡ runnable_at left now
-      = ap (λ (task : TaskDef). get_or task.runnables now.place no_runnable) (sym was.same) in
-      record {
-        step = record { task = was.at; place = now.place };
-        is = record { known = was.within; place = subst (λ (task : TaskDef). now.place < length task.runnables) was.same is.place };
-        other = was.other;
-        same = runnable;
-        named = ap (λ (r : RunnableDef). r.name) runnable ∙ step_has_name left name still;
-      }
-
   -- a name that is left isn't one of the dropped task
   not_dropped : (name : List ℕ) → has_name name (runnable_names (all_runnables left.tasks)) ≡ true → has_name name (runnable_names (task_at model t).runnables) ≡ true → ⊥
   not_dropped name still dropped =
@@ -74,7 +51,7 @@ module _ (model : SystemModel) (valid : IsValid model) (t : ℕ) (known : t < le
       let within : p < length (task_at model t).runnables = omega (arith, p_lt, length-map (task_at model t).runnables (λ (r : RunnableDef). r.name)) in
       let own : Step = record { task = t; place = p } in
       let own_name : (runnable_at model own).name ≡ name = sym (get_or-map (λ (r : RunnableDef). r.name) (task_at model t).runnables p no_runnable name within) ∙ p_is in
-      let was = was_step name still in
+      let was = was_step model t known name still in
       was.other (ap (λ (s : Step). s.task) (one_of_name model valid was.step own was.is (record { known = known; place = within }) (was.named ∙ sym own_name)))
 
   -- a name that is left was there
@@ -103,7 +80,7 @@ module _ (model : SystemModel) (valid : IsValid model) (t : ℕ) (known : t < le
       by None is = inl (ap (option_and_then (slice_get (all_runnables left.tasks))) is)
       by (Some n) is =
           let still = found_known name (runnable_names (all_runnables left.tasks)) n is in
-          let was = was_step name still in
+          let was = was_step model t known name still in
           let step : step_named model name ≡ was.step = ap (step_named model) (sym was.named) ∙ own_step model valid was.step was.is in
           inr (runnable_found left name still ∙ ap Some (sym was.same) ∙ ap (λ (s : Step). Some (runnable_at model s)) (sym step) ∙ sym (runnable_found model name (still_there name still)))
 

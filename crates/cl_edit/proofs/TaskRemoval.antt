@@ -35,7 +35,7 @@ use Rattle.cl_edit.specs.FewListChecks.{kept_steps_check, dropped_task_checks}
 use Rattle.cl_edit.proofs.CheckParts.{name_parts, none_of_names, chains_left}
 use Rattle.cl_edit.proofs.EachChecked.{none_of_each, each_moves, when_moves, unless_moves, when_false, when_fewer}
 use Rattle.cl_edit.proofs.NameChecks.{apart_pass, map-remove}
-use Rattle.cl_edit.proofs.Removals.{StoodAt, stood_at, apart_removed}
+use Rattle.cl_model.proofs.Removals.{StoodAt, stood_at, apart_removed}
 use Rattle.cl_edit.proofs.StepsLeft.{chains_without}
 use Rattle.cl_edit.proofs.TaskLists.{list_any-filter, name_among, written_among, none_left, fewer_taken, fewer_left, filter_left, filter_front, few_on_core}
 

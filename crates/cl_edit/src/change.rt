@@ -5,37 +5,13 @@ ghost use Rattle.cl_model.specs.Validity.{IsValid};
 ghost use Rattle.cl_edit.specs.Edited.{edit_checks, with_edit, edited};
 ghost use Rattle.cl_edit.specs.Ranges.{IsEditInRange};
 
-use crate::apply::change;
+use crate::change_lists::{add_chain, add_task, drop_chain, drop_task, move_task};
 use crate::change_sets::{set_access, set_deadline, set_range, set_stimulus, set_whole, swap};
 use crate::check::check_edit;
 use crate::edit::Edit;
-use cl_model::{ModelFault, SystemModel, ValidModel};
+use cl_model::{ModelFault, ValidModel};
 use cl_time::NoMemory;
 use std::alloc::Global;
-
-/// The changed model of an edit that adds, drops or moves: what is kept beside it is made again.
-fn change_plain(alloc: Global, model: ValidModel, edit: &Edit) -> Result<ValidModel, NoMemory>
-    requires checked { edit_checks model edit.now ≡ [] }
-    requires valid { IsValid (with_edit model edit.now) }
-    ensures { IfOk result (λ changed. changed ≡ with_edit model edit.now) }
-{
-    let mut plain = model.into_plain();
-    match change(alloc, &mut plain, edit) {
-        Ok(()) => adopted(alloc, plain),
-        Err(ModelFault::NoMemory) => Err(NoMemory),
-        Err(ModelFault::Refused(_)) => unreachable!(),
-    }
-}
-
-fn adopted(alloc: Global, model: SystemModel) -> Result<ValidModel, NoMemory>
-    requires { IsValid model }
-    ensures { IfOk result (λ valid. valid ≡ model) }
-{
-    match ValidModel::adopt(alloc, model) {
-        Ok(valid) => Ok(valid),
-        Err((_, no_memory)) => Err(no_memory),
-    }
-}
 
 /// The changed model, once the changes of the edit are known to pass its checks and to leave a valid model.
 #[tactic(auto, unfolding(crate::specs::Edited::edit_checks, crate::specs::Edited::with_edit))]
@@ -58,14 +34,22 @@ fn change_checked(alloc: Global, model: ValidModel, edit: &Edit) -> Result<Valid
         Edit::Burst { stimulus, .. } => Ok(set_stimulus(model, stimulus, edit)),
         Edit::Deadline { task, deadline } => Ok(set_deadline(model, task, *deadline)),
         Edit::Swap { one, other } => Ok(swap(model, one, other)),
+        Edit::Move {
+            task,
+            core,
+            priority,
+        } => move_task(model, task, core, *priority),
         Edit::Kind { task, access } => Ok(set_access(model, task, *access)),
+        Edit::AddTask(task) => add_task(alloc, model, task),
+        Edit::DropTask { task } => Ok(drop_task(model, task)),
+        Edit::AddChain(chain) => add_chain(alloc, model, chain),
+        Edit::DropChain { chain } => Ok(drop_chain(model, chain)),
         Edit::Report => Ok(model),
-        _ => change_plain(alloc, model, edit),
     }
 }
 
-/// The valid model that an edit makes of another, which it consumes. An edit that sets something changes the model in
-/// place and takes no memory. `NoMemory` where memory ran out: then nothing is left of the model.
+/// The valid model that an edit makes of another, which it consumes. The model is changed in place: an edit that sets or
+/// drops something takes no memory. `NoMemory` where memory ran out: then nothing is left of the model.
 pub fn change_valid(alloc: Global, model: ValidModel, edit: &Edit) -> Result<ValidModel, NoMemory>
     requires in_range { IsEditInRange edit.now }
     requires passes { edited model edit.now ≡ Ok (with_edit model edit.now) }

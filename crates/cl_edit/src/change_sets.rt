@@ -9,7 +9,6 @@ ghost use Rattle.cl_edit.specs.Edited.{found, all_names, kind_found, task_number
 ghost use Rattle.cl_edit.specs.Inner.Kinds.{sets, with_numbers};
 
 use crate::edit::Edit;
-use crate::find::found;
 use crate::kinds::kind_with;
 use cl_model::{AccessKind, Name, ValidModel};
 
@@ -41,12 +40,12 @@ pub(crate) fn set_stimulus(model: ValidModel, name: &Name, edit: &Edit) -> Valid
     requires valid { IsValid (with_kind model (stimulus_number model name.now) (with_numbers edit.now)) }
     ensures { result ≡ with_kind model (stimulus_number model name.now) (with_numbers edit.now) }
 {
-    let stimuli = model.plain().stimuli.as_slice();
-    let Ok(number) = found(stimuli, name) else {
+    let Some(number) = model.stimulus_named(name) else {
         unreachable!();
     };
-    match kind_with(stimuli[number].kind, edit) {
-        Some(kind) => model.with_kind(number as u32, kind),
+    let stimuli = model.plain().stimuli.as_slice();
+    match kind_with(stimuli[number as usize].kind, edit) {
+        Some(kind) => model.with_kind(number, kind),
         None => unreachable!(),
     }
 }

@@ -1,8 +1,8 @@
 //! Whether a task of a valid model may be moved to another core and priority, answered before any change.
-ghost use Rattle.std.specs.Prelude.{◌≡◌, ℕ, ◌<◌, ◌++◌, length, IfSome};
+ghost use Rattle.std.specs.Prelude.{◌≡◌, ℕ, ◌<◌, ◌++◌, length};
 ghost use Rattle.cl_model.specs.Answers.{Answers, Passes};
 ghost use Rattle.cl_model.specs.Changes.{with_place};
-ghost use Rattle.cl_model.specs.Named.{index_of, core_names, task_names};
+ghost use Rattle.cl_model.specs.Named.{task_names};
 ghost use Rattle.cl_model.specs.ValidTasks as keys;
 ghost use Rattle.cl_model.specs.ValidTasks.{deadline_checks};
 ghost use Rattle.cl_model.specs.Validity.{IsValid, refusals_of};
@@ -14,20 +14,8 @@ ghost use Rattle.cl_edit.specs.Inner.Places.{place_checks, IsFirstBeyond, first_
 use crate::check_new_task::task_key;
 use crate::check_sets::found_task;
 use crate::clash::later_of;
-use crate::find;
 use crate::pace::Change;
 use cl_model::{Code, Key, MOST_TASKS_OF_CORE, ModelFault, Name, ValidModel};
-
-/// The number of the core of that name. There is none exactly where no core has it.
-fn core_named(model: &ValidModel, name: &Name) -> Option<u32>
-    ensures number { result ≡ index_of name.now (core_names model.now) }
-    ensures within { IfSome result (λ core. core < length model.now.cores) }
-{
-    match find::found(model.plain().cores.as_slice(), name) {
-        Ok(number) => Some(number as u32),
-        Err(_) => None,
-    }
-}
 
 /// The first task that would find its core full if a task were moved there: the later of that task and the last of the core.
 fn first_beyond(model: &ValidModel, task: u32, core: u32) -> Option<u32>
@@ -115,7 +103,7 @@ pub(crate) fn check_move(
     ensures { Passes result (found task.now (task_names model.now) ++ refusals_of (with_place model.now (task_number model.now task.now) core.now priority)) }
 {
     let task = found_task(model, task)?;
-    match core_named(model, core) {
+    match model.core_named(core) {
         Some(core) => check_moved(model, task, core, priority),
         None => Err(ModelFault::refused(Code::M29, task_key(task as usize, Key::Core))),
     }

@@ -14,7 +14,7 @@ ghost use Rattle.cl_edit.specs.FewChecks.{range_refusals, number_refusals};
 
 use crate::clash::check_swapped;
 use crate::edit::Edit;
-use crate::find::{self, not_found};
+use crate::find::not_found;
 use crate::kinds::kind_with;
 use crate::pace::Change;
 use cl_model::{
@@ -144,10 +144,12 @@ fn check_kind(model: &ValidModel, stimulus: u32, kind: StimulusKind) -> Result<(
 pub(crate) fn check_stimulus(model: &ValidModel, name: &Name, edit: &Edit) -> Result<(), ModelFault>
     ensures { Passes result (kind_found (kind_named model.now name.now) (sets edit.now) ++ refusals_of (with_kind model.now (stimulus_number model.now name.now) (with_numbers edit.now))) }
 {
+    let Some(number) = model.stimulus_named(name) else {
+        return Err(not_found());
+    };
     let stimuli = model.plain().stimuli.as_slice();
-    let number = find::found(stimuli, name)?;
-    match kind_with(stimuli[number].kind, edit) {
-        Some(kind) => check_kind(model, number as u32, kind),
+    match kind_with(stimuli[number as usize].kind, edit) {
+        Some(kind) => check_kind(model, number, kind),
         None => Err(ModelFault::refused(Code::E3, Place::top())),
     }
 }

@@ -3,6 +3,7 @@
 
 mod apply;
 mod change;
+mod change_lists;
 mod change_sets;
 mod check;
 mod check_lists;

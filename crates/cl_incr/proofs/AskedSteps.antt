@@ -121,3 +121,29 @@ module _ (old new : SystemModel) where
     changed_chains = of_chains.changed;
     few = omega (arith, of_tasks.few, of_chains.few);
   }
+
+-- ---- along a rising list
+
+module _ (IsChanged : ℕ → Type 0) (each count : ℕ) (numbers : List ℕ) where
+  -- the steps for the numbers before a place
+  pub record AsksBefore (index before after : ℕ) : Type 0 where
+    pub bound : ℕ
+    pub asks : AsksBelow IsChanged each bound before after
+    pub few : bound ≤ count
+    pub next : index < length numbers → bound ≤ get_or numbers index 0
+
+  pub asks_start : (steps : ℕ) → AsksBefore 0 steps steps
+  asks_start steps = record { bound = 0; asks = asks_none IsChanged each steps; few = omega arith; next = λ within. omega arith }
+
+  pub asks_on : IsStrictlyIncreasing numbers → All (λ number. number < count) numbers → (index before now after : ℕ) → index < length numbers
+      → AsksBefore index before now → AsksOne (IsChanged (get_or numbers index 0)) each now after → AsksBefore (index + 1) before after
+  asks_on rising known index before now after within asks one = record {
+    bound = get_or numbers index 0 + 1;
+    asks = asks_next IsChanged each (get_or numbers index 0) before now after
+        (asks_within IsChanged each asks.bound (get_or numbers index 0) before now asks.asks (asks.next within)) one;
+    few = omega (arith, known index 0 within);
+    next = λ more. omega (arith, rising index more);
+  }
+
+  pub asks_all : (index before after : ℕ) → AsksBefore index before after → AsksBelow IsChanged each count before after
+  asks_all index before after asks = asks_within IsChanged each asks.bound count before after asks.asks asks.few

@@ -1,6 +1,6 @@
 -- What the checks of an edit say of the edited model.
 use Rattle.std.proofs.Common.{◌≡◌, ℕ, ap, ◌∙◌, subst, sym}
-use Rattle.std.specs.Prelude.{Result, Ok, Err, OnOk, IfErr, Option, Some, None, IfSome}
+use Rattle.std.specs.Prelude.{List, Result, Ok, Err, OnOk, IfErr, Option, Some, None, IfSome}
 use Rattle.cl_model.specs.declared.model.SystemModel.{SystemModel}
 use Rattle.cl_model.specs.declared.model_fault.ModelFault.{ModelFault}
 use Rattle.cl_model.specs.declared.model_fault.ModelFault.TheVariants.{Refused}
@@ -8,7 +8,10 @@ use Rattle.cl_model.specs.declared.refusal.Refusal.{Refusal}
 use Rattle.cl_model.specs.Answers.{IsFaultOf, Passes}
 use Rattle.cl_edit.specs.declared.edit.Edit.{Edit}
 use Rattle.cl_edit.specs.Edited.{with_edit, edited}
+use Rattle.cl_bound.specs.declared.answer.TaskAnswer.{TaskAnswer}
 use Rattle.cl_incr.specs.Changed.{AsksForChanges}
+use Rattle.cl_incr.specs.declared.twin.Twin.{Twin}
+use Rattle.cl_incr.specs.Inner.IsTwin.{IsTwinOf, IsEditedTwin}
 use Rattle.cl_edit.proofs.EditedValid.{made_is}
 use Rattle.cl_edit.proofs.CheckedEdits.{checks_of_edit, made_where_passes, refused_where_fault}
 
@@ -38,7 +41,10 @@ module _ (model : SystemModel) (edit : Edit) where
   made_as_meant changed is = is ∙ ap Ok (sym (made_is model edit changed is))
 
   -- what an edit makes once more is the same model
-  pub made_again : (changed : SystemModel) (spare : Option SystemModel) → edited model edit ≡ Ok changed → IfSome spare (λ s. edited model edit ≡ Ok s)
-      → IfSome spare (λ s. s ≡ changed)
-  made_again changed None is again = tt
-  made_again changed (Some s) is again = sym (made_is model edit s again) ∙ made_is model edit changed is
+  pub twin_again : (changed : SystemModel) (answers : List TaskAnswer) (twin : Option Twin) → edited model edit ≡ Ok changed
+      → IfSome twin (IsEditedTwin model edit answers) → IfSome twin (IsTwinOf changed answers)
+  twin_again changed answers None is again = tt
+  twin_again changed answers (Some twin) is again = record {
+    same_model = sym (made_is model edit twin.model again.made) ∙ made_is model edit changed is;
+    same_answers = again.same_answers;
+  }

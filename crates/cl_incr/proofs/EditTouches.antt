@@ -1,6 +1,6 @@
 -- What the edits that keep all numbers touch, by their kinds.
 use Rattle.std.proofs.Common.{◌≡◌, ℕ, ◌<◌, ◌⊎◌, Bool, List, [], ◌∷◌, length, refl, sym, ap, ◌∙◌, subst, Ok}
-use Rattle.std.specs.Prelude.{All, Option, Result, IfOk, IfSome, Err, Some, None}
+use Rattle.std.specs.Prelude.{All, Contains, Option, Result, IfOk, IfSome, Err, Some, None}
 use Rattle.cl_model.specs.declared.model.SystemModel.{SystemModel}
 use Rattle.cl_model.specs.declared.stimulus.StimulusKind.{StimulusKind}
 use Rattle.cl_model.specs.declared.task.AccessKind.{AccessKind}
@@ -11,7 +11,7 @@ use Rattle.cl_edit.specs.declared.edit.Edit.{Edit}
 use Rattle.cl_edit.specs.declared.edit.Edit.TheVariants.{Range, Whole, Period, Offset, Jitter, Distances, Burst, Deadline, Swap, Move, Kind}
 use Rattle.cl_model.specs.Changes.{with_range, with_whole, with_kind, with_period, with_offset, with_jitter, with_distances, with_burst, with_deadline, with_swap, with_place, with_access}
 use Rattle.cl_edit.specs.Edited.{task_number, with_edit, edited}
-use Rattle.cl_incr.specs.Touched.{IsAmong, Touches}
+use Rattle.cl_incr.specs.Touched.{Touches}
 use Rattle.cl_edit.proofs.EditedValid.{made_is}
 use Rattle.cl_incr.proofs.Touching.{task_touches, runnable_touches, swap_touches, kind_touches}
 
@@ -130,8 +130,8 @@ module _ (model changed : SystemModel) (edit : Edit) (made : edited model edit �
     same_tasks = ap (λ (m : SystemModel). length m.tasks) kind_is
 
     pub kinds_touch : (tasks : List ℕ) → All (λ task. task < length model.tasks) tasks
-        → ((k : ℕ) → k < length model.tasks → (stimulus_of model k ≡ stimulus_of changed k) ⊎ IsAmong tasks k) → Touches model changed tasks
+        → ((k : ℕ) → k < length model.tasks → (stimulus_of model k ≡ stimulus_of changed k) ⊎ Contains tasks k) → Touches model changed tasks
     kinds_touch tasks known each =
         subst (λ m. Touches model m tasks) kind_is
         (kind_touches model sets.number sets.change tasks known
-        (subst (λ (m : SystemModel). (k : ℕ) → k < length model.tasks → (stimulus_of model k ≡ stimulus_of m k) ⊎ IsAmong tasks k) (sym kind_is) each))
+        (subst (λ (m : SystemModel). (k : ℕ) → k < length model.tasks → (stimulus_of model k ≡ stimulus_of m k) ⊎ Contains tasks k) (sym kind_is) each))

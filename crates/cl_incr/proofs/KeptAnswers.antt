@@ -9,7 +9,8 @@ use Rattle.cl_runs.specs.SystemOf.{system_of}
 use Rattle.cl_runs.specs.TaskTiming.{no_timing, timing_at}
 use Rattle.cl_runs.proofs.ModelSystem.{count_is}
 use Rattle.cl_bound.specs.declared.answer.TaskAnswer.{TaskAnswer}
-use Rattle.cl_bound.specs.Answers.{answer_to, answers_of}
+use Rattle.cl_bound.specs.declared.answer.TaskAnswer.TheVariants.{Late as Unanswered}
+use Rattle.cl_bound.specs.Answers.{answer_to, answer_at, answers_of}
 use Rattle.cl_analyse.specs.Headline.{question_at}
 use Rattle.cl_analyse.specs.declared.findings.ChainAnswer.{ChainAnswer}
 use Rattle.cl_analyse.specs.declared.findings.ChainAnswer.TheVariants.{Late}
@@ -43,6 +44,13 @@ module _ (model : SystemModel) (answers : List TaskAnswer) (are : answers ≡ an
       at ∙ ap (λ (list : List TaskAnswer). get_or list task found) are
       ∙ get_or-map (answer_to (system_of model)) (system_of model).tasks task no_timing found (omega (arith, within, count_is model))
 
+-- the answer of a number is that for the task of that number
+pub answer_is : (model : SystemModel) (task : ℕ) → task < length model.tasks
+    → answer_at (answers_of (system_of model)) task ≡ answer_to (system_of model) (timing_at (system_of model) task)
+unfolding answers_of
+answer_is model task within =
+    get_or-map (answer_to (system_of model)) (system_of model).tasks task no_timing Unanswered (omega (arith, within, count_is model))
+
 module _ (old new : SystemModel) (task : ℕ) where
   pub kept_answer : (answers : List TaskAnswer) (before : ℕ) (found : TaskAnswer) → answers ≡ answers_of (system_of old) → before < length old.tasks
       → found ≡ get_or answers before found → question_at old before ≡ question_at new task
@@ -69,18 +77,28 @@ pub exact_at : (answers : List ExactAnswer) (chain : ℕ) (found : ExactAnswer) 
     → found ≡ exact_answer_at answers chain
 exact_at answers chain found within at = at ∙ get_or_default answers chain found ChainLate within
 
+-- what stands of a chain in the findings of a model is found of it
+module _ (old : SystemModel) (findings : Findings) (are : AreFindings old findings) where
+  pub found_before : (before : ℕ) (found : ChainFindings) → before < length old.chains
+      → found.bounds ≡ get_or findings.chains before found.bounds → found.exact ≡ get_or findings.exacts before found.exact
+      → AreFoundOf old before found
+  found_before before found within bounds_at exact_at_before =
+      let is_exact = exact_at findings.exacts before found.exact (omega (arith, within, are.exacts.one_a_chain)) exact_at_before in
+      record {
+        bounds = chain_answer_found old findings.chains before found.bounds are.chains within bounds_at;
+        exact = subst (IsExactAnswer old before (chain_answer_of old (chain_at old before))) (sym is_exact) (are.exacts.each before within);
+      }
+
 module _ (old new : SystemModel) (chain : ℕ) where
   -- what is found of the chain that had the question before is found of the chain that has it now
   pub kept_chain : (findings : Findings) (before : ℕ) (found : ChainFindings) → IsValid old → AreFindings old findings → before < length old.chains
       → found.bounds ≡ get_or findings.chains before found.bounds → found.exact ≡ get_or findings.exacts before found.exact
       → AreBothAsked (chain_question old before) (chain_question new chain) → AreFoundOf new chain found
   kept_chain findings before found valid are within bounds_at exact_at_before asked =
-      let was_bounds = chain_answer_found old findings.chains before found.bounds are.chains within bounds_at in
-      let is_exact = exact_at findings.exacts before found.exact (omega (arith, within, are.exacts.one_a_chain)) exact_at_before in
+      let was = found_before old findings are before found within bounds_at exact_at_before in
       record {
-        bounds = was_bounds ∙ chain_answers_same old new before chain asked.question asked.old_asks asked.new_asks;
-        exact = exact_answers_same old new valid before chain within asked.question asked.old_asks asked.new_asks found.exact
-            (subst (IsExactAnswer old before (chain_answer_of old (chain_at old before))) (sym is_exact) (are.exacts.each before within));
+        bounds = was.bounds ∙ chain_answers_same old new before chain asked.question asked.old_asks asked.new_asks;
+        exact = exact_answers_same old new valid before chain within asked.question asked.old_asks asked.new_asks found.exact was.exact;
       }
 
   -- a chain that wasn't there, or had another question

@@ -11,7 +11,15 @@ pub mod Reports
 pub mod SameCores
 pub mod SameGroups
 pub mod SameChains
+pub mod Gathered
+pub mod Waiting
+pub mod Listing
+pub mod PassesKept
+pub mod Puts
+pub mod NewFindings
 pub mod Touching
 pub mod EditTouches
 pub mod Mended
 pub mod CheckedEdits
+pub mod ChainEdits
+pub mod Beside

@@ -1,4 +1,4 @@
--- A chain all of whose tasks stand as they did has the findings that it had.
+-- A chain of the same groups, all of whose tasks stand as they did, has the findings that it had.
 use Rattle.std.proofs.Common.{◌≡◌, ◌≢◌, ℕ, suc, ◌+◌, ◌<◌, Bool, true, false, cond, not, ◌&&◌, ◌==◌, nat_lt, List, [], ◌∷◌, length, get_or, refl, sym, ap, ◌∙◌, subst, arith, Option, Some, None}
 use Rattle.std.specs.Prelude.{map, find, All}
 use Rattle.std.specs.Option.{option_map}
@@ -24,12 +24,11 @@ use Rattle.cl_incr.specs.declared.question.GroupQuestion.{GroupQuestion}
 use Rattle.cl_incr.specs.declared.question.HopLine.{HopLine}
 use Rattle.cl_incr.specs.declared.question.HopLine.TheVariants.{SameTask, Saving, Plain}
 use Rattle.cl_incr.specs.Questions.{group_question, hop_line, hop_lines, ChainQuestion, question_of_groups, unless_late, chain_question}
-use Rattle.cl_incr.specs.Touched.{KeepsNumbers, StandsAsBefore}
+use Rattle.cl_incr.specs.Touched.{StandsAsBefore}
 use Rattle.cl_incr.proofs.EqualGroups.{asked, AskTheSame}
 use Rattle.cl_incr.proofs.EqualBounds.{same_bounds}
 use Rattle.cl_incr.proofs.EqualAnswers.{exact_answers_same, late_where_not_asked}
 use Rattle.cl_incr.proofs.SameQuestions.{same_maps, same_hops}
-use Rattle.cl_incr.proofs.SameGroups.{steps_same, groups_same}
 
 -- ---- what is found first
 
@@ -77,65 +76,65 @@ module _ (old new : SystemModel) where
 
 -- ---- a chain
 
-module _ (old new : SystemModel) (kept : KeepsNumbers old new) (chain : ℕ)
+module _ (old new : SystemModel) (before chain : ℕ) (same : groups_at old before ≡ groups_at new chain)
     (stands : All (λ (group : Group). StandsAsBefore old new group.task) (groups_at new chain)) where
   abbrev the_groups : List Group
   the_groups = groups_at new chain
 
-  ask_same : AskTheSame (system_of old) (system_of new) (groups_at old chain) the_groups
+  ask_same : AskTheSame (system_of old) (system_of new) (groups_at old before) the_groups
   ask_same =
-      ap (map (asked (system_of old))) (groups_same old new kept chain)
+      ap (map (asked (system_of old))) same
       ∙ same_maps (asked (system_of old)) (asked (system_of new)) the_groups the_groups no_group no_group refl
       (λ k within. asked_same old new (group_at the_groups k) (stands k no_group within))
 
-  lines_same : hop_lines (system_of old) (groups_at old chain) ≡ hop_lines (system_of new) the_groups
+  lines_same : hop_lines (system_of old) (groups_at old before) ≡ hop_lines (system_of new) the_groups
   lines_same =
-      ap (hop_lines (system_of old)) (groups_same old new kept chain)
+      ap (hop_lines (system_of old)) same
       ∙ same_hops (system_of old) (system_of new) the_groups the_groups refl
       (λ k within. line_same old new (group_at the_groups k) (group_at the_groups (k + 1))
       (stands k no_group (omega (arith, within))) (stands (k + 1) no_group within))
 
-  late_same : first_late (answers_of (system_of old)) (steps_of old (chain_at old chain))
+  late_same : first_late (answers_of (system_of old)) (steps_of old (chain_at old before))
       ≡ first_late (answers_of (system_of new)) (steps_of new (chain_at new chain))
   late_same =
-      first_late_of_groups (answers_of (system_of old)) old (chain_at old chain)
-      ∙ ap (first_late_group (answers_of (system_of old))) (groups_same old new kept chain)
+      first_late_of_groups (answers_of (system_of old)) old (chain_at old before)
+      ∙ ap (first_late_group (answers_of (system_of old))) same
       ∙ ap (option_map (λ (group : Group). group.task))
       (find_same (λ (group : Group). is_late (answer_at (answers_of (system_of old)) group.task))
       (λ (group : Group). is_late (answer_at (answers_of (system_of new)) group.task)) the_groups
       (λ k d within. ap is_late (stands k d within).answer))
       ∙ sym (first_late_of_groups (answers_of (system_of new)) new (chain_at new chain))
 
-  asks_same : question_of_groups (system_of old) (groups_at old chain) ≡ question_of_groups (system_of new) the_groups
+  asks_same : question_of_groups (system_of old) (groups_at old before) ≡ question_of_groups (system_of new) the_groups
   asks_same = λ i. record { groups = ask_same i; hops = lines_same i }
 
   -- it asks what it asked
-  pub chain_question_same : chain_question old chain ≡ chain_question new chain
+  pub chain_question_same : chain_question old before ≡ chain_question new chain
   unfolding chain_question
   chain_question_same =
-      ap (λ late. unless_late late (question_of_groups (system_of old) (groups_at old chain))) late_same
+      ap (λ late. unless_late late (question_of_groups (system_of old) (groups_at old before))) late_same
       ∙ ap (unless_late (first_late (answers_of (system_of new)) (steps_of new (chain_at new chain)))) asks_same
 
   -- its bounds are what they were
-  pub chain_answer_same : chain_answer_of old (chain_at old chain) ≡ chain_answer_of new (chain_at new chain)
+  pub chain_answer_same : chain_answer_of old (chain_at old before) ≡ chain_answer_of new (chain_at new chain)
   unfolding chain_answer_of
   chain_answer_same =
-      ap (λ late. chain_answer late (bounds_of (system_of old) (groups_at old chain))) late_same
+      ap (λ late. chain_answer late (bounds_of (system_of old) (groups_at old before))) late_same
       ∙ ap (chain_answer (first_late (answers_of (system_of new)) (steps_of new (chain_at new chain))))
-      (same_bounds (system_of old) (system_of new) (groups_at old chain) the_groups ask_same lines_same)
+      (same_bounds (system_of old) (system_of new) (groups_at old before) the_groups ask_same lines_same)
 
   late_exact : (answer : ExactAnswer) (task : ℕ) → chain_answer_of new (chain_at new chain) ≡ Late task
-      → IsExactAnswer old chain (chain_answer_of old (chain_at old chain)) answer → IsExactAnswer new chain (chain_answer_of new (chain_at new chain)) answer
+      → IsExactAnswer old before (chain_answer_of old (chain_at old before)) answer → IsExactAnswer new chain (chain_answer_of new (chain_at new chain)) answer
   late_exact answer task late exact =
       subst (λ bounds. IsExactAnswer new chain bounds answer) (sym late)
-      (subst (λ bounds. IsExactAnswer old chain bounds answer) (chain_answer_same ∙ late) exact)
+      (subst (λ bounds. IsExactAnswer old before bounds answer) (chain_answer_same ∙ late) exact)
 
   -- and what was found of its exact lengths stands
-  pub exact_answer_same : IsValid old → chain < length old.chains → (answer : ExactAnswer)
-      → IsExactAnswer old chain (chain_answer_of old (chain_at old chain)) answer → IsExactAnswer new chain (chain_answer_of new (chain_at new chain)) answer
+  pub exact_answer_same : IsValid old → before < length old.chains → (answer : ExactAnswer)
+      → IsExactAnswer old before (chain_answer_of old (chain_at old before)) answer → IsExactAnswer new chain (chain_answer_of new (chain_at new chain)) answer
   exact_answer_same valid within answer exact =
       elim (chain_question new chain) as (λ question. chain_question new chain ≡ question
       → IsExactAnswer new chain (chain_answer_of new (chain_at new chain)) answer) [
         | None ↦ λ none. let late = late_where_not_asked new chain none in late_exact answer late.0 late.1 exact
-        | Some question ↦ λ asks. exact_answers_same old new valid chain chain within question (chain_question_same ∙ asks) asks answer exact
+        | Some question ↦ λ asks. exact_answers_same old new valid before chain within question (chain_question_same ∙ asks) asks answer exact
       ] refl

@@ -1,6 +1,6 @@
 -- What each kind of edit touches.
 use Rattle.std.proofs.Common.{◌≡◌, ◌≢◌, ℕ, ◌<◌, ◌⊎◌, inl, inr, List, [], ◌∷◌, length, refl, sym, ap, ◌∙◌, arith}
-use Rattle.std.specs.Prelude.{map, All}
+use Rattle.std.specs.Prelude.{map, All, Contains}
 use Rattle.std.proofs.lemmas.Bool.Decides.{eqb_tells}
 use Rattle.std.proofs.lemmas.List.Elements.{All-nil, All-cons}
 use Rattle.std.proofs.Math.Seq.{map-set_same}
@@ -17,7 +17,7 @@ use Rattle.cl_runs.specs.SystemOf.{range_of, timing_of}
 use Rattle.cl_runs.specs.TaskTiming.{Timing}
 use Rattle.cl_runs.proofs.ModelSystem.{timing_is}
 use Rattle.cl_model.specs.Changes.{with_runnable, with_task, with_priority, with_swap, with_kind}
-use Rattle.cl_incr.specs.Touched.{KeepsNumbers, HasSameTiming, IsAmong, ChangesOnly, Touches}
+use Rattle.cl_incr.specs.Touched.{KeepsNumbers, HasSameTiming, ChangesOnly, Touches}
 
 -- ---- one change after another
 
@@ -27,6 +27,7 @@ keeps_both one two three first second = record {
   tasks = first.tasks ∙ second.tasks;
   runnables = first.runnables ∙ second.runnables;
   chains = first.chains ∙ second.chains;
+  requirements = first.requirements ∙ second.requirements;
 }
 
 -- ---- a task
@@ -42,6 +43,7 @@ module _ (model : SystemModel) (i : ℕ) (task : TaskDef) where
     tasks = sym (map-set_same (λ (t : TaskDef). t.name) model.tasks i task no_task name);
     runnables = sym (map-set_same own_names model.tasks i task no_task runnables);
     chains = refl;
+    requirements = refl;
   }
 
   pub others_same : (k : ℕ) → k < length (with_task model i task).tasks → k ≢ i → HasSameTiming model (with_task model i task) k
@@ -88,7 +90,7 @@ timing_under task core kind = record {
 
 module _ (model : SystemModel) (s : ℕ) (change : StimulusKind → StimulusKind) where
   pub kind_keeps : KeepsNumbers model (with_kind model s change)
-  kind_keeps = record { cores = refl; tasks = refl; runnables = refl; chains = refl }
+  kind_keeps = record { cores = refl; tasks = refl; runnables = refl; chains = refl; requirements = refl }
 
   -- a task whose stimulus is of the same kind as before has the timing that it had
   pub kind_same : (k : ℕ) → k < length model.tasks → stimulus_of model k ≡ stimulus_of (with_kind model s change) k
@@ -103,16 +105,16 @@ module _ (model : SystemModel) (s : ℕ) (change : StimulusKind → StimulusKind
 -- a list of one task, and one of two
 all_but_one : (old new : SystemModel) (i : ℕ) → ((k : ℕ) → k < length new.tasks → k ≢ i → HasSameTiming old new k) → ChangesOnly (i ∷ []) old new
 all_but_one old new i others k within = elim (eqb_tells k i) [
-  | inl same ↦ inr (record { place = 0; within = omega arith; is = sym same.1 })
+  | inl same ↦ inr (0, omega arith, sym same.1)
   | inr other ↦ inl (others k within other.1)
 ]
 
 all_but_two : (old new : SystemModel) (i j : ℕ) → ((k : ℕ) → k < length new.tasks → k ≢ i → k ≢ j → HasSameTiming old new k)
     → ChangesOnly (i ∷ j ∷ []) old new
 all_but_two old new i j others k within = elim (eqb_tells k i) [
-  | inl same ↦ inr (record { place = 0; within = omega arith; is = sym same.1 })
+  | inl same ↦ inr (0, omega arith, sym same.1)
   | inr other ↦ elim (eqb_tells k j) [
-    | inl same ↦ inr (record { place = 1; within = omega arith; is = sym same.1 })
+    | inl same ↦ inr (1, omega arith, sym same.1)
     | inr another ↦ inl (others k within other.1 another.1)
   ]
 ]
@@ -148,7 +150,7 @@ swap_touches model i j first second =
 
 -- a stimulus touches tasks whose stimuli are then of other kinds
 pub kind_touches : (model : SystemModel) (s : ℕ) (change : StimulusKind → StimulusKind) (tasks : List ℕ) → All (λ task. task < length model.tasks) tasks
-    → ((k : ℕ) → k < length model.tasks → (stimulus_of model k ≡ stimulus_of (with_kind model s change) k) ⊎ IsAmong tasks k)
+    → ((k : ℕ) → k < length model.tasks → (stimulus_of model k ≡ stimulus_of (with_kind model s change) k) ⊎ Contains tasks k)
     → Touches model (with_kind model s change) tasks
 kind_touches model s change tasks known each = record {
   keeps = kind_keeps model s change;

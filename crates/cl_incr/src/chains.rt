@@ -1,6 +1,6 @@
 //! The answers for the chains of an edited model: those that stood before where the questions are the same, and else
 //! asked anew. Times are in ticks.
-ghost use Rattle.std.specs.Prelude.{◌≡◌, ◌<◌, length, IfOk};
+ghost use Rattle.std.specs.Prelude.{◌≡◌, ◌<◌, length, IfOk, IfSome};
 ghost use Rattle.cl_runs.specs.SystemOf.{system_of};
 ghost use Rattle.cl_bound.specs.Answers.{answers_of};
 ghost use Rattle.cl_analyse.specs.ChainAnswers.{chain_answers_of, AreExactAnswers};
@@ -8,8 +8,10 @@ ghost use Rattle.cl_analyse.specs.Findings.{AreFindings};
 ghost use Rattle.cl_incr.specs.Changed.{IsChangedChain};
 ghost use Rattle.cl_incr.specs.Inner.Kept.{AreFoundOf, IsKeptChain};
 ghost use Rattle.cl_incr.specs.Inner.Asked.{AsksOne, AsksChains};
+ghost use Rattle.cl_incr.specs.Inner.Stays.{ChainsStay};
 
 use crate::comparing::ask_the_same;
+use crate::stays::number_before;
 use cl_analyse::{ChainAnswer, ExactAnswer, Findings, answer_chain, answer_exact};
 use cl_bound::TaskAnswer;
 use cl_model::{List, ValidModel};
@@ -80,6 +82,53 @@ pub(crate) fn find_chain<L: Ledger>(
     }
 }
 
+/// What was found before of a chain that is neither added nor touched by an edit which adds or drops another.
+fn findings_before(
+    old: &ValidModel,
+    findings: &Findings,
+    new: &ValidModel,
+    gone: Option<u32>,
+    chain: u32,
+) -> Option<ChainFindings>
+    requires findings { AreFindings old.now findings.now }
+    requires gone { IfSome gone (λ gone. ChainsStay gone old.now new.now) }
+    requires chain { chain < length new.now.chains }
+    ensures { IfSome result (AreFoundOf new.now chain) }
+{
+    let before = number_before(gone?, chain);
+    if before >= old.chains() as usize {
+        return None;
+    }
+    Some(ChainFindings {
+        bounds: findings.chains.as_slice()[before],
+        exact: findings.exacts.as_slice()[before].copy(),
+    })
+}
+
+/// What is found of a chain of the new model. Up to two steps are counted where its question is changed; it isn't even
+/// compared where another chain is added or dropped.
+fn find_beside<L: Ledger>(
+    old: &ValidModel,
+    findings: &Findings,
+    new: &ValidModel,
+    tasks: &List<TaskAnswer>,
+    gone: Option<u32>,
+    chain: u32,
+    steps: &mut Steps<L>,
+) -> ChainFindings
+    requires findings { AreFindings old.now findings.now }
+    requires tasks { tasks.now ≡ answers_of (system_of new.now) }
+    requires gone { IfSome gone (λ gone. ChainsStay gone old.now new.now) }
+    requires chain { chain < length new.now.chains }
+    ensures found { AreFoundOf new.now chain result }
+    ensures steps { AsksOne (IsChangedChain old.now new.now chain) 2 steps.old steps.new }
+{
+    match findings_before(old, findings, new, gone, chain) {
+        Some(found) => found,
+        None => find_chain(old, findings, new, tasks, chain, steps),
+    }
+}
+
 /// What is found of all chains of the new model, in file order. Each changed question counts up to two steps.
 pub(crate) fn find_chains<L: Ledger>(
     alloc: Global,
@@ -87,10 +136,12 @@ pub(crate) fn find_chains<L: Ledger>(
     findings: &Findings,
     new: &ValidModel,
     tasks: &List<TaskAnswer>,
+    gone: Option<u32>,
     steps: &mut Steps<L>,
 ) -> Result<AllChains, NoMemory>
     requires findings { AreFindings old.now findings.now }
     requires tasks { tasks.now ≡ answers_of (system_of new.now) }
+    requires gone { IfSome gone (λ gone. ChainsStay gone old.now new.now) }
     ensures bounds { IfOk result (λ found. found.bounds ≡ chain_answers_of new.now) }
     ensures exacts { IfOk result (λ found. AreExactAnswers new.now found.exacts) }
     ensures steps { AsksChains old.now new.now (length new.now.chains) steps.old steps.new }
@@ -98,7 +149,7 @@ pub(crate) fn find_chains<L: Ledger>(
     let mut bounds = List::new(alloc);
     let mut exacts = List::new(alloc);
     for chain in 0..new.chains() {
-        let found = find_chain(old, findings, new, tasks, chain, steps);
+        let found = find_beside(old, findings, new, tasks, gone, chain, steps);
         bounds.push(found.bounds)?;
         exacts.push(found.exact)?;
     }

@@ -6,10 +6,16 @@ mod chains;
 mod comparing;
 pub mod laws;
 mod mend;
+mod news;
+mod numbers;
+mod passing;
+mod put;
 mod question;
 mod session;
+mod stays;
 mod tasks;
 mod touch;
+mod twin;
 
 pub use question::{GroupQuestion, HopLine};
 pub use session::Session;

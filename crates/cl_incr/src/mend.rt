@@ -1,74 +1,54 @@
 //! The findings of an edited model, where each task and each chain keeps its number: only tasks of the cores that the edit
 //! touches are asked, and only chains that pass a task which stands otherwise than before. Times are in ticks.
-ghost use Rattle.std.specs.Prelude.{◌≡◌, ℕ, ◌<◌, ◌↔◌, false, length, IsTrue, IfOk, All};
-ghost use Rattle.cl_model.specs.Groups.{groups_at};
+ghost use Rattle.std.specs.Prelude.{◌≡◌, ℕ, ◌<◌, ◌⊎◌, ◌↔◌, length, IsTrue, IfOk, OnOk, All, Contains};
+ghost use Rattle.std.specs.List.Sorted.{IsStrictlyIncreasing};
 ghost use Rattle.cl_runs.specs.SystemOf.{system_of};
-ghost use Rattle.cl_runs.specs.TaskTiming.{timing_at};
-ghost use Rattle.cl_bound.specs.Answers.{answer_at, answer_to, answers_of};
-ghost use Rattle.cl_analyse.specs.ChainAnswers.{chain_answers_of, AreExactAnswers};
+ghost use Rattle.cl_bound.specs.Answers.{answer_at, answers_of};
 ghost use Rattle.cl_analyse.specs.Findings.{AreFindings};
-ghost use Rattle.cl_incr.specs.Changed.{IsChangedTask, IsChangedChain, AsksForChanges};
-ghost use Rattle.cl_incr.specs.Touched.{KeepsNumbers, Touches, TouchesOnly, StandUnlessMarked, IsAmong, is_marked};
-ghost use Rattle.cl_incr.specs.Inner.Kept.{AreFoundOf};
-ghost use Rattle.cl_incr.specs.Inner.Asked.{AsksOne, AsksTasks, AsksChains};
+ghost use Rattle.cl_incr.specs.Changed.{AsksForChanges};
+ghost use Rattle.cl_incr.specs.Touched.{KeepsNumbers, Touches, KeepAnswersBut, StandBut};
+ghost use Rattle.cl_incr.specs.Inner.Asked.{AsksTasks, AsksChains};
+ghost use Rattle.cl_incr.specs.Inner.Passes.{ArePassesOf, ListChains};
+ghost use Rattle.cl_incr.specs.Inner.News.{chains_found, AreAllFound, StayFoundBut, AreNewsOf};
 
-use crate::chains::{AllChains, ChainFindings, find_chain};
+use crate::chains::find_chain;
+use crate::news::{FoundChain, News};
+use crate::numbers::listed_under;
+use crate::passing::Passing;
 use crate::tasks::answer_task;
-use crate::touch::{mark, marks_of_cores};
-use cl_analyse::{Findings, judge_all};
+use crate::touch::{push_unless, tasks_to_ask};
+use cl_analyse::Findings;
 use cl_bound::TaskAnswer;
 use cl_model::{List, ValidModel};
 use cl_time::{NoMemory, Steps};
 use std::alloc::Global;
 use std::sync::ledger::Ledger;
 
-/// The answer for a task of the new model. It is what it was where no task of its core is touched.
-fn mended_answer<L: Ledger>(
+/// Asks these tasks of the new model, and mends their answers in a list of those for the old one. Each changed question
+/// counts a step.
+fn mend_tasks<L: Ledger>(
     alloc: Global,
     old: &ValidModel,
     answers: &List<TaskAnswer>,
     new: &ValidModel,
-    cores: &[bool],
-    task: u32,
+    asked: &[u32],
+    mended: &mut List<TaskAnswer>,
     steps: &mut Steps<L>,
-) -> Result<TaskAnswer, NoMemory>
+) -> Result<(), NoMemory>
     requires answers { answers.now ≡ answers_of (system_of old.now) }
-    requires task { task < length new.now.tasks }
+    requires mended { mended.old ≡ answers.now }
     requires keeps { KeepsNumbers old.now new.now }
-    requires count { length cores.now ≡ length new.now.cores }
-    requires touched { TouchesOnly cores.now old.now new.now }
-    ensures answer { IfOk result (λ answer. answer ≡ answer_to (system_of new.now) (timing_at (system_of new.now) task)) }
-    ensures steps { AsksOne (IsChangedTask old.now new.now task) 1 steps.old steps.new }
-{
-    let core = new.core_of(task) as usize;
-    if cores[core] {
-        answer_task(alloc, old, answers, new, task, steps)
-    } else {
-        Ok(answers.as_slice()[task as usize])
-    }
-}
-
-/// The answers for all tasks of the new model, in file order. Each changed question counts a step.
-fn mended_tasks<L: Ledger>(
-    alloc: Global,
-    old: &ValidModel,
-    answers: &List<TaskAnswer>,
-    new: &ValidModel,
-    cores: &[bool],
-    steps: &mut Steps<L>,
-) -> Result<List<TaskAnswer>, NoMemory>
-    requires answers { answers.now ≡ answers_of (system_of old.now) }
-    requires keeps { KeepsNumbers old.now new.now }
-    requires count { length cores.now ≡ length new.now.cores }
-    requires touched { TouchesOnly cores.now old.now new.now }
-    ensures answers { IfOk result (λ answers. answers ≡ answers_of (system_of new.now)) }
+    requires rising { IsStrictlyIncreasing asked.now }
+    requires below { All (λ task. task < length new.now.tasks) asked.now }
+    requires others { KeepAnswersBut asked.now old.now new.now }
+    ensures answers { OnOk result (mended.new ≡ answers_of (system_of new.now)) }
     ensures steps { AsksTasks old.now new.now (length new.now.tasks) steps.old steps.new }
 {
-    let mut mended = List::new(alloc);
-    for task in 0..new.tasks() {
-        mended.push(mended_answer(alloc, old, answers, new, cores, task, steps)?)?;
+    for task in asked {
+        let answer = answer_task(alloc, old, answers, new, *task, steps)?;
+        *mended.item_mut(*task as usize) = answer;
     }
-    Ok(mended)
+    Ok(())
 }
 
 /// Whether two answers for tasks are the same.
@@ -78,145 +58,117 @@ fn is_same_answer(one: TaskAnswer, other: TaskAnswer) -> bool
     one == other
 }
 
-/// Marks for the tasks whose answers differ.
-fn marks_of_answers(
-    alloc: Global,
+/// The tasks that stand otherwise than before: those that are touched, and of those that were asked the ones whose
+/// answers differ.
+fn tasks_standing_otherwise(
     old: &List<TaskAnswer>,
     new: &List<TaskAnswer>,
-) -> Result<Vec<bool>, NoMemory>
-    requires { length old.now ≡ length new.now }
-    ensures count { IfOk result (λ marks. length marks.items ≡ length new.now) }
-    ensures marked { IfOk result (λ marks. (task : ℕ) → task < length new.now → is_marked marks.items task ≡ false
-        → answer_at old.now task ≡ answer_at new.now task) }
+    asked: &[u32],
+    touched: List<u32>,
+) -> Result<List<u32>, NoMemory>
+    requires count { length old.now ≡ length new.now }
+    requires asked { All (λ task. task < length new.now) asked.now }
+    requires touched { All (λ task. task < length new.now) touched }
+    ensures touched { IfOk result (λ tasks. All (Contains tasks) touched) }
+    ensures others { IfOk result (λ tasks. All (λ task. (answer_at old.now task ≡ answer_at new.now task) ⊎ Contains tasks task) asked.now) }
+    ensures below { IfOk result (λ tasks. All (λ task. task < length new.now) tasks) }
 {
-    let mut marks = Vec::new(alloc);
-    for task in 0..new.len() {
-        let is_same = is_same_answer(old.as_slice()[task], new.as_slice()[task]);
-        marks.push(!is_same)?;
+    let mut tasks = touched;
+    for task in asked {
+        let place = *task as usize;
+        let is_same = is_same_answer(old.as_slice()[place], new.as_slice()[place]);
+        push_unless(&mut tasks, is_same, *task)?;
     }
-    Ok(marks)
+    Ok(tasks)
 }
 
-/// Marks for the tasks that stand otherwise than before: those that are touched, and those whose answers differ.
-fn marks_of_tasks(
-    alloc: Global,
-    old: &ValidModel,
-    old_answers: &List<TaskAnswer>,
-    new: &ValidModel,
-    new_answers: &List<TaskAnswer>,
-    touched: &List<u32>,
-) -> Result<Vec<bool>, NoMemory>
-    requires old_answers { old_answers.now ≡ answers_of (system_of old.now) }
-    requires new_answers { new_answers.now ≡ answers_of (system_of new.now) }
-    requires touched { Touches old.now new.now touched.now }
-    ensures count { IfOk result (λ marks. length marks.items ≡ length new.now.tasks) }
-    ensures marked { IfOk result (λ marks. StandUnlessMarked marks.items old.now new.now) }
-{
-    let mut marks = marks_of_answers(alloc, old_answers, new_answers)?;
-    for task in touched.as_slice() {
-        mark(&mut marks, *task);
-    }
-    Ok(marks)
-}
-
-/// Whether no task of a chain is marked.
-fn passes_no_mark(model: &ValidModel, marks: &[bool], chain: u32) -> bool
-    requires chain { chain < length model.now.chains }
-    requires count { length marks.now ≡ length model.now.tasks }
-    ensures { IsTrue result ↔ All (λ group. is_marked marks.now group.task ≡ false) (groups_at model.now chain) }
-{
-    for place in 0..model.group_count(chain) {
-        if marks[model.group(chain, place).task as usize] {
-            return false;
-        }
-    }
-    true
-}
-
-/// What is found of a chain of the new model. It is what it was where all its tasks stand as before.
-fn mended_chain<L: Ledger>(
-    old: &ValidModel,
-    findings: &Findings,
-    new: &ValidModel,
-    tasks: &List<TaskAnswer>,
-    marks: &[bool],
-    chain: u32,
-    steps: &mut Steps<L>,
-) -> ChainFindings
-    requires findings { AreFindings old.now findings.now }
-    requires tasks { tasks.now ≡ answers_of (system_of new.now) }
-    requires keeps { KeepsNumbers old.now new.now }
-    requires count { length marks.now ≡ length new.now.tasks }
-    requires stand { StandUnlessMarked marks.now old.now new.now }
-    requires chain { chain < length new.now.chains }
-    ensures found { AreFoundOf new.now chain result }
-    ensures steps { AsksOne (IsChangedChain old.now new.now chain) 2 steps.old steps.new }
-{
-    if passes_no_mark(new, marks, chain) {
-        // the model was valid, and the groups are of tasks of the model
-        let _valid = old.plain();
-        let _groups = new.groups(chain);
-        ChainFindings {
-            bounds: findings.chains.as_slice()[chain as usize],
-            exact: findings.exacts.as_slice()[chain as usize].copy(),
-        }
-    } else {
-        find_chain(old, findings, new, tasks, chain, steps)
-    }
-}
-
-/// What is found of all chains of the new model, in file order. Each changed question counts up to two steps.
-fn mended_chains<L: Ledger>(
+/// What is found of these chains of the new model. Each changed question counts up to two steps.
+fn find_these<L: Ledger>(
     alloc: Global,
     old: &ValidModel,
     findings: &Findings,
     new: &ValidModel,
     tasks: &List<TaskAnswer>,
-    marks: &[bool],
+    chains: &[u32],
     steps: &mut Steps<L>,
-) -> Result<AllChains, NoMemory>
+) -> Result<Vec<FoundChain>, NoMemory>
     requires findings { AreFindings old.now findings.now }
     requires tasks { tasks.now ≡ answers_of (system_of new.now) }
-    requires keeps { KeepsNumbers old.now new.now }
-    requires count { length marks.now ≡ length new.now.tasks }
-    requires stand { StandUnlessMarked marks.now old.now new.now }
-    ensures bounds { IfOk result (λ found. found.bounds ≡ chain_answers_of new.now) }
-    ensures exacts { IfOk result (λ found. AreExactAnswers new.now found.exacts) }
+    requires rising { IsStrictlyIncreasing chains.now }
+    requires below { All (λ chain. chain < length new.now.chains) chains.now }
+    ensures chains { IfOk result (λ found. chains_found found.items ≡ chains.now) }
+    ensures found { IfOk result (λ found. AreAllFound new.now found.items) }
     ensures steps { AsksChains old.now new.now (length new.now.chains) steps.old steps.new }
 {
-    let mut bounds = List::new(alloc);
-    let mut exacts = List::new(alloc);
-    for chain in 0..new.chains() {
-        let found = mended_chain(old, findings, new, tasks, marks, chain, steps);
-        bounds.push(found.bounds)?;
-        exacts.push(found.exact)?;
+    let mut all = Vec::new(alloc);
+    for chain in chains {
+        let found = find_chain(old, findings, new, tasks, *chain, steps);
+        all.push(FoundChain {
+            chain: *chain,
+            found,
+        })?;
     }
-    Ok(AllChains { bounds, exacts })
+    Ok(all)
 }
 
-/// The findings of a new model in which an edit touches these tasks.
-pub(crate) fn mended<L: Ledger>(
+/// The chains that pass one of these tasks, in rising order: what was found of the others stands.
+fn chains_to_ask(
+    alloc: Global,
+    old: &ValidModel,
+    new: &ValidModel,
+    passing: &Passing,
+    tasks: &[u32],
+) -> Result<Vec<u32>, NoMemory>
+    requires passing { ListChains old.now passing.now.chains.items }
+    requires keeps { KeepsNumbers old.now new.now }
+    requires below { All (λ task. task < length new.now.tasks) tasks.now }
+    requires others { StandBut tasks.now old.now new.now }
+    ensures rising { IfOk result (λ chains. IsStrictlyIncreasing chains.items) }
+    ensures below { IfOk result (λ chains. All (λ chain. chain < length new.now.chains) chains.items) }
+    ensures others { IfOk result (λ chains. StayFoundBut chains.items old.now new.now) }
+{
+    // the old model was valid
+    let _valid = old.plain();
+    listed_under(alloc, passing.chains.as_slice(), tasks)
+}
+
+/// What is found anew of a model in which an edit touches these tasks. `tasks` are the answers for the tasks once more.
+pub(crate) fn news_of<L: Ledger>(
     alloc: Global,
     old: &ValidModel,
     findings: &Findings,
+    passing: &Passing,
     new: &ValidModel,
-    touched: &List<u32>,
+    mut tasks: List<TaskAnswer>,
+    touched: List<u32>,
     steps: &mut Steps<L>,
-) -> Result<Findings, NoMemory>
+) -> Result<News, NoMemory>
     requires findings { AreFindings old.now findings.now }
-    requires touched { Touches old.now new.now touched.now }
-    ensures findings { IfOk result (AreFindings new.now) }
+    requires passing { ArePassesOf old.now passing.now }
+    requires tasks { tasks ≡ findings.now.tasks }
+    requires touched { Touches old.now new.now touched }
+    ensures news { IfOk result (AreNewsOf old.now new.now) }
     ensures steps { AsksForChanges old.now new.now steps.old steps.new }
 {
-    let cores = marks_of_cores(alloc, old, new, touched)?;
-    let tasks = mended_tasks(alloc, old, &findings.tasks, new, cores.as_slice(), steps)?;
-    let marks = marks_of_tasks(alloc, old, &findings.tasks, new, &tasks, touched)?;
-    let found = mended_chains(alloc, old, findings, new, &tasks, marks.as_slice(), steps)?;
-    let verdicts = judge_all(alloc, new, &found.bounds, &found.exacts)?;
-    Ok(Findings {
+    let answers = &findings.tasks;
+    let asked = tasks_to_ask(alloc, old, new, &touched)?;
+    mend_tasks(
+        alloc,
+        old,
+        answers,
+        new,
+        asked.as_slice(),
+        &mut tasks,
+        steps,
+    )?;
+    let otherwise = tasks_standing_otherwise(answers, &tasks, asked.as_slice(), touched)?;
+    let chains = chains_to_ask(alloc, old, new, passing, otherwise.as_slice())?;
+    let found = find_these(alloc, old, findings, new, &tasks, chains.as_slice(), steps)?;
+    let requirements = listed_under(alloc, passing.requirements.as_slice(), chains.as_slice())?;
+    Ok(News {
         tasks,
-        chains: found.bounds,
-        exacts: found.exacts,
-        verdicts,
+        asked,
+        chains: found,
+        requirements,
     })
 }

@@ -1,33 +1,46 @@
 //! A session over a model that is edited.
-ghost use Rattle.std.specs.Prelude.{◌≡◌, ◌+◌, ◌*◌, ◌≤◌, length, Ok, Err, IfOk, IfErr, OnOk, OnErr, IfSome};
+ghost use Rattle.std.specs.Prelude.{◌≡◌, ◌+◌, ◌*◌, ◌≤◌, length, Ok, Err, IfOk, IfErr, OnOk, OnErr};
 ghost use Rattle.cl_model.specs.declared.model.SystemModel.{SystemModel};
 ghost use Rattle.cl_model.specs.declared.refusal.Refusal.{Refusal};
 ghost use Rattle.cl_edit.specs.Edited.{with_edit, edited};
 ghost use Rattle.cl_edit.specs.Ranges.{IsEditInRange};
 ghost use Rattle.cl_analyse.specs.Findings.{AreFindings};
 ghost use Rattle.cl_incr.specs.Changed.{AsksForChanges};
+ghost use Rattle.cl_incr.specs.Touched.{KeepsNumbers, Touches};
+ghost use Rattle.cl_incr.specs.Inner.IsTwin.{IsTwinOf};
+ghost use Rattle.cl_incr.specs.Inner.Passes.{ArePassesOf};
+ghost use Rattle.cl_incr.specs.Inner.News.{AreNewsOf};
 
 use crate::chains::find_chains;
-use crate::mend::mended;
-use crate::tasks::answer_tasks;
+use crate::mend::news_of;
+use crate::news::News;
+use crate::passing::{Passing, passing_of};
+use crate::put::put_news;
+use crate::stays::chain_gone;
+use crate::tasks::tasks_after;
 use crate::touch::touched_tasks;
+use crate::twin::{Twin, caught_up, twin_after, twin_of};
 use cl_analyse::{Findings, analyse, judge_all};
+use cl_bound::TaskAnswer;
 use cl_edit::{Edit, change_valid, check_edit};
-use cl_model::{ModelFault, ValidModel};
+use cl_model::{List, ModelFault, ValidModel};
 use cl_time::{NoMemory, Steps};
 use std::alloc::Global;
 use std::marker::Model;
 use std::mem;
 use std::sync::ledger::Ledger;
 
-/// A model that is edited, with its findings. Beside it stands the same model once more, where there was memory for it:
-/// the next edit changes that one in place, so that the questions of both can be compared.
+/// A model that is edited, with its findings. An edit costs what it touches, so two things are kept beside them, where
+/// there was memory for it.
 #[derive(Drop)]
 pub struct Session {
     alloc: Global,
     model: ValidModel,
     findings: Findings,
-    spare: Option<ValidModel>,
+    /// The model once more: the next edit changes it in place, so that the questions of both can be compared.
+    twin: Option<Twin>,
+    /// The chains that pass each task. They are forgotten where numbers change.
+    passing: Option<Passing>,
 }
 
 impl Model for Session {
@@ -58,7 +71,8 @@ impl Session {
             alloc,
             model,
             findings,
-            spare: None,
+            twin: None,
+            passing: None,
         })
     }
 
@@ -133,12 +147,92 @@ impl Session {
     {
         // the findings stay those of the model where there is no memory for another
         let _findings = self.findings();
-        let spare = self.take_spare()?;
-        let model = change_valid(self.alloc, spare, edit)?;
-        let findings = findings_of_edit(
+        let Twin { model, tasks } = self.take_twin()?;
+        let model = change_valid(self.alloc, model, edit)?;
+        match touched_tasks(self.alloc, &self.model, &model, edit)? {
+            Some(touched) => self.mend(model, tasks, touched, edit, steps),
+            None => self.renew(model, tasks, edit, steps),
+        }
+    }
+
+    /// The model once more, with the answers for its tasks: its twin, or else a copy.
+    fn take_twin(&mut self) -> Result<Twin, NoMemory>
+        ensures twin { IfOk result (IsTwinOf self.old.model self.old.findings.tasks) }
+        ensures unchanged { self.new ≡ self.old }
+    {
+        match self.twin.take() {
+            Some(twin) => Ok(twin),
+            None => twin_of(self.alloc, &self.model, &self.findings.tasks),
+        }
+    }
+
+    /// The chains that pass each task of the model.
+    fn take_passing(&mut self) -> Result<Passing, NoMemory>
+        ensures passing { IfOk result (ArePassesOf self.old.model) }
+        ensures unchanged { self.new ≡ self.old }
+    {
+        match self.passing.take() {
+            Some(passing) => Ok(passing),
+            None => passing_of(self.alloc, &self.model),
+        }
+    }
+
+    /// Turns to an edited model, in which these tasks are touched. Only what they concern is found anew.
+    fn mend<L: Ledger>(
+        &mut self,
+        model: ValidModel,
+        tasks: List<TaskAnswer>,
+        touched: List<u32>,
+        edit: &Edit,
+        steps: &mut Steps<L>,
+    ) -> Result<(), NoMemory>
+        requires in_range { IsEditInRange edit.now }
+        requires made { edited self.old.model edit.now ≡ Ok model }
+        requires tasks { tasks ≡ self.old.findings.tasks }
+        requires touched { Touches self.old.model model touched }
+        ensures model { OnOk result (self.new.model ≡ model) }
+        ensures findings { AreFindings self.new.model self.new.findings }
+        ensures unchanged { OnErr result (self.new ≡ self.old) }
+        ensures steps { AsksForChanges self.old.model model steps.old steps.new }
+    {
+        let _findings = self.findings();
+        let passing = self.take_passing()?;
+        let news = news_of(
             self.alloc,
             &self.model,
             &self.findings,
+            &passing,
+            &model,
+            tasks,
+            touched,
+            steps,
+        )?;
+        self.take_news(model, news, passing, edit);
+        Ok(())
+    }
+
+    /// Turns to an edited model, all of which is found anew where its question is changed.
+    fn renew<L: Ledger>(
+        &mut self,
+        model: ValidModel,
+        tasks: List<TaskAnswer>,
+        edit: &Edit,
+        steps: &mut Steps<L>,
+    ) -> Result<(), NoMemory>
+        requires in_range { IsEditInRange edit.now }
+        requires made { edited self.old.model edit.now ≡ Ok model }
+        requires tasks { tasks ≡ self.old.findings.tasks }
+        ensures model { OnOk result (self.new.model ≡ model) }
+        ensures findings { AreFindings self.new.model self.new.findings }
+        ensures unchanged { OnErr result (self.new ≡ self.old) }
+        ensures steps { AsksForChanges self.old.model model steps.old steps.new }
+    {
+        let _findings = self.findings();
+        let findings = findings_after(
+            self.alloc,
+            &self.model,
+            &self.findings,
+            tasks,
             &model,
             edit,
             steps,
@@ -147,18 +241,31 @@ impl Session {
         Ok(())
     }
 
-    /// The model once more: the one that stands beside it, or else a copy.
-    fn take_spare(&mut self) -> Result<ValidModel, NoMemory>
-        ensures spare { IfOk result (λ spare. spare ≡ self.old.model) }
-        ensures unchanged { self.new ≡ self.old }
+    /// Puts the edited model and the news on it in the place of what the session held. What it held is brought up to
+    /// the same for the next edit.
+    fn take_news(&mut self, model: ValidModel, mut news: News, passing: Passing, edit: &Edit)
+        requires in_range { IsEditInRange edit.now }
+        requires made { edited self.old.model edit.now ≡ Ok model }
+        requires keeps { KeepsNumbers self.old.model model }
+        requires news { AreNewsOf self.old.model model news }
+        requires passing { ArePassesOf self.old.model passing }
+        ensures model { self.new.model ≡ model }
+        ensures findings { AreFindings self.new.model self.new.findings }
     {
-        match self.spare.take() {
-            Some(spare) => Ok(spare),
-            None => self.model.copy(self.alloc),
-        }
+        let old = mem::replace(&mut self.model, model);
+        put_news(&self.model, &mut self.findings, &mut news);
+        self.twin = caught_up(
+            self.alloc,
+            old,
+            edit,
+            news.tasks,
+            news.asked.as_slice(),
+            &self.findings.tasks,
+        );
+        self.passing = Some(passing);
     }
 
-    /// Puts the edited model and its findings in place of what the session held, and edits what it held for the next
+    /// Puts the edited model and its findings in the place of what the session held, and edits what it held for the next
     /// time.
     fn turn_to(&mut self, model: ValidModel, findings: Findings, edit: &Edit)
         requires in_range { IsEditInRange edit.now }
@@ -168,18 +275,10 @@ impl Session {
         ensures findings { self.new.findings ≡ findings }
     {
         let old = mem::replace(&mut self.model, model);
+        self.twin = twin_after(self.alloc, old, edit, &findings.tasks);
         self.findings = findings;
-        self.spare = spare_of(self.alloc, old, edit);
+        self.passing = None;
     }
-}
-
-/// The edited model once more, where there is memory for it.
-fn spare_of(alloc: Global, old: ValidModel, edit: &Edit) -> Option<ValidModel>
-    requires in_range { IsEditInRange edit.now }
-    requires passes { edited old edit.now ≡ Ok (with_edit old edit.now) }
-    ensures { IfSome result (λ spare. edited old edit.now ≡ Ok spare) }
-{
-    change_valid(alloc, old, edit).ok()
 }
 
 /// Whether an edit may be made of a model.
@@ -192,41 +291,26 @@ fn check(alloc: Global, model: &ValidModel, edit: &Edit) -> Result<(), ModelFaul
     check_edit(alloc, model, edit)
 }
 
-/// The findings of the model that an edit makes, from those of the model that it is made of. Where each task and each
-/// chain keeps its number, only what the edit touches is asked.
-fn findings_of_edit<L: Ledger>(
+/// The findings of an edited model, from those of the model before: what they ask alike is kept. `tasks` are the answers
+/// for the tasks once more.
+fn findings_after<L: Ledger>(
     alloc: Global,
     old: &ValidModel,
     findings: &Findings,
+    tasks: List<TaskAnswer>,
     new: &ValidModel,
     edit: &Edit,
     steps: &mut Steps<L>,
 ) -> Result<Findings, NoMemory>
     requires findings { AreFindings old.now findings.now }
+    requires tasks { tasks ≡ findings.now.tasks }
     requires made { edited old.now edit.now ≡ Ok new.now }
     ensures findings { IfOk result (AreFindings new.now) }
     ensures steps { AsksForChanges old.now new.now steps.old steps.new }
 {
-    match touched_tasks(alloc, old, new, edit)? {
-        Some(touched) => mended(alloc, old, findings, new, &touched, steps),
-        None => findings_after(alloc, old, findings, new, steps),
-    }
-}
-
-/// The findings of a new model, from those of an old one: what they ask alike is kept.
-fn findings_after<L: Ledger>(
-    alloc: Global,
-    old: &ValidModel,
-    findings: &Findings,
-    new: &ValidModel,
-    steps: &mut Steps<L>,
-) -> Result<Findings, NoMemory>
-    requires { AreFindings old.now findings.now }
-    ensures findings { IfOk result (AreFindings new.now) }
-    ensures steps { AsksForChanges old.now new.now steps.old steps.new }
-{
-    let tasks = answer_tasks(alloc, old, &findings.tasks, new, steps)?;
-    let found = find_chains(alloc, old, findings, new, &tasks, steps)?;
+    let tasks = tasks_after(alloc, old, tasks, new, edit, steps)?;
+    let gone = chain_gone(old, new, edit);
+    let found = find_chains(alloc, old, findings, new, &tasks, gone, steps)?;
     let verdicts = judge_all(alloc, new, &found.bounds, &found.exacts)?;
     Ok(Findings {
         tasks,

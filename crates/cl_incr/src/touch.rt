@@ -1,11 +1,13 @@
 //! What an edit touches, where each task and each chain keeps its number: the tasks that it may give other timings, and
-//! their cores. Times are in ticks.
-ghost use Rattle.std.specs.Prelude.{◌≡◌, ℕ, ◌<◌, ◌⊎◌, ◌↔◌, true, false, [], ◌∷◌, ◌++◌, cond, length, slice_set, replicate, IsTrue, IfOk, IfSome, OnOk, Ok, All};
-ghost use Rattle.cl_model.specs.ByNumber.{core_of, stimulus_of};
+//! the tasks of their cores, which may get other answers. Times are in ticks.
+ghost use Rattle.std.specs.Prelude.{◌≡◌, ℕ, ◌<◌, ◌⊎◌, ◌↔◌, [], ◌∷◌, ◌++◌, cond, length, IsTrue, IfOk, IfSome, OnOk, Ok, All, Contains};
+ghost use Rattle.std.specs.List.Sorted.{IsStrictlyIncreasing};
+ghost use Rattle.cl_model.specs.ByNumber.{core_of, stimulus_of, tasks_of_core};
 ghost use Rattle.cl_model.specs.Groups.{step_named};
 ghost use Rattle.cl_edit.specs.Edited.{task_number, edited};
-ghost use Rattle.cl_incr.specs.Touched.{IsAmong, Touches, TouchesOnly, is_marked};
+ghost use Rattle.cl_incr.specs.Touched.{Touches, KeepAnswersBut};
 
+use crate::numbers::put_in_order;
 use cl_edit::Edit;
 use cl_model::{List, Name, StimulusKind, ValidModel};
 use cl_time::NoMemory;
@@ -79,7 +81,7 @@ fn is_same_kind(one: StimulusKind, other: StimulusKind) -> bool
 }
 
 /// Appends a task, unless a test holds.
-fn push_unless(tasks: &mut List<u32>, test: bool, task: u32) -> Result<(), NoMemory>
+pub(crate) fn push_unless(tasks: &mut List<u32>, test: bool, task: u32) -> Result<(), NoMemory>
     ensures { OnOk result (tasks.new ≡ cond test tasks.old (tasks.old ++ task ∷ [])) }
 {
     if test { Ok(()) } else { tasks.push(task) }
@@ -94,7 +96,7 @@ fn tasks_of_other_kinds(
     requires { length old.now.tasks ≡ length new.now.tasks }
     ensures known { IfOk result (λ tasks. All (λ task. task < length old.now.tasks) tasks) }
     ensures others { IfOk result (λ tasks. (task : ℕ) → task < length old.now.tasks
-        → (stimulus_of old.now task ≡ stimulus_of new.now task) ⊎ IsAmong tasks task) }
+        → (stimulus_of old.now task ≡ stimulus_of new.now task) ⊎ Contains tasks task) }
 {
     let mut tasks = List::new(alloc);
     for task in 0..old.tasks() {
@@ -130,40 +132,54 @@ pub(crate) fn touched_tasks(
     }
 }
 
-/// So many marks, none of them set.
-pub(crate) fn no_marks(alloc: Global, count: u32) -> Result<Vec<bool>, NoMemory>
-    ensures { IfOk result (λ marks. marks.items ≡ replicate count false) }
-{
-    let mut marks = Vec::new(alloc);
-    for _ in 0..count {
-        marks.push(false)?;
-    }
-    Ok(marks)
-}
-
-/// Sets the mark of a number.
-pub(crate) fn mark(marks: &mut Vec<bool>, number: u32)
-    requires { number < length marks.old.items }
-    ensures { marks.new.items ≡ slice_set marks.old.items number true }
-{
-    marks[number as usize] = true;
-}
-
-/// Marks for the cores of these tasks, before a change and after it.
-pub(crate) fn marks_of_cores(
+/// The cores of these tasks, before a change and after it, in rising order.
+fn cores_of(
     alloc: Global,
     old: &ValidModel,
     new: &ValidModel,
     tasks: &List<u32>,
-) -> Result<Vec<bool>, NoMemory>
+) -> Result<Vec<u32>, NoMemory>
     requires { Touches old.now new.now tasks.now }
-    ensures count { IfOk result (λ marks. length marks.items ≡ length new.now.cores) }
-    ensures marked { IfOk result (λ marks. TouchesOnly marks.items old.now new.now) }
+    ensures below { IfOk result (λ cores. All (λ core. core < length new.now.cores) cores.items) }
+    ensures all { IfOk result (λ cores. All (λ task.
+        Contains cores.items (core_of old.now task) × Contains cores.items (core_of new.now task)) tasks.now) }
 {
-    let mut marks = no_marks(alloc, new.cores())?;
+    let mut cores = Vec::new(alloc);
     for task in tasks.as_slice() {
-        mark(&mut marks, old.core_of(*task));
-        mark(&mut marks, new.core_of(*task));
+        cores.push(old.core_of(*task))?;
+        cores.push(new.core_of(*task))?;
     }
-    Ok(marks)
+    put_in_order(&mut cores);
+    Ok(cores)
+}
+
+/// The tasks of these cores, in rising order.
+fn tasks_of_cores(alloc: Global, model: &ValidModel, cores: &[u32]) -> Result<Vec<u32>, NoMemory>
+    requires { All (λ core. core < length model.now.cores) cores.now }
+    ensures rising { IfOk result (λ tasks. IsStrictlyIncreasing tasks.items) }
+    ensures below { IfOk result (λ tasks. All (λ task. task < length model.now.tasks) tasks.items) }
+    ensures all { IfOk result (λ tasks. All (λ core. All (Contains tasks.items) (tasks_of_core model.now core)) cores.now) }
+{
+    let mut tasks = Vec::new(alloc);
+    for core in cores {
+        tasks.extend_from_slice(model.tasks_of_core(*core))?;
+    }
+    put_in_order(&mut tasks);
+    Ok(tasks)
+}
+
+/// The tasks whose answers may change, in rising order: those of the cores of the tasks that are touched.
+pub(crate) fn tasks_to_ask(
+    alloc: Global,
+    old: &ValidModel,
+    new: &ValidModel,
+    touched: &List<u32>,
+) -> Result<Vec<u32>, NoMemory>
+    requires { Touches old.now new.now touched.now }
+    ensures rising { IfOk result (λ tasks. IsStrictlyIncreasing tasks.items) }
+    ensures below { IfOk result (λ tasks. All (λ task. task < length new.now.tasks) tasks.items) }
+    ensures others { IfOk result (λ tasks. KeepAnswersBut tasks.items old.now new.now) }
+{
+    let cores = cores_of(alloc, old, new, touched)?;
+    tasks_of_cores(alloc, new, cores.as_slice())
 }

@@ -42,7 +42,7 @@ below_known model n core =
     omega (arith, within, get_or-range_with_len 0 n k d within))
 
 -- what is put at one place of a list by numbers
-put_at : (f f' : ℕ → List ℕ) (n core : ℕ) → core < n → ((k : ℕ) → k < n → k ≢ core → f' k ≡ f k) → set (map f (range_with_len 0 n)) core (f' core) ≡ map f' (range_with_len 0 n)
+pub put_at : (f f' : ℕ → List ℕ) (n core : ℕ) → core < n → ((k : ℕ) → k < n → k ≢ core → f' k ≡ f k) → set (map f (range_with_len 0 n)) core (f' core) ≡ map f' (range_with_len 0 n)
 put_at f f' n core lt others =
     let long : length (set (map f (range_with_len 0 n)) core (f' core)) ≡ n = length-set (map f (range_with_len 0 n)) core (f' core) ∙ length-map-range_with_len f 0 n in
     same_lists (set (map f (range_with_len 0 n)) core (f' core)) (map f' (range_with_len 0 n)) (long ∙ sym (length-map-range_with_len f' 0 n))

@@ -23,10 +23,10 @@ use Rattle.cl_model.proofs.NamesKnown.{chain_lengths, steps_known}
 
 -- the steps of a chain that stands in the list are in the table
 pub steps_known_at : (model : SystemModel) → IsValid model → (table : StepTable) → AreStepsOf model.tasks table
-    → (chains : List ChainDef) (i : ℕ) (chain : ChainDef) (names : List (List ℕ)) → chains ≡ model.chains → i < length chains → chain ≡ get_or chains i chain → names ≡ chain.runnables
-    → All (λ name. has_name name table.names ≡ true) names
-steps_known_at model valid table kept chains i chain names same lt at is =
-    let here : names ≡ (get_or model.chains i chain).runnables = is ∙ ap (λ (c : ChainDef). c.runnables) at ∙ ap (λ cs. (get_or cs i chain).runnables) same in
+    → (chains : List ChainDef) (i : ℕ) (chain : ChainDef) → chains ≡ model.chains → i < length chains → chain ≡ get_or chains i chain
+    → All (λ name. has_name name table.names ≡ true) chain.runnables
+steps_known_at model valid table kept chains i chain same lt at =
+    let here : chain.runnables ≡ (get_or model.chains i chain).runnables = ap (λ (c : ChainDef). c.runnables) at ∙ ap (λ cs. (get_or cs i chain).runnables) same in
     rw (here, kept.names) (steps_known model valid i chain (rw same at lt))
 
 -- the look-up of each name in the table
@@ -37,17 +37,20 @@ steps_are model table kept (name ∷ names) known =
     ap (λ s. s ∷ map (step_in table) names) (step_in_is model table name kept (known 0 name (omega arith)))
     ∙ ap (λ l. step_named model name ∷ l) (steps_are model table kept names (λ k d lt. known (suc k) d (omega arith)))
 
+-- the groups that the table gives of a chain
+pub groups_found : (model : SystemModel) (table : StepTable) → AreStepsOf model.tasks table → (chain : ChainDef) → All (λ name. has_name name table.names ≡ true) chain.runnables
+    → groups (map (step_in table) chain.runnables) ≡ groups_of model chain
+unfolding groups_of
+groups_found model table kept chain known = ap groups (steps_are model table kept chain.runnables (rw kept.names at known))
+
 -- the groups of one more chain
 pub groups_more : (model : SystemModel) → IsValid model → (table : StepTable) → AreStepsOf model.tasks table
-    → (chains : List ChainDef) (i : ℕ) (chain : ChainDef) (names : List (List ℕ)) (steps read : List Step) (made : List Group) (old new : List (List Group))
-    → chains ≡ model.chains → i < length chains → chain ≡ get_or chains i chain → names ≡ chain.runnables → steps ≡ map (step_in table) names → read ≡ steps → made ≡ groups read
+    → (chains : List ChainDef) (i : ℕ) (chain : ChainDef) (made : List Group) (old new : List (List Group))
+    → chains ≡ model.chains → i < length chains → chain ≡ get_or chains i chain → made ≡ groups (map (step_in table) chain.runnables)
     → old ≡ map (groups_of model) (take i chains) → new ≡ old ++ made ∷ [] → new ≡ map (groups_of model) (take (i + 1) chains)
-unfolding groups_of
-groups_more model valid table kept chains i chain names steps read made old new same lt at is looked reads makes so_far pushed =
-    let here : names ≡ (get_or model.chains i chain).runnables = is ∙ ap (λ (c : ChainDef). c.runnables) at ∙ ap (λ cs. (get_or cs i chain).runnables) same in
-    let known : All (λ name. has_name name (runnable_names (all_runnables model.tasks)) ≡ true) names = rw here (steps_known model valid i chain (rw same at lt)) in
+groups_more model valid table kept chains i chain made old new same lt at makes so_far pushed =
     let value : made ≡ groups_of model (get_or chains i chain)
-    = makes ∙ ap groups (reads ∙ looked ∙ steps_are model table kept names known) ∙ ap (λ ns. groups (map (step_named model) ns)) (is ∙ ap (λ (c : ChainDef). c.runnables) at) in
+    = makes ∙ groups_found model table kept chain (steps_known_at model valid table kept chains i chain same lt at) ∙ ap (groups_of model) at in
     pushed ∙ ap (λ o. o ++ made ∷ []) so_far ∙ ap (λ m. map (groups_of model) (take i chains) ++ m ∷ []) value
     ∙ sym (ap (map (groups_of model)) (take_more chains i chain lt) ∙ map-append (groups_of model) (take i chains) (get_or chains i chain ∷ []))
 

@@ -10,6 +10,7 @@ use Rattle.cl_model.specs.declared.chain.ChainDef.{ChainDef}
 use Rattle.cl_model.specs.declared.group.Step.{Step}
 use Rattle.cl_model.specs.declared.groups.StepTable.{StepTable}
 use Rattle.cl_model.specs.declared.look_ups.LookUps.{LookUps}
+use Rattle.cl_model.specs.declared.look_ups.SectionNames.{SectionNames}
 use Rattle.cl_model.specs.declared.model.CoreDef.{CoreDef}
 use Rattle.cl_model.specs.declared.model.SystemModel.{SystemModel}
 use Rattle.cl_model.specs.declared.stimulus.StimulusDef.{StimulusDef}
@@ -23,8 +24,8 @@ use Rattle.cl_model.specs.Changes.{with_task, with_runnable, with_range, with_wh
 use Rattle.cl_model.specs.Groups.{step_from, step_named, groups, groups_of, IsStepOf}
 use Rattle.cl_model.specs.Ranges.{IsTaskInRange}
 use Rattle.cl_model.specs.Named.{index_of, core_names, stimulus_names, task_names, runnable_names, all_runnables}
-use Rattle.cl_model.specs.Inner.LookUps.{AreLookUpsOf, HasItsLookUps}
-use Rattle.cl_model.specs.Inner.StepTable.{steps_in, steps_from}
+use Rattle.cl_model.specs.Inner.LookUps.{AreNamesOf, AreLookUpsOf, HasItsLookUps}
+use Rattle.cl_model.specs.Inner.StepTable.{steps_in, steps_from, AreStepsOf}
 use Rattle.cl_model.specs.Validity.{IsValid}
 use Rattle.cl_model.proofs.CoreTasks.{below_more}
 use Rattle.cl_model.proofs.ListFacts.{maps_agree}
@@ -67,6 +68,36 @@ steps_by_lists i (task ∷ tasks) =
     ap (λ steps. steps_in i (length task.runnables) ++ steps) (steps_by_lists (i + 1) tasks)
     ∙ ap (λ k. steps_in i k ++ steps_in_lists (i + 1) (map names_in tasks)) (sym (long task))
 
+-- the number of a name: 0 where there is none
+abbrev number_in : (names : List (List ℕ)) → List ℕ → ℕ
+number_in names name = unwrap_or (index_of name names) 0
+
+-- what rests on the names of the runnables of each task
+module _ (old new : SystemModel) (runnables : map names_in new.tasks ≡ map names_in old.tasks) where
+  same_names : runnable_names (all_runnables new.tasks) ≡ runnable_names (all_runnables old.tasks)
+  same_names = names_joined new.tasks ∙ ap joined runnables ∙ sym (names_joined old.tasks)
+
+  same_steps : steps_from 0 new.tasks ≡ steps_from 0 old.tasks
+  same_steps = steps_by_lists 0 new.tasks ∙ ap (steps_in_lists 0) runnables ∙ sym (steps_by_lists 0 old.tasks)
+
+  same_step : (name : List ℕ) → step_named new name ≡ step_named old name
+  same_step name =
+      ap (λ names. step_from 0 new.tasks (unwrap_or (index_of name names) 0)) same_names
+      ∙ step_by_lists 0 new.tasks (number_in (runnable_names (all_runnables old.tasks)) name)
+      ∙ ap (λ lists. step_in_lists 0 lists (number_in (runnable_names (all_runnables old.tasks)) name)) runnables
+      ∙ sym (step_by_lists 0 old.tasks (number_in (runnable_names (all_runnables old.tasks)) name))
+
+  same_groups : (chain : ChainDef) → groups_of new chain ≡ groups_of old chain
+  unfolding groups_of
+  same_groups chain = ap groups (maps_agree (step_named new) (step_named old) same_step chain.runnables)
+
+  -- the tables of steps and of groups stay
+  pub steps_stay : (table : StepTable) → AreStepsOf old.tasks table → AreStepsOf new.tasks table
+  steps_stay table are = record { names = are.names ∙ sym same_names; steps = are.steps ∙ sym same_steps }
+
+  pub groups_stay : new.chains ≡ old.chains → map (groups_of old) old.chains ≡ map (groups_of new) new.chains
+  groups_stay chains = sym (maps_agree (groups_of new) (groups_of old) same_groups new.chains ∙ ap (map (groups_of old)) chains)
+
 -- ---- a change that keeps what tasks name
 
 pub record IsNamingKept (old new : SystemModel) : Type 0 where
@@ -79,9 +110,6 @@ pub record IsNamingKept (old new : SystemModel) : Type 0 where
   pub runnables : map names_in new.tasks ≡ map names_in old.tasks
 
 module _ (old new : SystemModel) (kept : IsNamingKept old new) where
-  abbrev number_in : (names : List (List ℕ)) → List ℕ → ℕ
-  number_in names name = unwrap_or (index_of name names) 0
-
   same_cores : core_names new ≡ core_names old
   same_cores = ap (map (λ (core : CoreDef). core.name)) kept.cores
 
@@ -121,43 +149,31 @@ module _ (old new : SystemModel) (kept : IsNamingKept old new) where
       maps_agree (tasks_of_core new) (tasks_of_core old) same_tasks_of_core (range_with_len 0 (length new.cores))
       ∙ ap (λ cores. map (tasks_of_core old) (range_with_len 0 (length cores))) kept.cores
 
-  same_names : runnable_names (all_runnables new.tasks) ≡ runnable_names (all_runnables old.tasks)
-  same_names = names_joined new.tasks ∙ ap joined kept.runnables ∙ sym (names_joined old.tasks)
-
-  same_steps : steps_from 0 new.tasks ≡ steps_from 0 old.tasks
-  same_steps = steps_by_lists 0 new.tasks ∙ ap (steps_in_lists 0) kept.runnables ∙ sym (steps_by_lists 0 old.tasks)
-
-  same_step : (name : List ℕ) → step_named new name ≡ step_named old name
-  same_step name =
-      ap (λ names. step_from 0 new.tasks (unwrap_or (index_of name names) 0)) same_names
-      ∙ step_by_lists 0 new.tasks (number_in (runnable_names (all_runnables old.tasks)) name)
-      ∙ ap (λ lists. step_in_lists 0 lists (number_in (runnable_names (all_runnables old.tasks)) name)) kept.runnables
-      ∙ sym (step_by_lists 0 old.tasks (number_in (runnable_names (all_runnables old.tasks)) name))
-
-  same_groups : (chain : ChainDef) → groups_of new chain ≡ groups_of old chain
-  unfolding groups_of
-  same_groups chain = ap groups (maps_agree (step_named new) (step_named old) same_step chain.runnables)
-
-  chain_groups : map (groups_of new) new.chains ≡ map (groups_of old) old.chains
-  chain_groups = maps_agree (groups_of new) (groups_of old) same_groups new.chains ∙ ap (map (groups_of old)) kept.chains
+  -- the names of the sections stay
+  pub names_stay : (names : SectionNames) → AreNamesOf old names → AreNamesOf new names
+  names_stay names are =
+      record {
+        cores = are.cores ∙ sym same_cores;
+        stimuli = are.stimuli ∙ sym kept.stimuli;
+        tasks = are.tasks ∙ sym kept.name;
+        chains = are.chains ∙ sym (ap (map (λ (chain : ChainDef). chain.name)) kept.chains);
+      }
 
   -- what is kept beside the model stays, but for the execution times
-  pub look_ups_kept : (look_ups : LookUps) (times : List ℕ) → AreLookUpsOf old look_ups → times ≡ map greatest_time new.tasks
-      → (mended : LookUps) → mended.times.items ≡ times → mended.cores ≡ look_ups.cores → mended.stimuli ≡ look_ups.stimuli → mended.tasks ≡ look_ups.tasks → mended.chains ≡ look_ups.chains
-      → mended.on_cores ≡ look_ups.on_cores → mended.steps ≡ look_ups.steps → mended.groups ≡ look_ups.groups → AreLookUpsOf new mended
-  look_ups_kept look_ups times are is mended same_times cores stimuli tasks chains lists steps groups =
+  pub look_ups_kept : (look_ups : LookUps) → AreLookUpsOf old look_ups → (mended : LookUps) → mended.tasks.times.items ≡ map greatest_time new.tasks
+      → mended.names ≡ look_ups.names → mended.tasks.cores ≡ look_ups.tasks.cores → mended.tasks.stimuli ≡ look_ups.tasks.stimuli → mended.tasks.on_cores ≡ look_ups.tasks.on_cores
+      → mended.steps ≡ look_ups.steps → mended.groups ≡ look_ups.groups → AreLookUpsOf new mended
+  look_ups_kept look_ups are mended times names cores stimuli lists steps groups =
       record {
-        cores = ap (λ kept. kept.items) cores ∙ are.cores ∙ sym core_numbers;
-        stimuli = ap (λ kept. kept.items) stimuli ∙ are.stimuli ∙ sym stimulus_numbers;
-        tasks = tasks ∙ are.tasks ∙ sym kept.name;
-        chains = chains ∙ are.chains ∙ sym (ap (map (λ (chain : ChainDef). chain.name)) kept.chains);
-        times = same_times ∙ is;
-        on_cores = ap (λ kept. kept.items) lists ∙ are.on_cores ∙ sym on_cores;
-        steps = record {
-          names = ap (λ (table : StepTable). table.names) steps ∙ are.steps.names ∙ sym same_names;
-          steps = ap (λ (table : StepTable). table.steps.items) steps ∙ are.steps.steps ∙ sym same_steps;
+        names = subst (AreNamesOf new) (sym names) (names_stay look_ups.names are.names);
+        tasks = record {
+          cores = ap (λ kept. kept.items) cores ∙ are.tasks.cores ∙ sym core_numbers;
+          stimuli = ap (λ kept. kept.items) stimuli ∙ are.tasks.stimuli ∙ sym stimulus_numbers;
+          times = times;
+          on_cores = ap (λ kept. kept.items) lists ∙ are.tasks.on_cores ∙ sym on_cores;
         };
-        groups = ap (λ kept. kept.items) groups ∙ are.groups ∙ sym chain_groups;
+        steps = subst (AreStepsOf new.tasks) (sym steps) (steps_stay old new kept.runnables look_ups.steps are.steps);
+        groups = ap (λ kept. kept.items) groups ∙ are.groups ∙ groups_stay old new kept.runnables kept.chains;
       }
 
 -- ---- the changes that do
@@ -212,7 +228,7 @@ pub stands_beside : (old : Inside) → HasItsLookUps old → (new : SystemModel)
 stands_beside old has new kept valid same =
     record {
       valid = valid;
-      look_ups = look_ups_kept old.model new kept old.look_ups old.look_ups.times.items has.look_ups (has.look_ups.times ∙ sym same) old.look_ups refl refl refl refl refl refl refl refl;
+      look_ups = look_ups_kept old.model new kept old.look_ups has.look_ups old.look_ups (has.look_ups.tasks.times ∙ sym same) refl refl refl refl refl refl;
     }
 
 -- a runnable of another kind runs as long
@@ -272,11 +288,11 @@ kind_stands old has s kind valid = stands_beside old has (with_kind old.model s 
 
 -- other execution times, of which the greatest of the task is mended
 pub range_stands : (old : Inside) → HasItsLookUps old → (step : Step) (least greatest : ℕ) → IsValid (with_range old.model step least greatest)
-    → (mended : LookUps) → mended.times.items ≡ set old.look_ups.times.items step.task (greatest_time (task_at (with_range old.model step least greatest) step.task))
-    → step.task < length old.model.tasks → mended.cores ≡ old.look_ups.cores → mended.stimuli ≡ old.look_ups.stimuli → mended.tasks ≡ old.look_ups.tasks → mended.chains ≡ old.look_ups.chains
-    → mended.on_cores ≡ old.look_ups.on_cores → mended.steps ≡ old.look_ups.steps → mended.groups ≡ old.look_ups.groups
+    → (mended : LookUps) → mended.tasks.times.items ≡ set old.look_ups.tasks.times.items step.task (greatest_time (task_at (with_range old.model step least greatest) step.task))
+    → step.task < length old.model.tasks → mended.names ≡ old.look_ups.names → mended.tasks.cores ≡ old.look_ups.tasks.cores → mended.tasks.stimuli ≡ old.look_ups.tasks.stimuli
+    → mended.tasks.on_cores ≡ old.look_ups.tasks.on_cores → mended.steps ≡ old.look_ups.steps → mended.groups ≡ old.look_ups.groups
     → HasItsLookUps (record { model = with_range old.model step least greatest; look_ups = mended })
-range_stands old has step least greatest valid mended times within cores stimuli tasks chains lists steps groups =
+range_stands old has step least greatest valid mended times within names cores stimuli lists steps groups =
     let model = old.model in
     let task = task_at model step.task in
     let runnable : RunnableDef = record (runnable_at model step) { least = least; greatest = greatest } in
@@ -286,9 +302,10 @@ range_stands old has step least greatest valid mended times within cores stimuli
     record {
       valid = valid;
       look_ups =
-          look_ups_kept model new (runnable_keeps model step runnable refl) old.look_ups (set old.look_ups.times.items step.task (greatest_time changed)) has.look_ups
-          (times_mended model step.task changed old.look_ups.times.items has.look_ups.times) mended
-          (times ∙ ap (λ t. set old.look_ups.times.items step.task (greatest_time t)) here) cores stimuli tasks chains lists steps groups;
+          look_ups_kept model new (runnable_keeps model step runnable refl) old.look_ups has.look_ups mended
+          (times ∙ ap (λ t. set old.look_ups.tasks.times.items step.task (greatest_time t)) here
+          ∙ times_mended model step.task changed old.look_ups.tasks.times.items has.look_ups.tasks.times)
+          names cores stimuli lists steps groups;
     }
 
 -- the task whose runnable has other execution times

@@ -21,3 +21,9 @@ pub mod DocumentTexts
 pub mod ValidTasks
 pub mod CoreTasks
 pub mod KeptLookUps
+pub mod ChangedChains
+pub mod MovedTasks
+pub mod AddedTasks
+pub mod NumberFacts
+pub mod Removals
+pub mod DroppedTasks

@@ -49,6 +49,13 @@ chain_at model chain = slice_index_or model.chains chain no_chain
 abbrev pub core_at : SystemModel → (core : ℕ) → CoreDef
 core_at model core = slice_index_or model.cores core no_core
 
+-- the number of the core, the stimulus of that name
+abbrev pub core_named : SystemModel → List ℕ → Option ℕ
+core_named model name = index_of name (core_names model)
+
+abbrev pub stimulus_named : SystemModel → List ℕ → Option ℕ
+stimulus_named model name = index_of name (stimulus_names model)
+
 -- the number of the core that a task names
 abbrev pub core_number : SystemModel → TaskDef → ℕ
 core_number model task = unwrap_or (index_of task.core (core_names model)) 0

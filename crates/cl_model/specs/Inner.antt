@@ -1,3 +1,4 @@
 -- What only private clauses cite: a reader of the public contracts needs none of it.
+pub mod TaskNumbers
 pub mod StepTable
 pub mod LookUps

@@ -2,12 +2,14 @@
 ghost use Rattle.std.specs.Prelude.{◌≡◌, ◌<◌, ◌^◌, true, [], ◌++◌, map, length, IfOk, OnOk, All};
 ghost use Rattle.cl_model.specs.Groups.{groups, groups_of};
 ghost use Rattle.cl_model.specs.Named.{has_name, runnable_names, all_runnables};
+ghost use Rattle.cl_model.specs.NameSets.{AreNew};
 ghost use Rattle.cl_model.specs.Ranges.{IsTaskInRange};
 ghost use Rattle.cl_model.specs.Refusals.{each};
-ghost use Rattle.cl_model.specs.Inner.StepTable.{steps_in, steps_from, step_in, AreStepsOf};
+ghost use Rattle.cl_model.specs.Inner.StepTable.{steps_in, steps_from, step_in, AreStepsOf, StepsAdded, HasSteps, StepsDropped};
 ghost use Rattle.cl_model.specs.ValidNames.{runnable_repeats};
 ghost use Rattle.cl_model.specs.Validity.{IsValid};
 
+use crate::chain::ChainDef;
 use crate::entries::add_names;
 use crate::group::{Group, Step};
 use crate::list::List;
@@ -15,6 +17,7 @@ use crate::model::SystemModel;
 use crate::name::Name;
 use crate::name_set::NameSet;
 use crate::task::TaskDef;
+use crate::task_numbers::renumber_steps;
 use cl_time::NoMemory;
 use std::alloc::Global;
 
@@ -69,6 +72,29 @@ pub fn step_table(alloc: Global, model: &SystemModel) -> Result<StepTable, NoMem
     })
 }
 
+impl StepTable {
+    /// Adds the runnables of a task of this number behind the others, whose names are new.
+    pub fn add_task(&mut self, number: u32, task: &TaskDef) -> Result<(), NoMemory>
+        requires in_range { IsTaskInRange task.now }
+        requires new { AreNew self.old.names (runnable_names task.now.runnables) }
+        ensures { OnOk result (StepsAdded number task.now self.old self.new) }
+    {
+        add_names(&mut self.names, task.runnables.as_slice())?;
+        push_steps(&mut self.steps, number, task.runnables.len() as u32)
+    }
+
+    /// Takes the runnables from number `first` to before `last` out, which are all those of a task. The tasks behind it
+    /// move up.
+    pub fn drop_task(&mut self, task: u32, first: usize, last: usize)
+        requires { HasSteps self.old first last }
+        ensures { StepsDropped task first last self.old self.new }
+    {
+        self.names.remove_range(first, last);
+        self.steps.drain(first..last);
+        renumber_steps(&mut self.steps, task);
+    }
+}
+
 fn steps_named(alloc: Global, table: &StepTable, names: &[Name]) -> Result<Vec<Step>, NoMemory>
     requires known { All (λ name. has_name name table.now.names ≡ true) names.now }
     requires paired { length table.now.steps.items ≡ length table.now.names }
@@ -105,6 +131,20 @@ pub fn groups(alloc: Global, steps: &[Step]) -> Result<List<Group>, NoMemory>
     Ok(groups)
 }
 
+/// The groups of a chain whose runnables are known.
+pub fn groups_of_chain(
+    alloc: Global,
+    table: &StepTable,
+    chain: &ChainDef,
+) -> Result<List<Group>, NoMemory>
+    requires known { All (λ name. has_name name table.now.names ≡ true) chain.now.runnables }
+    requires paired { length table.now.steps.items ≡ length table.now.names }
+    ensures { IfOk result (λ list. list ≡ groups (map (step_in table.now) chain.now.runnables)) }
+{
+    let steps = steps_named(alloc, table, chain.runnables.as_slice())?;
+    groups(alloc, steps.as_slice())
+}
+
 /// The groups of each chain, in time linear in the size of the model.
 pub fn groups_of_chains(
     alloc: Global,
@@ -117,8 +157,7 @@ pub fn groups_of_chains(
 {
     let mut all = Vec::new(alloc);
     for chain in model.chains.as_slice() {
-        let steps = steps_named(alloc, table, chain.runnables.as_slice())?;
-        all.push(groups(alloc, steps.as_slice())?)?;
+        all.push(groups_of_chain(alloc, table, chain)?)?;
     }
     Ok(all)
 }

@@ -19,6 +19,7 @@ mod place;
 mod refusal;
 mod stimulus;
 mod task;
+mod task_numbers;
 mod valid_model;
 
 pub use chain::{ChainDef, LengthKind, RequirementDef};

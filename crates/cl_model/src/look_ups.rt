@@ -1,11 +1,13 @@
 //! What is kept beside a valid model, so that it answers in constant time.
 ghost use Rattle.std.specs.Prelude.{◌≡◌, ◌<◌, ◌^◌, [], ◌∷◌, ◌++◌, length, map, replicate, slice_index_or, slice_set, IfOk, OnOk, All};
 ghost use Rattle.std.specs.List.{range_with_len};
-ghost use Rattle.cl_model.specs.Named.{stimulus_names, kind_named};
+ghost use Rattle.cl_model.specs.Named.{core_names, stimulus_names, kind_named};
 ghost use Rattle.cl_model.specs.ByNumber.{core_number, stimulus_number, greatest_time, tasks_of_core};
 ghost use Rattle.cl_model.specs.Ranges.{IsTaskInRange};
-ghost use Rattle.cl_model.specs.Inner.LookUps.{AreLookUpsOf};
+ghost use Rattle.cl_model.specs.Inner.LookUps.{AreNamesOf, AreTaskTablesOf, AreLookUpsOf};
 ghost use Rattle.cl_model.specs.Validity.{IsValid};
+
+mod changes;
 
 use crate::entries::name_numbers;
 use crate::group::Group;
@@ -29,11 +31,11 @@ pub fn kind_named(model: &SystemModel, stimuli: &NameSet, name: &Name) -> Option
     Some(stimulus.kind)
 }
 
-fn core_numbers(alloc: Global, model: &SystemModel) -> Result<Vec<u32>, NoMemory>
-    requires { IsValid model.now }
+fn core_numbers(alloc: Global, model: &SystemModel, cores: &NameSet) -> Result<Vec<u32>, NoMemory>
+    requires valid { IsValid model.now }
+    requires cores { cores.now ≡ core_names model.now }
     ensures { IfOk result (λ numbers. numbers.items ≡ map (core_number model.now) model.now.tasks) }
 {
-    let cores = name_numbers(alloc, model.cores.as_slice())?;
     let mut numbers = Vec::new(alloc);
     for task in model.tasks.as_slice() {
         let Some(number) = cores.number_of(&task.core) else {
@@ -44,11 +46,15 @@ fn core_numbers(alloc: Global, model: &SystemModel) -> Result<Vec<u32>, NoMemory
     Ok(numbers)
 }
 
-fn stimulus_numbers(alloc: Global, model: &SystemModel) -> Result<Vec<u32>, NoMemory>
-    requires { IsValid model.now }
+fn stimulus_numbers(
+    alloc: Global,
+    model: &SystemModel,
+    stimuli: &NameSet,
+) -> Result<Vec<u32>, NoMemory>
+    requires valid { IsValid model.now }
+    requires stimuli { stimuli.now ≡ stimulus_names model.now }
     ensures { IfOk result (λ numbers. numbers.items ≡ map (λ task. stimulus_number model.now task.stimulus) model.now.tasks) }
 {
-    let stimuli = name_numbers(alloc, model.stimuli.as_slice())?;
     let mut numbers = Vec::new(alloc);
     for task in model.tasks.as_slice() {
         let Some(number) = stimuli.number_of(&task.stimulus) else {
@@ -114,21 +120,64 @@ fn tasks_of_cores(
     Ok(lists)
 }
 
-/// What is kept beside a model.
+/// The names of the entries of the sections, numbered as the entries.
 #[derive(Drop)]
-pub struct LookUps {
+pub struct SectionNames {
+    pub cores: NameSet,
+    pub stimuli: NameSet,
+    pub tasks: NameSet,
+    pub chains: NameSet,
+}
+
+fn section_names(alloc: Global, model: &SystemModel) -> Result<SectionNames, NoMemory>
+    requires { IsValid model.now }
+    ensures { IfOk result (AreNamesOf model.now) }
+{
+    Ok(SectionNames {
+        cores: name_numbers(alloc, model.cores.as_slice())?,
+        stimuli: name_numbers(alloc, model.stimuli.as_slice())?,
+        tasks: name_numbers(alloc, model.tasks.as_slice())?,
+        chains: name_numbers(alloc, model.chains.as_slice())?,
+    })
+}
+
+/// What is kept of each task, and of each core.
+#[derive(Drop)]
+pub struct TaskTables {
     /// The number of the core of each task.
     pub cores: Vec<u32>,
     /// The number of the stimulus of each task.
     pub stimuli: Vec<u32>,
-    /// The names of the tasks.
-    pub tasks: NameSet,
-    /// The names of the chains.
-    pub chains: NameSet,
     /// The greatest execution time of a job of each task.
     pub times: Vec<u64>,
     /// The numbers of the tasks of each core.
     pub on_cores: Vec<List<u32>>,
+}
+
+fn task_tables(
+    alloc: Global,
+    model: &SystemModel,
+    names: &SectionNames,
+) -> Result<TaskTables, NoMemory>
+    requires valid { IsValid model.now }
+    requires names { AreNamesOf model.now names.now }
+    ensures { IfOk result (AreTaskTablesOf model.now) }
+{
+    let cores = core_numbers(alloc, model, &names.cores)?;
+    let on_cores = tasks_of_cores(alloc, model, cores.as_slice())?;
+    Ok(TaskTables {
+        cores,
+        stimuli: stimulus_numbers(alloc, model, &names.stimuli)?,
+        times: greatest_times(alloc, model.tasks.as_slice())?,
+        on_cores,
+    })
+}
+
+/// What is kept beside a model.
+#[derive(Drop)]
+pub struct LookUps {
+    pub names: SectionNames,
+    pub tasks: TaskTables,
     /// The runnables by name.
     pub steps: StepTable,
     /// The groups of each chain.
@@ -140,18 +189,13 @@ pub fn look_ups_of(alloc: Global, model: &SystemModel) -> Result<LookUps, NoMemo
     requires { IsValid model.now }
     ensures { IfOk result (AreLookUpsOf model.now) }
 {
-    let tasks = model.tasks.as_slice();
-    let cores = core_numbers(alloc, model)?;
-    let on_cores = tasks_of_cores(alloc, model, cores.as_slice())?;
+    let names = section_names(alloc, model)?;
+    let tasks = task_tables(alloc, model, &names)?;
     let steps = step_table(alloc, model)?;
     let groups = groups_of_chains(alloc, model, &steps)?;
     Ok(LookUps {
-        cores,
-        stimuli: stimulus_numbers(alloc, model)?,
-        tasks: name_numbers(alloc, tasks)?,
-        chains: name_numbers(alloc, model.chains.as_slice())?,
-        times: greatest_times(alloc, tasks)?,
-        on_cores,
+        names,
+        tasks,
         steps,
         groups,
     })

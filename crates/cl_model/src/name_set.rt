@@ -1,5 +1,6 @@
 //! Names that are numbered and found by their bytes.
-ghost use Rattle.std.specs.Prelude.{◌≡◌, ◌<◌, [], ◌∷◌, ◌++◌, not, length, IfOk, OnOk, OnErr, IfSome, is_some};
+ghost use Rattle.std.specs.Prelude.{◌≡◌, ◌<◌, ◌≤◌, [], ◌∷◌, ◌++◌, not, remove, length, IfOk, OnOk, OnErr, IfSome, is_some};
+ghost use Rattle.std.specs.List.{remove_range};
 ghost use Rattle.cl_model.specs.Named.{has_name, index_of};
 ghost use Rattle.cl_model.specs.NameSets.{names_with};
 
@@ -47,6 +48,22 @@ impl NameSet {
         ensures err { OnErr result (self.new ≡ self.old) }
     {
         Ok(self.names.insert(name.copy())?)
+    }
+
+    /// Takes the name of a number out. The others keep their order. A number past the last one takes out none.
+    pub fn remove(&mut self, number: usize)
+        ensures { self.new ≡ remove self.old number }
+    {
+        let _removed = self.names.shift_remove_index(number);
+    }
+
+    /// Takes the names from the number `first` to before `last` out. The others keep their order.
+    pub fn remove_range(&mut self, first: usize, last: usize)
+        requires ordered { first ≤ last }
+        requires within { last ≤ length self.old }
+        ensures { self.new ≡ remove_range self.old first last }
+    {
+        self.names.drain(first..last);
     }
 
     /// Whether a name is there.

@@ -2,12 +2,14 @@
 ghost use Rattle.std.specs.Prelude.{◌≡◌, ◌<◌, ◌≤◌, length, slice_index_or, IfOk, IfErr, IfSome, is_some, All};
 ghost use Rattle.cl_model.specs.declared.limits.TheConstants.{MOST_STEPS};
 ghost use Rattle.cl_model.specs.Groups.{no_group, step_named, groups_at, IsStepOf, IsGroupOf};
-ghost use Rattle.cl_model.specs.ByNumber.{task_at, chain_at, core_at, core_of, stimulus_of, deadline_of, jitter_of, time_of, tasks_of_core, task_named, chain_named};
+ghost use Rattle.cl_model.specs.ByNumber.{task_at, chain_at, core_at, core_of, stimulus_of, deadline_of, jitter_of, time_of, tasks_of_core, core_named, stimulus_named, task_named, chain_named};
 ghost use Rattle.cl_model.specs.Changes.{stimulus_at};
 ghost use Rattle.cl_model.specs.Named.{has_name, runnable_names, all_runnables};
 ghost use Rattle.cl_model.specs.Validity.{IsValid};
 
+mod chains;
 mod changes;
+mod tasks;
 
 use crate::chain::ChainDef;
 use crate::group::{Group, Step};
@@ -59,14 +61,6 @@ impl ValidModel {
         ensures valid { IsValid self.now }
     {
         &self.model
-    }
-
-    /// The model itself, without what is kept beside it.
-    pub fn into_plain(self) -> SystemModel
-        ensures plain { result ≡ self }
-        ensures valid { IsValid self }
-    {
-        self.model
     }
 
     /// The number of tasks.
@@ -126,7 +120,7 @@ impl ValidModel {
         ensures core { result ≡ core_of self.now task }
         ensures within { result < length self.now.cores }
     {
-        self.look_ups.cores[task as usize]
+        self.look_ups.tasks.cores[task as usize]
     }
 
     /// The number of the stimulus of a task.
@@ -135,7 +129,7 @@ impl ValidModel {
         ensures within { result < length self.now.stimuli }
         ensures kind { stimulus_of self.now task ≡ (stimulus_at self.now result).kind }
     {
-        self.look_ups.stimuli[task as usize]
+        self.look_ups.tasks.stimuli[task as usize]
     }
 
     /// The kind of the stimulus of a task.
@@ -168,7 +162,7 @@ impl ValidModel {
         requires { task < length self.now.tasks }
         ensures { result ≡ time_of self.now task }
     {
-        self.look_ups.times[task as usize]
+        self.look_ups.tasks.times[task as usize]
     }
 
     /// The numbers of the tasks of a core, in file order.
@@ -177,7 +171,7 @@ impl ValidModel {
         ensures tasks { result.now ≡ tasks_of_core self.now core }
         ensures within { All (λ task. task < length self.now.tasks) result.now }
     {
-        self.look_ups.on_cores[core as usize].as_slice()
+        self.look_ups.tasks.on_cores[core as usize].as_slice()
     }
 
     /// How many groups the steps of a chain make: one or more.
@@ -210,12 +204,30 @@ impl ValidModel {
         self.look_ups.groups[chain as usize].as_slice()
     }
 
+    /// The number of the core of that name. There is none exactly where no core has it.
+    pub fn core_named(&self, name: &Name) -> Option<u32>
+        ensures number { result ≡ core_named self.now name.now }
+        ensures within { IfSome result (λ core. core < length self.now.cores) }
+    {
+        let number = self.look_ups.names.cores.number_of(name)?;
+        Some(number as u32)
+    }
+
+    /// The number of the stimulus of that name. There is none exactly where no stimulus has it.
+    pub fn stimulus_named(&self, name: &Name) -> Option<u32>
+        ensures number { result ≡ stimulus_named self.now name.now }
+        ensures within { IfSome result (λ stimulus. stimulus < length self.now.stimuli) }
+    {
+        let number = self.look_ups.names.stimuli.number_of(name)?;
+        Some(number as u32)
+    }
+
     /// The number of the task of that name. There is none exactly where no task has it.
     pub fn task_named(&self, name: &Name) -> Option<u32>
         ensures number { result ≡ task_named self.now name.now }
         ensures within { IfSome result (λ task. task < length self.now.tasks) }
     {
-        let number = self.look_ups.tasks.number_of(name)?;
+        let number = self.look_ups.names.tasks.number_of(name)?;
         Some(number as u32)
     }
 
@@ -224,7 +236,7 @@ impl ValidModel {
         ensures number { result ≡ chain_named self.now name.now }
         ensures within { IfSome result (λ chain. chain < length self.now.chains) }
     {
-        let number = self.look_ups.chains.number_of(name)?;
+        let number = self.look_ups.names.chains.number_of(name)?;
         Some(number as u32)
     }
 

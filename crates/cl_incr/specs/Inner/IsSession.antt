@@ -1,9 +1,12 @@
 -- What a session keeps beside its model and its findings.
-use Rattle.std.specs.Prelude.{◌≡◌, IfSome}
+use Rattle.std.specs.Prelude.{IfSome}
 use Rattle.cl_analyse.specs.Findings.{AreFindings}
 use Rattle.cl_incr.specs.declared.session.Session.TheInside.{Inside}
+use Rattle.cl_incr.specs.Inner.IsTwin.{IsTwinOf}
+use Rattle.cl_incr.specs.Inner.Passes.{ArePassesOf}
 
--- the findings are those of the model, and what stands beside it is the same model
+-- the findings are those of the model, its twin holds the same, and the chains that pass each task are its own
 pub record IsSession (session : Inside) : Type 0 where
   pub found : AreFindings session.model session.findings
-  pub spare : IfSome session.spare (λ model. model ≡ session.model)
+  pub twin : IfSome session.twin (IsTwinOf session.model session.findings.tasks)
+  pub passing : IfSome session.passing (ArePassesOf session.model)

@@ -1,12 +1,13 @@
 -- The steps of all runnables of a model, in order, and the look-up of a step by its name in the table that is built of
 -- them.
-use Rattle.std.specs.Prelude.{◌≡◌, ℕ, ◌+◌, List, [], ◌∷◌, ◌++◌, length, map, slice_index_or, unwrap_or}
-use Rattle.std.specs.List.{range_with_len}
+use Rattle.std.specs.Prelude.{◌≡◌, ℕ, ◌+◌, ◌≤◌, List, [], ◌∷◌, ◌++◌, length, map, slice_index_or, unwrap_or}
+use Rattle.std.specs.List.{range_with_len, remove_range}
 use Rattle.cl_model.specs.declared.group.Step.{Step}
 use Rattle.cl_model.specs.declared.groups.StepTable.{StepTable}
 use Rattle.cl_model.specs.declared.task.TaskDef.{TaskDef}
 use Rattle.cl_model.specs.Groups.{no_step}
 use Rattle.cl_model.specs.Named.{index_of, runnable_names, all_runnables}
+use Rattle.cl_model.specs.Inner.TaskNumbers.{step_without}
 
 -- the steps of the runnables of one task, which are so many
 abbrev pub steps_in : (task count : ℕ) → List Step
@@ -25,3 +26,19 @@ step_in table name = slice_index_or table.steps.items (unwrap_or (index_of name 
 pub record AreStepsOf (tasks : List TaskDef) (table : StepTable) : Type 0 where
   pub names : table.names ≡ runnable_names (all_runnables tasks)
   pub steps : table.steps.items ≡ steps_from 0 tasks
+
+-- the table with the runnables of a task of that number behind the others
+pub record StepsAdded (number : ℕ) (task : TaskDef) (old new : StepTable) : Type 0 where
+  pub names : new.names ≡ old.names ++ runnable_names task.runnables
+  pub steps : new.steps.items ≡ old.steps.items ++ steps_in number (length task.runnables)
+
+-- the table has the runnables from number first up to number last
+pub record HasSteps (table : StepTable) (first last : ℕ) : Type 0 where
+  pub ordered : first ≤ last
+  pub names : last ≤ length table.names
+  pub steps : last ≤ length table.steps.items
+
+-- the table without them, which are all runnables of task t
+pub record StepsDropped (t first last : ℕ) (old new : StepTable) : Type 0 where
+  pub names : new.names ≡ remove_range old.names first last
+  pub steps : new.steps.items ≡ map (step_without t) (remove_range old.steps.items first last)

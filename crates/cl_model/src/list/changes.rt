@@ -1,8 +1,9 @@
 //! Changes of a list in place.
-ghost use Rattle.std.specs.Prelude.{◌≡◌, ◌<◌, length, slice_index_or, remove, Some, slice_get};
+ghost use Rattle.std.specs.Prelude.{◌≡◌, ◌<◌, ◌≤◌, length, remove, insert, Some, slice_get, OnOk, OnErr};
 ghost use Rattle.std.specs.Borrow.{sem};
 
 use crate::list::List;
+use cl_time::NoMemory;
 
 impl<T> List<T> {
     ghost use Rattle.cl_model.specs.ListLends.{lends_item};
@@ -23,5 +24,18 @@ impl<T> List<T> {
         ensures others { self.new ≡ remove self.old place }
     {
         self.items.remove(place)
+    }
+}
+
+impl<T: Drop> List<T> {
+    /// Puts an item at a place, counted from 0, before those from there on. Where there is no memory for it, the list
+    /// stays as it was and the item is dropped.
+    pub fn insert(&mut self, place: usize, item: T) -> Result<(), NoMemory>
+        requires { place ≤ length self.old }
+        ensures ok { OnOk result (self.new ≡ insert self.old place item) }
+        ensures err { OnErr result (self.new ≡ self.old) }
+    {
+        self.items.insert(place, item)?;
+        Ok(())
     }
 }

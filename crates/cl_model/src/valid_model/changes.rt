@@ -21,7 +21,7 @@ impl ValidModel {
         let mut look_ups = self.look_ups;
         let task = step.task as usize;
         model.set_range(step, least, greatest);
-        look_ups.times[task] = greatest_time(&model.tasks.as_slice()[task]);
+        look_ups.tasks.times[task] = greatest_time(&model.tasks.as_slice()[task]);
         ValidModel { model, look_ups }
     }
 

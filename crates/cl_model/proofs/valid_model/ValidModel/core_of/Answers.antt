@@ -5,8 +5,8 @@ use Rattle.cl_model.proofs.valid_model.ValidModel.core_of.Goals as goal
 
 pub returns-clause-core : goal.returns-clause-core
 returns-clause-core c =
-    rw (← c.self.view_is) (mapped_at (core_number c.self.inside.model) c.self.inside.model.tasks no_task c.self.inside.look_ups.cores.items c.args.task c.index.result.now
-    c.self.invariant.look_ups.cores (rw (← c.self.view_is) at c.requires) c.index.ensures)
+    rw (← c.self.view_is) (mapped_at (core_number c.self.inside.model) c.self.inside.model.tasks no_task c.self.inside.look_ups.tasks.cores.items c.args.task c.index.result.now
+    c.self.invariant.look_ups.tasks.cores (rw (← c.self.view_is) at c.requires) c.index.ensures)
 
 pub returns-clause-within : goal.returns-clause-within
 returns-clause-within c =

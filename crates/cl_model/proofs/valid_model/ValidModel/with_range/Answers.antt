@@ -17,4 +17,4 @@ invariant_of-result c =
     let known = rw (← c.self.view_is) at c.requires.step.known in
     let here = changed_task c.self.inside.model c.args.step c.args.least c.args.greatest c.set_range.new.self c.as_slice.result.now c.index-as_slice-task.result
     valid known c.set_range.ensures c.as_slice.ensures c.index-as_slice-task.is in
-    rw (c.set_range.ensures, c.greatest_time.ensures, here.0) (range_stands c.self.inside c.self.invariant c.args.step c.args.least c.args.greatest valid _ refl known refl refl refl refl refl refl refl)
+    rw (c.set_range.ensures, c.greatest_time.ensures, here.0) (range_stands c.self.inside c.self.invariant c.args.step c.args.least c.args.greatest valid _ refl known refl refl refl refl refl refl)

@@ -10,3 +10,11 @@ pub edit_valid-requires : goal.edit_valid-requires
 edit_valid-requires c =
     next_in_range c.in-Some.edit c.args.lines.now c.next.new.self c.requires
     (subst (λ (next : Option Edit). GivesNext next c.args.lines.now c.next.new.self) c.in-Some.is c.in_ok-edit.ensures.next)
+
+-- it is the next one, and this is what it makes of the model
+pub returns-in_ok-edit_valid-in-Some-clause-made : goal.returns-in_ok-edit_valid-in-Some-clause-made
+returns-in_ok-edit_valid-in-Some-clause-made c = (
+  c.in-Some.edit,
+  subst (λ (next : Option Edit). GivesNext next c.args.lines.now c.next.new.self) c.in-Some.is c.in_ok-edit.ensures.next,
+  c.in_ok-edit_valid-in-Some.ensures,
+)

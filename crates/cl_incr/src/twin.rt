@@ -1,0 +1,94 @@
+//! A model once more, with the answers for its tasks, for the next edit to change. Times are in ticks.
+ghost use Rattle.std.specs.Prelude.{◌≡◌, ℕ, ◌<◌, ◌⊎◌, length, IfOk, IfSome, Ok, All, Contains};
+ghost use Rattle.cl_bound.specs.Answers.{answer_at};
+ghost use Rattle.cl_edit.specs.Edited.{with_edit, edited};
+ghost use Rattle.cl_edit.specs.Ranges.{IsEditInRange};
+ghost use Rattle.cl_incr.specs.Inner.IsTwin.{IsTwinOf, IsEditedTwin};
+
+use cl_bound::TaskAnswer;
+use cl_edit::{Edit, change_valid};
+use cl_model::{List, ValidModel};
+use cl_time::NoMemory;
+use std::alloc::Global;
+
+/// A model once more, with the answers for its tasks.
+#[derive(Drop)]
+pub(crate) struct Twin {
+    pub(crate) model: ValidModel,
+    pub(crate) tasks: List<TaskAnswer>,
+}
+
+/// The same answers once more.
+fn copy_answers(alloc: Global, answers: &List<TaskAnswer>) -> Result<List<TaskAnswer>, NoMemory>
+    ensures { IfOk result (λ copy. copy ≡ answers.now) }
+{
+    let mut copy = List::new(alloc);
+    for answer in answers.as_slice() {
+        copy.push(*answer)?;
+    }
+    Ok(copy)
+}
+
+/// A model and the answers for its tasks once more.
+pub(crate) fn twin_of(
+    alloc: Global,
+    model: &ValidModel,
+    answers: &List<TaskAnswer>,
+) -> Result<Twin, NoMemory>
+    ensures { IfOk result (IsTwinOf model.now answers.now) }
+{
+    let model = model.copy(alloc)?;
+    let tasks = copy_answers(alloc, answers)?;
+    Ok(Twin { model, tasks })
+}
+
+/// The twin of an edited model, made anew from the model before, where there is memory for it.
+pub(crate) fn twin_after(
+    alloc: Global,
+    old: ValidModel,
+    edit: &Edit,
+    answers: &List<TaskAnswer>,
+) -> Option<Twin>
+    requires in_range { IsEditInRange edit.now }
+    requires passes { edited old edit.now ≡ Ok (with_edit old edit.now) }
+    ensures { IfSome result (IsEditedTwin old edit.now answers.now) }
+{
+    let model = change_valid(alloc, old, edit).ok()?;
+    let tasks = copy_answers(alloc, answers).ok()?;
+    Some(Twin { model, tasks })
+}
+
+/// Brings answers up to these ones, where those for other tasks than these are the same already.
+fn catch_up(answers: &mut List<TaskAnswer>, tasks: &[u32], new: &List<TaskAnswer>)
+    requires count { length answers.old ≡ length new.now }
+    requires below { All (λ task. task < length new.now) tasks.now }
+    requires others { (task : ℕ) → task < length new.now → (answer_at answers.old task ≡ answer_at new.now task) ⊎ Contains tasks.now task }
+    ensures { answers.new ≡ new.now }
+{
+    for task in tasks {
+        let place = *task as usize;
+        *answers.item_mut(place) = new.as_slice()[place];
+    }
+}
+
+/// The twin of an edited model: the model before, which is edited too where there is memory for that, and the answers
+/// for its tasks, brought up to the new ones.
+pub(crate) fn caught_up(
+    alloc: Global,
+    old: ValidModel,
+    edit: &Edit,
+    mut tasks: List<TaskAnswer>,
+    asked: &[u32],
+    answers: &List<TaskAnswer>,
+) -> Option<Twin>
+    requires in_range { IsEditInRange edit.now }
+    requires passes { edited old edit.now ≡ Ok (with_edit old edit.now) }
+    requires count { length tasks ≡ length answers.now }
+    requires below { All (λ task. task < length answers.now) asked.now }
+    requires others { (task : ℕ) → task < length answers.now → (answer_at tasks task ≡ answer_at answers.now task) ⊎ Contains asked.now task }
+    ensures { IfSome result (IsEditedTwin old edit.now answers.now) }
+{
+    catch_up(&mut tasks, asked, answers);
+    let model = change_valid(alloc, old, edit).ok()?;
+    Some(Twin { model, tasks })
+}

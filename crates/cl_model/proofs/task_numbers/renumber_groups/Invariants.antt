@@ -1,0 +1,7 @@
+use Rattle.std.proofs.Common.{◌≡◌, ◌++◌, take, drop, map}
+use Rattle.cl_model.specs.Inner.TaskNumbers.{group_without}
+use Rattle.cl_model.proofs.task_numbers.renumber_groups.Given as goal
+
+-- those so far have their new numbers
+abbrev pub invariant-loop-place : goal.invariant-loop-place
+invariant-loop-place l = l.groups ≡ map (group_without l.gone) (take l.place l.fn.groups) ++ drop l.place l.fn.groups
