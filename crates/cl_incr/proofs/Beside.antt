@@ -2,7 +2,7 @@
 -- leaves the others what was found of them.
 use Rattle.std.proofs.Common.{◌≡◌, ◌≢◌, ℕ, zero, suc, ◌+◌, ◌<◌, ◌≤◌, inl, inr, Bool, false, cond, ◌==◌, nat_lt, List, [], ◌∷◌, ◌++◌, length, get_or, append-nil, refl, sym, ap, ◌∙◌, subst, arith, Ok}
 use Rattle.std.specs.Prelude.{map, filter, remove, All, Option, Some, None, IfSome, unwrap_or}
-use Rattle.std.proofs.lemmas.Bool.{cases_lt, lt-ltb, le-ltb, ne_eqb}
+use Rattle.std.proofs.lemmas.Bool.{cases_lt, ne_eqb}
 use Rattle.std.proofs.lemmas.List.{map-append, get_or_append_left, get_or_push, length_push}
 use Rattle.std.proofs.lemmas.List.Edits.{length-remove, get_or-remove_below, get_or-remove_above}
 use Rattle.std.proofs.lemmas.List.Elements.{filter-append}
@@ -34,15 +34,8 @@ use Rattle.cl_incr.specs.Touched.{StandsAsBefore}
 use Rattle.cl_incr.proofs.SameCores.{on_core, same_question}
 use Rattle.cl_incr.proofs.KeptAnswers.{answer_count, kept_answer, found_before}
 use Rattle.cl_incr.proofs.Mended.{core_is}
+use Rattle.cl_incr.proofs.MovedChains.{before_below, before_above}
 use Rattle.cl_incr.proofs.SameChains.{chain_answer_same, exact_answer_same}
-
--- ---- numbers
-
-before_below : (gone number : ℕ) → number < gone → number_before gone number ≡ number
-before_below gone number below = ap (λ (b : Bool). cond b number (number + 1)) (lt-ltb number gone below)
-
-before_above : (gone number : ℕ) → gone ≤ number → number_before gone number ≡ number + 1
-before_above gone number above = ap (λ (b : Bool). cond b number (number + 1)) (le-ltb _ _ above)
 
 -- ---- lists with one item more or less
 
@@ -90,6 +83,7 @@ module _ (old new : SystemModel) (core gone : ℕ)
       let apart : core ≢ before.core = λ is. off (sym on ∙ sym is) in
       record {
         within = within;
+        timing = timing;
         same = same_question (system_of old) (system_of new) before (others before.core apart) ∙ ap (question_of (system_of new)) timing;
       }
 

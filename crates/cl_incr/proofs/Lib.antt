@@ -22,4 +22,5 @@ pub mod EditTouches
 pub mod Mended
 pub mod CheckedEdits
 pub mod ChainEdits
+pub mod MovedChains
 pub mod Beside

@@ -40,7 +40,7 @@ find_same p q (x ∷ xs) each =
 
 -- ---- groups and hops
 
-abbrev asked_by : Group → Timing → TaskAnswer → GroupQuestion
+abbrev pub asked_by : Group → Timing → TaskAnswer → GroupQuestion
 asked_by group timing answer = record {
   pattern = timing.pattern;
   deadline = timing.deadline;
@@ -50,7 +50,7 @@ asked_by group timing answer = record {
   response = response_in answer;
 }
 
-abbrev saves_by : (writer reader : Timing) → Bool
+abbrev pub saves_by : (writer reader : Timing) → Bool
 saves_by writer reader =
     (writer.core == reader.core) && (nat_lt reader.priority writer.priority && (not (is_timed writer.access) && not (is_timed reader.access)))
 

@@ -8,10 +8,11 @@ ghost use Rattle.cl_analyse.specs.Findings.{AreFindings};
 ghost use Rattle.cl_incr.specs.Changed.{IsChangedChain};
 ghost use Rattle.cl_incr.specs.Inner.Kept.{AreFoundOf, IsKeptChain};
 ghost use Rattle.cl_incr.specs.Inner.Asked.{AsksOne, AsksChains};
-ghost use Rattle.cl_incr.specs.Inner.Stays.{ChainsStay};
+ghost use Rattle.cl_incr.specs.Inner.Stays.{StayOffCore, ChainsStay};
 
 use crate::comparing::ask_the_same;
-use crate::stays::number_before;
+use crate::off_core::findings_off_core;
+use crate::stays::{Site, number_before};
 use cl_analyse::{ChainAnswer, ExactAnswer, Findings, answer_chain, answer_exact};
 use cl_bound::TaskAnswer;
 use cl_model::{List, ValidModel};
@@ -106,24 +107,29 @@ fn findings_before(
 }
 
 /// What is found of a chain of the new model. Up to two steps are counted where its question is changed; it isn't even
-/// compared where another chain is added or dropped.
+/// compared where another chain is added or dropped, or a task of a core that it doesn't pass.
 fn find_beside<L: Ledger>(
     old: &ValidModel,
     findings: &Findings,
     new: &ValidModel,
     tasks: &List<TaskAnswer>,
+    site: Option<Site>,
     gone: Option<u32>,
     chain: u32,
     steps: &mut Steps<L>,
 ) -> ChainFindings
     requires findings { AreFindings old.now findings.now }
     requires tasks { tasks.now ≡ answers_of (system_of new.now) }
+    requires site { IfSome site (λ site. StayOffCore site.core site.gone old.now new.now) }
     requires gone { IfSome gone (λ gone. ChainsStay gone old.now new.now) }
     requires chain { chain < length new.now.chains }
     ensures found { AreFoundOf new.now chain result }
     ensures steps { AsksOne (IsChangedChain old.now new.now chain) 2 steps.old steps.new }
 {
-    match findings_before(old, findings, new, gone, chain) {
+    if let Some(found) = findings_before(old, findings, new, gone, chain) {
+        return found;
+    }
+    match findings_off_core(old, findings, new, site, chain) {
         Some(found) => found,
         None => find_chain(old, findings, new, tasks, chain, steps),
     }
@@ -136,20 +142,22 @@ pub(crate) fn find_chains<L: Ledger>(
     findings: &Findings,
     new: &ValidModel,
     tasks: &List<TaskAnswer>,
+    site: Option<Site>,
     gone: Option<u32>,
     steps: &mut Steps<L>,
 ) -> Result<AllChains, NoMemory>
     requires findings { AreFindings old.now findings.now }
     requires tasks { tasks.now ≡ answers_of (system_of new.now) }
+    requires site { IfSome site (λ site. StayOffCore site.core site.gone old.now new.now) }
     requires gone { IfSome gone (λ gone. ChainsStay gone old.now new.now) }
     ensures bounds { IfOk result (λ found. found.bounds ≡ chain_answers_of new.now) }
     ensures exacts { IfOk result (λ found. AreExactAnswers new.now found.exacts) }
     ensures steps { AsksChains old.now new.now (length new.now.chains) steps.old steps.new }
 {
-    let mut bounds = List::new(alloc);
-    let mut exacts = List::new(alloc);
+    let mut bounds = List::with_room(alloc, new.chains() as usize)?;
+    let mut exacts = List::with_room(alloc, new.chains() as usize)?;
     for chain in 0..new.chains() {
-        let found = find_beside(old, findings, new, tasks, gone, chain, steps);
+        let found = find_beside(old, findings, new, tasks, site, gone, chain, steps);
         bounds.push(found.bounds)?;
         exacts.push(found.exact)?;
     }

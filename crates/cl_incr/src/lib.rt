@@ -8,6 +8,7 @@ pub mod laws;
 mod mend;
 mod news;
 mod numbers;
+mod off_core;
 mod passing;
 mod put;
 mod question;

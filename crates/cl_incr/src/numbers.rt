@@ -21,7 +21,7 @@ pub(crate) fn put_in_order(numbers: &mut Vec<u32>)
 pub(crate) fn no_lists(alloc: Global, count: u32) -> Result<Vec<List<u32>>, NoMemory>
     ensures { IfOk result (λ lists. lists.items ≡ replicate count []) }
 {
-    let mut lists = Vec::new(alloc);
+    let mut lists = Vec::with_capacity(alloc, count as usize)?;
     for _ in 0..count {
         lists.push(List::new(alloc))?;
     }

@@ -16,7 +16,7 @@ use crate::mend::news_of;
 use crate::news::News;
 use crate::passing::{Passing, passing_of};
 use crate::put::put_news;
-use crate::stays::chain_gone;
+use crate::stays::{chain_gone, site_of};
 use crate::tasks::tasks_after;
 use crate::touch::touched_tasks;
 use crate::twin::{Twin, caught_up, twin_after, twin_of};
@@ -308,9 +308,10 @@ fn findings_after<L: Ledger>(
     ensures findings { IfOk result (AreFindings new.now) }
     ensures steps { AsksForChanges old.now new.now steps.old steps.new }
 {
-    let tasks = tasks_after(alloc, old, tasks, new, edit, steps)?;
+    let site = site_of(old, new, edit);
     let gone = chain_gone(old, new, edit);
-    let found = find_chains(alloc, old, findings, new, &tasks, gone, steps)?;
+    let tasks = tasks_after(alloc, old, tasks, new, edit, site, steps)?;
+    let found = find_chains(alloc, old, findings, new, &tasks, site, gone, steps)?;
     let verdicts = judge_all(alloc, new, &found.bounds, &found.exacts)?;
     Ok(Findings {
         tasks,

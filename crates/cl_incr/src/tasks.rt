@@ -12,7 +12,7 @@ ghost use Rattle.cl_incr.specs.Inner.Kept.{IsKeptTask};
 ghost use Rattle.cl_incr.specs.Inner.Asked.{AsksOne, AsksTasks};
 ghost use Rattle.cl_incr.specs.Inner.Stays.{StayOffCore};
 
-use crate::stays::{Site, number_before, site_of};
+use crate::stays::{Site, number_before};
 use cl_analyse::answer_question;
 use cl_bound::TaskAnswer;
 use cl_edit::Edit;
@@ -97,8 +97,8 @@ fn answer_off_core(
     Some(answers.as_slice()[number_before(site.gone, task)])
 }
 
-/// The answer for a task of the new model, which is asked only where it is on the core of a task that is added or
-/// dropped. It counts a step where its question is changed.
+/// The answer for a task of the new model, which isn't asked where one is added or dropped on another core. It counts a
+/// step where its question is changed.
 fn answer_beside<L: Ledger>(
     alloc: Global,
     old: &ValidModel,
@@ -134,7 +134,7 @@ fn answer_tasks<L: Ledger>(
     ensures answers { IfOk result (λ answers. answers ≡ answers_of (system_of new.now)) }
     ensures steps { AsksTasks old.now new.now (length new.now.tasks) steps.old steps.new }
 {
-    let mut new_answers = List::new(alloc);
+    let mut new_answers = List::with_room(alloc, new.tasks() as usize)?;
     for task in 0..new.tasks() {
         let answer = answer_beside(alloc, old, answers, new, site, task, steps)?;
         new_answers.push(answer)?;
@@ -150,16 +150,18 @@ pub(crate) fn tasks_after<L: Ledger>(
     answers: List<TaskAnswer>,
     new: &ValidModel,
     edit: &Edit,
+    site: Option<Site>,
     steps: &mut Steps<L>,
 ) -> Result<List<TaskAnswer>, NoMemory>
     requires answers { answers ≡ answers_of (system_of old.now) }
     requires made { edited old.now edit.now ≡ Ok new.now }
+    requires site { IfSome site (λ site. StayOffCore site.core site.gone old.now new.now) }
     ensures answers { IfOk result (λ answers. answers ≡ answers_of (system_of new.now)) }
     ensures steps { AsksTasks old.now new.now (length new.now.tasks) steps.old steps.new }
 {
     match edit {
         Edit::AddChain(_) => Ok(answers),
         Edit::DropChain { .. } => Ok(answers),
-        _ => answer_tasks(alloc, old, &answers, new, site_of(old, new, edit), steps),
+        _ => answer_tasks(alloc, old, &answers, new, site, steps),
     }
 }

@@ -22,7 +22,7 @@ pub(crate) struct Twin {
 fn copy_answers(alloc: Global, answers: &List<TaskAnswer>) -> Result<List<TaskAnswer>, NoMemory>
     ensures { IfOk result (λ copy. copy ≡ answers.now) }
 {
-    let mut copy = List::new(alloc);
+    let mut copy = List::with_room(alloc, answers.len())?;
     for answer in answers.as_slice() {
         copy.push(*answer)?;
     }

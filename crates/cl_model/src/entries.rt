@@ -36,6 +36,7 @@ pub fn name_numbers<T: Named>(alloc: Global, entries: &[T]) -> Result<NameSet, N
     ensures { IfOk result (λ names. names ≡ map T.name_of entries.now) }
 {
     let mut names = NameSet::new(alloc);
+    names.reserve(entries.len())?;
     add_names(&mut names, entries)?;
     Ok(names)
 }

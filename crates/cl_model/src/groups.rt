@@ -100,7 +100,7 @@ fn steps_named(alloc: Global, table: &StepTable, names: &[Name]) -> Result<Vec<S
     requires paired { length table.now.steps.items ≡ length table.now.names }
     ensures { IfOk result (λ steps. steps.items ≡ map (step_in table.now) names.now) }
 {
-    let mut steps = Vec::new(alloc);
+    let mut steps = Vec::with_capacity(alloc, names.len())?;
     for name in names {
         let Some(number) = table.names.number_of(name) else {
             unreachable!();
@@ -114,7 +114,7 @@ fn steps_named(alloc: Global, table: &StepTable, names: &[Name]) -> Result<Vec<S
 pub fn groups(alloc: Global, steps: &[Step]) -> Result<List<Group>, NoMemory>
     ensures { IfOk result (λ list. list ≡ groups steps.now) }
 {
-    let mut groups = List::new(alloc);
+    let mut groups = List::with_room(alloc, steps.len())?;
     let Some((first, others)) = steps.split_first() else {
         return Ok(groups);
     };
@@ -155,7 +155,7 @@ pub fn groups_of_chains(
     requires table { AreStepsOf model.now.tasks table.now }
     ensures { IfOk result (λ lists. lists.items ≡ map (groups_of model.now) model.now.chains) }
 {
-    let mut all = Vec::new(alloc);
+    let mut all = Vec::with_capacity(alloc, model.chains.len())?;
     for chain in model.chains.as_slice() {
         all.push(groups_of_chain(alloc, table, chain)?)?;
     }

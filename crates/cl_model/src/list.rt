@@ -1,5 +1,5 @@
 //! Lists that grow as long as there is memory.
-ghost use Rattle.std.specs.Prelude.{◌≡◌, ◌↔◌, [], ◌∷◌, ◌++◌, length, slice_get, IsTrue, OnOk, OnErr};
+ghost use Rattle.std.specs.Prelude.{◌≡◌, ◌↔◌, [], ◌∷◌, ◌++◌, length, slice_get, IsTrue, IfOk, OnOk, OnErr};
 ghost use Rattle.std.specs.Option.{option_copied};
 ghost use Rattle.std.specs.Cmp.Lexicographic.{pointwise, lists_per, lists_equiv};
 ghost use Rattle.std.specs.Slice.Iter.{iter_rest};
@@ -37,6 +37,15 @@ impl<T> List<T> {
         List {
             items: Vec::new(alloc),
         }
+    }
+
+    /// An empty list with room for so many items: while it has no more, pushing takes no memory.
+    pub fn with_room(alloc: Global, room: usize) -> Result<List<T>, NoMemory>
+        ensures { IfOk result (λ list. list ≡ []) }
+    {
+        Ok(List {
+            items: Vec::with_capacity(alloc, room)?,
+        })
     }
 
     /// The number of items.
@@ -114,7 +123,7 @@ impl<T: Eq> Eq for List<T> {
 
 impl<T: TryCopy + Drop> TryCopy for List<T> {
     fn try_copy(&self, alloc: Global) -> Result<List<T>, NoMemory> {
-        let mut copy = List::new(alloc);
+        let mut copy = List::with_room(alloc, self.len())?;
         for item in self.as_slice() {
             copy.push(item.try_copy(alloc)?)?;
         }

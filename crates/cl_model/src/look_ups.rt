@@ -36,7 +36,7 @@ fn core_numbers(alloc: Global, model: &SystemModel, cores: &NameSet) -> Result<V
     requires cores { cores.now ≡ core_names model.now }
     ensures { IfOk result (λ numbers. numbers.items ≡ map (core_number model.now) model.now.tasks) }
 {
-    let mut numbers = Vec::new(alloc);
+    let mut numbers = Vec::with_capacity(alloc, model.tasks.len())?;
     for task in model.tasks.as_slice() {
         let Some(number) = cores.number_of(&task.core) else {
             unreachable!();
@@ -55,7 +55,7 @@ fn stimulus_numbers(
     requires stimuli { stimuli.now ≡ stimulus_names model.now }
     ensures { IfOk result (λ numbers. numbers.items ≡ map (λ task. stimulus_number model.now task.stimulus) model.now.tasks) }
 {
-    let mut numbers = Vec::new(alloc);
+    let mut numbers = Vec::with_capacity(alloc, model.tasks.len())?;
     for task in model.tasks.as_slice() {
         let Some(number) = stimuli.number_of(&task.stimulus) else {
             unreachable!();
@@ -80,7 +80,7 @@ fn greatest_times(alloc: Global, tasks: &[TaskDef]) -> Result<Vec<u64>, NoMemory
     requires { All IsTaskInRange tasks.now }
     ensures { IfOk result (λ times. times.items ≡ map greatest_time tasks.now) }
 {
-    let mut times = Vec::new(alloc);
+    let mut times = Vec::with_capacity(alloc, tasks.len())?;
     for task in tasks {
         times.push(greatest_time(task))?;
     }
@@ -90,7 +90,7 @@ fn greatest_times(alloc: Global, tasks: &[TaskDef]) -> Result<Vec<u64>, NoMemory
 fn no_tasks(alloc: Global, cores: usize) -> Result<Vec<List<u32>>, NoMemory>
     ensures { IfOk result (λ lists. lists.items ≡ replicate cores []) }
 {
-    let mut lists = Vec::new(alloc);
+    let mut lists = Vec::with_capacity(alloc, cores)?;
     for _ in 0..cores {
         lists.push(List::new(alloc))?;
     }

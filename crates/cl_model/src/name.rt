@@ -68,6 +68,17 @@ impl Name {
         let Ok(text) = str::from_utf8(word) else {
             unreachable!();
         };
+        Name::of_text(text)
+    }
+
+    /// The name that a text spells. There is none exactly where the text isn't of the name grammar.
+    pub fn of_text(text: &str) -> Option<Name>
+        ensures grammar { IsSome result ↔ IsName text.now }
+        ensures bytes { IfSome result (λ name. name ≡ text.now) }
+    {
+        if !is_name(text.as_bytes()) {
+            return None;
+        }
         let Ok(text) = ArrayString::from(text) else {
             unreachable!();
         };

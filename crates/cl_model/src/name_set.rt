@@ -10,6 +10,9 @@ use indexmap::IndexSet;
 use std::alloc::Global;
 use std::marker::Model;
 
+/// So many names are compared sooner than one is hashed.
+const FEW_NAMES: usize = 4;
+
 /// Names without repeats, numbered in the order in which they came. A name is found in constant time.
 #[derive(Drop)]
 pub struct NameSet {
@@ -41,6 +44,14 @@ impl NameSet {
         self.names.len()
     }
 
+    /// Makes room for so many further names.
+    pub fn reserve(&mut self, further: usize) -> Result<(), NoMemory>
+        ensures { self.new ≡ self.old }
+    {
+        self.names.reserve(further)?;
+        Ok(())
+    }
+
     /// Adds a name behind the others, and tells whether it is new. A name that is there already changes nothing.
     pub fn add(&mut self, name: &Name) -> Result<bool, NoMemory>
         ensures is_new { IfOk result (λ is_new. is_new ≡ not (has_name name.now self.old)) }
@@ -66,11 +77,15 @@ impl NameSet {
         self.names.drain(first..last);
     }
 
-    /// Whether a name is there.
+    /// Whether a name is there. Few names are compared one by one.
     pub fn contains(&self, name: &Name) -> bool
         ensures { result ≡ has_name name.now self.now }
     {
-        self.names.contains(name)
+        if self.names.len() <= FEW_NAMES {
+            self.names.as_slice().contains(name)
+        } else {
+            self.names.contains(name)
+        }
     }
 
     /// The number of a name, counted from 0. There is none exactly where the name isn't there.

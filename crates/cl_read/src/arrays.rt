@@ -43,7 +43,7 @@ fn members<T: Member>(
     ensures { let ds = map view values.now in
         Answers result (each_from 0 (λ n. T.checks version (T.place_in n place)) ds) (map (T.meaning version) ds) }
 {
-    let mut members = List::new(alloc);
+    let mut members = List::with_room(alloc, values.len())?;
     for (i, value) in values.iter().enumerate() {
         let member = T::read(alloc, version, T::place_in(place, i as u32), value)?;
         members.push(member)?;

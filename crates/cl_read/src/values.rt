@@ -30,7 +30,7 @@ pub(crate) fn name(place: Place, value: &Value) -> Result<Name, ModelFault>
         Answers result (a_name place d) (text_in d) }
 {
     match value {
-        Value::String(word) => match Name::read(word.as_bytes()) {
+        Value::String(word) => match Name::of_text(word.as_str()) {
             Some(name) => Ok(name),
             None => Err(ModelFault::refused(Code::M7, place)),
         },

@@ -69,7 +69,7 @@ fn put_job(text: &mut Text, name: &[u8], job: &Job) -> Result<(), NoMemory>
     put_number(text, job.arrival)?;
     put_number(text, job.release)?;
     put_numbers(text, job.times.as_slice())?;
-    text.put(b"\n")
+    text.put_byte(b'\n')
 }
 
 /// Puts numbers, each after a blank.
@@ -86,7 +86,7 @@ fn put_numbers(text: &mut Text, list: &[u64]) -> Result<(), NoMemory>
 fn put_number(text: &mut Text, number: u64) -> Result<(), NoMemory>
     ensures { OnOk result (text.new ≡ text.old ++ number_text number) }
 {
-    text.put(b" ")?;
+    text.put_byte(b' ')?;
     text.put_number(number)
 }
 
@@ -147,7 +147,7 @@ fn put_run(text: &mut Text, name: &[u8], from: u64, to: u64) -> Result<(), NoMem
     text.put(name)?;
     put_number(text, from)?;
     put_number(text, to)?;
-    text.put(b"\n")
+    text.put_byte(b'\n')
 }
 
 /// The name of a task.

@@ -36,7 +36,10 @@ reads_is : (label : List ℕ) (step : Option RunnableDef) → is_some_and (optio
 reads_is label None = refl
 reads_is label (Some r) = refl
 
-misses_is : (model : SystemModel) (chain : ChainDef) (k : ℕ) (label : List ℕ) → misses_use (runnable_names (all_runnables model.tasks)) (map use_of (all_runnables model.tasks)) chain k label ≡ misses_label model chain k label
+misses_is : (model : SystemModel) (chain : ChainDef) (k : ℕ) (label : List ℕ)
+    → misses_use (use_of_step (runnable_names (all_runnables model.tasks)) (map use_of (all_runnables model.tasks)) chain k)
+    (use_of_step (runnable_names (all_runnables model.tasks)) (map use_of (all_runnables model.tasks)) chain (k + 1)) label
+    ≡ misses_label model chain k label
 misses_is model chain k label =
     let all : List RunnableDef = all_runnables model.tasks in
     let here = step_from all (slice_get chain.runnables k) in

@@ -1,13 +1,15 @@
 //! The checks of chains and requirements.
-ghost use Rattle.std.specs.Prelude.{◌≡◌, All, ◌<◌, ◌^◌, not, map, length};
+ghost use Rattle.std.specs.Prelude.{◌≡◌, All, ℕ, List, ◌+◌, ◌<◌, ◌^◌, not, map, length};
 ghost use Rattle.std.specs.Option.{option_copied};
 ghost use Rattle.cl_model.specs.Answers.{Answers};
+ghost use Rattle.cl_model.specs.declared.chain.ChainDef.{ChainDef};
 ghost use Rattle.cl_model.specs.Named.{has_name, is_some_and, runnable_names, all_runnables, chain_names};
 ghost use Rattle.cl_model.specs.Ranges.{IsInRange, IsChainInRange};
 ghost use Rattle.cl_model.specs.Refusals.{each};
 ghost use Rattle.cl_model.specs.Validity.{lengths_check, chain_check, requirement_check};
 ghost use Rattle.cl_valid.specs.Inner.ChainsByTable.{use_of_step, misses_use, known_step_check, use_hop_check, known_steps_check, use_hops_check, use_chain_check, known_chain_check};
 ghost use Rattle.cl_valid.specs.Inner.Tables.{names_of, uses_of};
+ghost use Rattle.cl_valid.specs.declared.runnables.LabelUse.{LabelUse};
 
 use crate::names::Names;
 use crate::places::{at_spot, entry_of};
@@ -51,19 +53,11 @@ fn misses_read(step: Option<&LabelUse>, label: &Name) -> bool
     }
 }
 
-/// Whether a label isn't handed over from step k to the next one.
-fn misses_label(
-    runnables: &NameSet,
-    uses: &[LabelUse],
-    chain: &ChainDef,
-    k: usize,
-    label: &Name,
-) -> bool
-    requires { k < 2 ^ 32 }
-    ensures { result ≡ misses_use runnables.now uses.now chain.now k label.now }
+/// Whether a label isn't handed over from a step to the next one.
+fn misses_label(writer: Option<&LabelUse>, reader: Option<&LabelUse>, label: &Name) -> bool
+    ensures { result ≡ misses_use (option_copied writer.entry) (option_copied reader.entry) label.now }
 {
-    misses_write(step_of(runnables, uses, chain, k), label)
-        || misses_read(step_of(runnables, uses, chain, k + 1), label)
+    misses_write(writer, label) || misses_read(reader, label)
 }
 
 fn check_step(runnables: &NameSet, place: Place, k: usize, name: &Name) -> Result<(), ModelFault>
@@ -73,19 +67,22 @@ fn check_step(runnables: &NameSet, place: Place, k: usize, name: &Name) -> Resul
     refuse_unless(runnables.contains(name), Code::M44, at_spot(place, k))
 }
 
+/// Checks that a label is handed over from step k, the writer, to the next one, the reader.
 #[tactic(auto, unfolding(crate::specs::Inner::ChainsByTable::use_hop_check))]
 fn check_hop(
-    runnables: &NameSet,
-    uses: &[LabelUse],
-    chain: &ChainDef,
+    writer: Option<&LabelUse>,
+    reader: Option<&LabelUse>,
     place: Place,
     k: usize,
     label: &Name,
 ) -> Result<(), ModelFault>
     requires { k < 2 ^ 32 }
-    ensures { Answers result (use_hop_check runnables.now uses.now chain.now place k label.now) tt }
+    ensures { (runnables : List (List ℕ)) (uses : List LabelUse) (chain : ChainDef)
+        → option_copied writer.entry ≡ use_of_step runnables uses chain k
+        → option_copied reader.entry ≡ use_of_step runnables uses chain (k + 1)
+        → Answers result (use_hop_check runnables uses chain place k label.now) tt }
 {
-    let is_missed = misses_label(runnables, uses, chain, k, label);
+    let is_missed = misses_label(writer, reader, label);
     refuse_when(is_missed, Code::M45, at_spot(place, k))
 }
 
@@ -113,8 +110,11 @@ fn check_hops(
     ensures { Answers result (each (use_hop_check runnables.now uses.now chain.now place) chain.now.labels) tt }
 {
     let labels = chain.labels.as_slice();
+    let mut writer = step_of(runnables, uses, chain, 0);
     for (k, label) in labels.iter().enumerate() {
-        check_hop(runnables, uses, chain, place, k, label)?;
+        let reader = step_of(runnables, uses, chain, k + 1);
+        check_hop(writer, reader, place, k, label)?;
+        writer = reader;
     }
     Ok(())
 }

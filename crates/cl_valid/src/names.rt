@@ -57,6 +57,7 @@ fn add_section<T: Named>(
     ensures checked { Answers result (section_repeats code section (map T.name_of entries.now)) tt }
     ensures names { OnOk result (names.new ≡ map T.name_of entries.now) }
 {
+    names.reserve(entries.len())?;
     add_entries(names, code, section, entries.as_slice())
 }
 

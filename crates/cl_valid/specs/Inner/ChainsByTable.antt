@@ -19,11 +19,10 @@ use Rattle.cl_valid.specs.declared.runnables.LabelUse.{LabelUse}
 abbrev pub use_of_step : List (List ℕ) → List LabelUse → ChainDef → ℕ → Option LabelUse
 use_of_step runnables uses chain k = option_and_then (λ name. entry_named name runnables uses) (slice_get chain.runnables k)
 
--- whether the label isn't written by step k of a chain, or isn't read by the next step
-abbrev pub misses_use : List (List ℕ) → List LabelUse → ChainDef → ℕ → List ℕ → Bool
-misses_use runnables uses chain k label =
-    is_some_and (use_of_step runnables uses chain k) (λ writer. not (has_name label writer.writes))
-    || is_some_and (use_of_step runnables uses chain (k + 1)) (λ reader. not (has_name label reader.reads))
+-- whether the label isn't written by a step, or isn't read by the next one
+abbrev pub misses_use : Option LabelUse → Option LabelUse → List ℕ → Bool
+misses_use writer reader label =
+    is_some_and writer (λ writer. not (has_name label writer.writes)) || is_some_and reader (λ reader. not (has_name label reader.reads))
 
 -- M44
 abbrev pub known_step_check : List (List ℕ) → Place → ℕ → List ℕ → List Refusal
@@ -34,7 +33,8 @@ known_steps_check runnables i chain = each (known_step_check runnables (at_key k
 
 -- M45
 unfoldable pub use_hop_check : List (List ℕ) → List LabelUse → ChainDef → Place → ℕ → List ℕ → List Refusal
-use_hop_check runnables uses chain place k label = when (misses_use runnables uses chain k label) M45 (at_spot k place)
+use_hop_check runnables uses chain place k label =
+    when (misses_use (use_of_step runnables uses chain k) (use_of_step runnables uses chain (k + 1)) label) M45 (at_spot k place)
 
 abbrev pub use_hops_check : List (List ℕ) → List LabelUse → ℕ → ChainDef → List Refusal
 use_hops_check runnables uses i chain = each (use_hop_check runnables uses chain (at_key key.Labels (entry_of part.Chain i))) chain.labels

@@ -5,7 +5,7 @@ use Rattle.cl_incr.proofs.AskedSteps.{asks_none, asks_next, asks_within, asks_la
 use Rattle.cl_incr.proofs.tasks.answer_tasks.Goals as goal
 
 pub loop-task-init : goal.loop-task-init
-loop-task-init g c = (c.new-new_answers.ensures, asks_none (IsChangedTask c.args.old.now c.args.new.now) 1 c.args.steps.now)
+loop-task-init g c = (c.in_ok-new_answers.ensures, asks_none (IsChangedTask c.args.old.now c.args.new.now) 1 c.args.steps.now)
 
 pub returns-in_err-answer-clause-steps : goal.returns-in_err-answer-clause-steps
 returns-in_err-answer-clause-steps g c =
