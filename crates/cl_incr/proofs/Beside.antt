@@ -1,6 +1,6 @@
 -- An edit that adds or drops a task leaves the tasks of other cores their questions, and one that adds or drops a chain
 -- leaves the others what was found of them.
-use Rattle.std.proofs.Common.{◌≡◌, ◌≢◌, ℕ, zero, suc, ◌+◌, ◌<◌, ◌≤◌, inl, inr, Bool, false, cond, ◌==◌, nat_lt, List, [], ◌∷◌, ◌++◌, length, get_or, append-nil, refl, sym, ap, ◌∙◌, subst, arith, Ok}
+use Rattle.std.proofs.Common.{◌≡◌, ◌≢◌, ℕ, zero, suc, ◌<◌, ◌≤◌, inl, inr, Bool, false, cond, ◌==◌, List, [], ◌∷◌, ◌++◌, length, get_or, append-nil, refl, sym, ap, ◌∙◌, subst, arith, Ok}
 use Rattle.std.specs.Prelude.{map, filter, remove, All, Option, Some, None, IfSome, unwrap_or}
 use Rattle.std.proofs.lemmas.Bool.{cases_lt, ne_eqb}
 use Rattle.std.proofs.lemmas.List.{map-append, get_or_append_left, get_or_push, length_push}
@@ -10,7 +10,7 @@ use Rattle.cl_model.specs.declared.model.SystemModel.{SystemModel}
 use Rattle.cl_model.specs.declared.chain.ChainDef.{ChainDef}
 use Rattle.cl_model.specs.declared.group.Group.{Group}
 use Rattle.cl_model.specs.declared.task.TaskDef.{TaskDef}
-use Rattle.cl_model.specs.ByNumber.{no_task, no_chain, core_of, task_at, chain_at, chain_named}
+use Rattle.cl_model.specs.ByNumber.{no_task, no_chain, core_of, chain_named}
 use Rattle.cl_model.specs.Changes.{with_new_task, without_task, with_new_chain, without_chain}
 use Rattle.cl_model.specs.Groups.{groups_of, groups_at}
 use Rattle.cl_model.specs.Validity.{IsValid}

@@ -1,6 +1,6 @@
 -- What is kept of the answers for tasks and of the findings of chains where an edit touches only some tasks.
 use Rattle.std.proofs.Common.{◌≡◌, ◌≢◌, ℕ, ◌+◌, ◌<◌, ◌⊎◌, inl, inr, Bool, true, false, cond, eqb, ltb, List, [], ◌∷◌, ◌++◌, length, get_or, refl, sym, ap, ◌∙◌, subst, arith}
-use Rattle.std.specs.Prelude.{filter, All, Contains, ◌==◌}
+use Rattle.std.specs.Prelude.{filter, All, Contains}
 use Rattle.std.specs.List.{list_any}
 use Rattle.std.specs.Cmp.{nat_eq_equiv}
 use Rattle.std.proofs.Math.ListN.{length-map}
@@ -19,7 +19,6 @@ use Rattle.cl_runs.specs.SystemOf.{system_of}
 use Rattle.cl_runs.specs.TaskTiming.{Timing, no_timing, timing_at}
 use Rattle.cl_runs.proofs.ModelSystem.{timing_is, count_is}
 use Rattle.cl_resp.specs.Question.{question_of}
-use Rattle.cl_bound.specs.Answers.{answer_to, answer_at, answers_of}
 use Rattle.cl_analyse.specs.Headline.{question_at}
 use Rattle.cl_edit.proofs.PairFacts.{listed as listed_on_core}
 use Rattle.cl_incr.specs.Touched.{KeepsNumbers, HasSameTiming, ChangesOnly, HasSameAnswer, KeepAnswersBut, StandsAsBefore, StandBut}

@@ -1,29 +1,27 @@
 -- A chain of the same groups, all of whose tasks stand as they did, has the findings that it had.
-use Rattle.std.proofs.Common.{◌≡◌, ◌≢◌, ℕ, suc, ◌+◌, ◌<◌, Bool, true, false, cond, not, ◌&&◌, ◌==◌, nat_lt, List, [], ◌∷◌, length, get_or, refl, sym, ap, ◌∙◌, subst, arith, Option, Some, None}
+use Rattle.std.proofs.Common.{◌≡◌, ℕ, suc, ◌+◌, ◌<◌, Bool, cond, not, ◌&&◌, ◌==◌, nat_lt, List, [], ◌∷◌, length, refl, sym, ap, ◌∙◌, subst, arith, Some, None}
 use Rattle.std.specs.Prelude.{map, find, All}
 use Rattle.std.specs.Option.{option_map}
 use Rattle.cl_model.specs.declared.model.SystemModel.{SystemModel}
 use Rattle.cl_model.specs.declared.group.Group.{Group}
 use Rattle.cl_model.specs.ByNumber.{chain_at}
-use Rattle.cl_model.specs.Groups.{no_group, group_at, steps_of, groups_of, groups_at}
+use Rattle.cl_model.specs.Groups.{no_group, group_at, steps_of, groups_at}
 use Rattle.cl_model.specs.Kinds.{is_timed}
 use Rattle.cl_model.specs.Validity.{IsValid}
 use Rattle.cl_runs.specs.SystemOf.{system_of}
-use Rattle.cl_runs.specs.TaskTiming.{Timing, System, timing_at}
+use Rattle.cl_runs.specs.TaskTiming.{Timing, timing_at}
 use Rattle.cl_comm.specs.Windows.{spot_at}
 use Rattle.cl_bound.specs.declared.answer.TaskAnswer.{TaskAnswer}
 use Rattle.cl_bound.specs.Answers.{answers_of, answer_at, is_late, response_in}
 use Rattle.cl_bound.specs.Bounds.{settled_timing, bounds_of}
 use Rattle.cl_bound.specs.Hops.{group_timing, saves}
-use Rattle.cl_analyse.specs.declared.findings.ChainAnswer.{ChainAnswer}
 use Rattle.cl_analyse.specs.declared.findings.ChainAnswer.TheVariants.{Late}
 use Rattle.cl_analyse.specs.declared.findings.ExactAnswer.{ExactAnswer}
 use Rattle.cl_analyse.specs.ChainAnswers.{first_late, chain_answer, chain_answer_of, IsExactAnswer}
 use Rattle.cl_analyse.proofs.FirstLate.{first_late_group, first_late_of_groups}
 use Rattle.cl_incr.specs.declared.question.GroupQuestion.{GroupQuestion}
-use Rattle.cl_incr.specs.declared.question.HopLine.{HopLine}
 use Rattle.cl_incr.specs.declared.question.HopLine.TheVariants.{SameTask, Saving, Plain}
-use Rattle.cl_incr.specs.Questions.{group_question, hop_line, hop_lines, ChainQuestion, question_of_groups, unless_late, chain_question}
+use Rattle.cl_incr.specs.Questions.{group_question, hop_line, hop_lines, question_of_groups, unless_late, chain_question}
 use Rattle.cl_incr.specs.Touched.{StandsAsBefore}
 use Rattle.cl_incr.proofs.EqualGroups.{asked, AskTheSame}
 use Rattle.cl_incr.proofs.EqualBounds.{same_bounds}

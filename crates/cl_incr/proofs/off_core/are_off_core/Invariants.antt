@@ -1,4 +1,4 @@
-use Rattle.std.proofs.Common.{◌≡◌, ℕ, ◌<◌}
+use Rattle.std.proofs.Common.{ℕ, ◌<◌}
 use Rattle.cl_model.specs.Groups.{group_at, groups_at}
 use Rattle.cl_incr.specs.Inner.Stays.{IsOffCore}
 use Rattle.cl_incr.proofs.off_core.are_off_core.Given as goal
