@@ -2,7 +2,7 @@
 use Rattle.std.proofs.Common.{◌≡◌, ℕ, suc, ◌+◌, ◌-◌, ◌<◌, true, false, cond, nat_lt, List, [], ◌∷◌, ◌++◌, length, get_or, set, take, map, refl, sym, subst, ap, ◌∙◌, arith}
 use Rattle.std.specs.Prelude.{All, Option, Some, None, unwrap_or, ◌==◌}
 use Rattle.std.specs.List.{range_with_len}
-use Rattle.std.proofs.lemmas.List.{length-map, map-append, length-append, length_push, get_or_append_left, take-append-le, take_all}
+use Rattle.std.proofs.lemmas.List.{length-map, get_or-map, map-append, length-append, length_push, get_or_append_left, take-append-le, take_all}
 use Rattle.std.proofs.lemmas.Bool.{ltb-false}
 use Rattle.std.proofs.lemmas.List.FromFn.{length-map-range_with_len}
 use Rattle.cl_model.specs.declared.group.Step.{Step}
@@ -14,9 +14,9 @@ use Rattle.cl_model.specs.declared.model.SystemModel.{SystemModel}
 use Rattle.cl_model.specs.declared.task.RunnableDef.{RunnableDef}
 use Rattle.cl_model.specs.declared.task.TaskDef.{TaskDef}
 use Rattle.cl_model.specs.declared.valid_model.ValidModel.TheInside.{Inside}
-use Rattle.cl_model.specs.ByNumber.{no_task, core_number, core_of, stimulus_number, greatest_time, tasks_of_core_below, tasks_of_core}
+use Rattle.cl_model.specs.ByNumber.{no_task, no_chain, core_number, core_of, stimulus_number, greatest_time, tasks_of_core_below, tasks_of_core}
 use Rattle.cl_model.specs.Changes.{with_new_task}
-use Rattle.cl_model.specs.Groups.{step_from, step_named, groups, groups_of}
+use Rattle.cl_model.specs.Groups.{step_from, step_named, groups, groups_of, groups_at}
 use Rattle.cl_model.specs.Inner.LookUps.{AreNamesOf, AreTaskTablesOf, AreLookUpsOf, HasItsLookUps, RowAdded, TaskAdded}
 use Rattle.cl_model.specs.Inner.StepTable.{steps_from, AreStepsOf, StepsAdded}
 use Rattle.cl_model.specs.Named.{has_name, index_of, core_names, stimulus_names, task_names, runnable_names, all_runnables}
@@ -132,6 +132,13 @@ module _ (model : SystemModel) (task : TaskDef) (valid : IsValid (with_new_task 
       (λ c d within.
       let chain = get_or model.chains c d in
       ap groups (maps_agree_on (step_named changed) (step_named model) chain.runnables (λ k e k_lt. same_step (get_or chain.runnables k e) (steps_known model old_valid c d within k e k_lt))))
+
+  -- the groups of one chain
+  pub groups_kept : IsValid model → (chain : ℕ) → chain < length model.chains → groups_at changed chain ≡ groups_at model chain
+  groups_kept old_valid chain within =
+      sym (get_or-map (groups_of changed) model.chains chain no_chain [] within)
+      ∙ ap (λ all. get_or all chain []) (same_groups old_valid)
+      ∙ get_or-map (groups_of model) model.chains chain no_chain [] within
 
   -- ---- the tables of tasks
 

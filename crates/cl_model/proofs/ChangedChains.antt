@@ -1,5 +1,5 @@
 -- What stands beside a valid model with one chain more, or one fewer.
-use Rattle.std.proofs.Common.{◌≡◌, ℕ, ◌+◌, ◌-◌, ◌<◌, true, false, List, [], ◌∷◌, ◌++◌, length, get_or, take, map, refl, sym, subst, ap, ◌∙◌, arith}
+use Rattle.std.proofs.Common.{◌≡◌, ℕ, ◌-◌, ◌<◌, true, false, List, [], ◌∷◌, ◌++◌, length, get_or, take, map, refl, sym, subst, ap, ◌∙◌, arith}
 use Rattle.std.specs.Prelude.{All, cond, remove}
 use Rattle.indexmap.proofs.SetLemmas.{map-remove}
 use Rattle.std.proofs.lemmas.List.{length-map, map-append, length_push, get_or-append_right, take-append-le, take_all}

@@ -6,7 +6,7 @@ use Rattle.indexmap.proofs.SetLemmas.{map-remove}
 use Rattle.std.proofs.lemmas.List.{length-map, map-append, map-id, take-map, drop-map, take-append-drop, take-append-le, take_all, length-take-le}
 use Rattle.std.proofs.lemmas.List.Concat.{flat_map-append, length-flat_map}
 use Rattle.std.proofs.lemmas.List.Edits.{length-remove, get_or-remove_below, get_or-remove_above}
-use Rattle.std.proofs.lemmas.List.Elements.{All-map, filter-append}
+use Rattle.std.proofs.lemmas.List.Elements.{All-nil, All-cons, All-map, filter-append}
 use Rattle.std.proofs.lemmas.List.Folds.{length-flat_map-take}
 use Rattle.std.proofs.lemmas.List.FromFn.{length-map-range_with_len}
 use Rattle.std.proofs.lemmas.Simd.{map-map}
@@ -18,12 +18,12 @@ use Rattle.cl_model.specs.declared.model.SystemModel.{SystemModel}
 use Rattle.cl_model.specs.declared.task.RunnableDef.{RunnableDef}
 use Rattle.cl_model.specs.declared.task.TaskDef.{TaskDef}
 use Rattle.cl_model.specs.declared.valid_model.ValidModel.TheInside.{Inside}
-use Rattle.cl_model.specs.ByNumber.{no_task, no_runnable, task_at, runnable_at, core_number, core_of, stimulus_number, greatest_time, tasks_of_core_below, tasks_of_core}
+use Rattle.cl_model.specs.ByNumber.{no_task, no_runnable, no_chain, chain_at, task_at, runnable_at, core_number, core_of, stimulus_number, greatest_time, tasks_of_core_below, tasks_of_core}
 use Rattle.cl_model.specs.Changes.{without_task}
-use Rattle.cl_model.specs.Groups.{step_named, is_inner, group_of_step, groups_from, groups, groups_of, IsStepOf}
+use Rattle.cl_model.specs.Groups.{step_named, is_inner, group_of_step, groups_from, groups, groups_of, groups_at, IsStepOf}
 use Rattle.cl_model.specs.Inner.LookUps.{AreNamesOf, HasItsLookUps, HasRow, TaskDropped}
 use Rattle.cl_model.specs.Inner.StepTable.{steps_in, steps_from, HasSteps}
-use Rattle.cl_model.specs.Inner.TaskNumbers.{number_without, step_without, group_without}
+use Rattle.cl_model.specs.TaskNumbers.{number_without, step_without, group_without}
 use Rattle.cl_model.specs.Named.{has_name, runnable_names, all_runnables}
 use Rattle.cl_model.specs.Validity.{IsValid}
 use Rattle.cl_model.proofs.AddedTasks.{maps_agree_on}
@@ -169,6 +169,28 @@ module _ (t : ℕ) where
   groups_renumbered (step ∷ steps) each =
       groups_from_renumbered steps (group_of_step step) (each 0 step (omega arith)) (λ k d lt. each (suc k) d (omega (arith, lt)))
 
+  abbrev is_of_another : Group → Type 0
+  is_of_another group = group.task ≡ t → ⊥
+
+  -- and none of them is of the task
+  groups_from_others : (steps : List Step) (group : Group) → is_of_another group → All (λ (step : Step). step.task ≡ t → ⊥) steps
+      → All is_of_another (groups_from group steps)
+  groups_from_others [] group other each = All-cons is_of_another group [] other (All-nil is_of_another)
+  groups_from_others (step ∷ steps) group other each =
+      let longer : Group = record { task = group.task; first = group.first; last = step.place } in
+      let rest : All (λ (step : Step). step.task ≡ t → ⊥) steps = λ k d lt. each (suc k) d (omega (arith, lt)) in
+      elim (is_inner group step) as (λ b. All is_of_another (cond b (groups_from longer steps) (group ∷ groups_from (group_of_step step) steps))) [
+        | true ↦ groups_from_others steps longer other rest
+        | false ↦
+            All-cons is_of_another group (groups_from (group_of_step step) steps) other
+            (groups_from_others steps (group_of_step step) (each 0 step (omega arith)) rest)
+      ]
+
+  groups_of_others : (steps : List Step) → All (λ (step : Step). step.task ≡ t → ⊥) steps → All is_of_another (groups steps)
+  groups_of_others [] each = All-nil is_of_another
+  groups_of_others (step ∷ steps) each =
+      groups_from_others steps (group_of_step step) (each 0 step (omega arith)) (λ k d lt. each (suc k) d (omega (arith, lt)))
+
 -- ---- tasks of cores
 
 -- what a test keeps of a range, one lower
@@ -263,6 +285,12 @@ module _ (model : SystemModel) (valid : IsValid model) (t : ℕ) (lt : t < lengt
   own : (name : List ℕ) (was : WasStep model t lt name) → step_named model name ≡ was.step
   own name was = ap (step_named model) (sym was.named) ∙ own_step model valid was.step was.is
 
+  steps_of_others : (names : List (List ℕ)) → All (λ name. has_name name (runnable_names (all_runnables (without_task model t).tasks)) ≡ true) names
+      → All (λ (step : Step). step.task ≡ t → ⊥) (map (step_named model) names)
+  steps_of_others names known =
+      All-map (λ (step : Step). step.task ≡ t → ⊥) (step_named model) names
+      (λ k d k_lt. let was = was_step model t lt (get_or names k d) (known k d k_lt) in subst (λ (step : Step). step.task ≡ t → ⊥) (sym (own (get_or names k d) was)) was.other)
+
   -- no chain has a step of the task
   chain_left : (names : List (List ℕ)) → All (λ name. has_name name (runnable_names (all_runnables (without_task model t).tasks)) ≡ true) names
       → groups (map (step_named (without_task model t)) names) ≡ map (group_without t) (groups (map (step_named model) names))
@@ -270,9 +298,7 @@ module _ (model : SystemModel) (valid : IsValid model) (t : ℕ) (lt : t < lengt
       ap groups (maps_agree_on (step_named (without_task model t)) (λ name. step_without t (step_named model name)) names
       (λ k d k_lt. let was = was_step model t lt (get_or names k d) (known k d k_lt) in sym was.moved ∙ ap (step_without t) (sym (own (get_or names k d) was)))
       ∙ sym (map-map (step_without t) (step_named model) names))
-      ∙ groups_renumbered t (map (step_named model) names)
-      (All-map (λ (step : Step). step.task ≡ t → ⊥) (step_named model) names
-      (λ k d k_lt. let was = was_step model t lt (get_or names k d) (known k d k_lt) in subst (λ (step : Step). step.task ≡ t → ⊥) (sym (own (get_or names k d) was)) was.other))
+      ∙ groups_renumbered t (map (step_named model) names) (steps_of_others names known)
 
   groups_left : map (map (group_without t)) (map (groups_of model) model.chains) ≡ map (groups_of (without_task model t)) model.chains
   unfolding groups_of
@@ -280,6 +306,17 @@ module _ (model : SystemModel) (valid : IsValid model) (t : ℕ) (lt : t < lengt
       map-map (map (group_without t)) (groups_of model) model.chains
       ∙ sym (maps_agree_on (groups_of (without_task model t)) (λ chain. map (group_without t) (groups_of model chain)) model.chains
       (λ c d c_lt. chain_left (get_or model.chains c d).runnables (steps_known (without_task model t) still_valid c d c_lt)))
+
+  -- the groups of one chain
+  pub groups_moved : (chain : ℕ) → chain < length model.chains → groups_at (without_task model t) chain ≡ map (group_without t) (groups_at model chain)
+  unfolding groups_of
+  groups_moved chain within = chain_left (chain_at model chain).runnables (steps_known (without_task model t) still_valid chain no_chain within)
+
+  pub groups_of_others_at : (chain : ℕ) → chain < length model.chains → All (is_of_another t) (groups_at model chain)
+  unfolding groups_of
+  groups_of_others_at chain within =
+      groups_of_others t (map (step_named model) (chain_at model chain).runnables)
+      (steps_of_others (chain_at model chain).runnables (steps_known (without_task model t) still_valid chain no_chain within))
 
 -- ---- valid models
 

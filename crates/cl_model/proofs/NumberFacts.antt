@@ -2,7 +2,7 @@
 use Rattle.std.proofs.Common.{◌≡◌, ℕ, ◌+◌, ◌-◌, ◌<◌, ◌≤◌, cond, ◌⊎◌, inl, inr, sym, ap, ◌∙◌, arith, nat_lt}
 use Rattle.std.specs.Prelude.{◌==◌}
 use Rattle.std.proofs.lemmas.Bool.{cases_lt, lt-ltb, ltb-true, false_from_ne_true, eqb-true, eq-eqb}
-use Rattle.cl_model.specs.Inner.TaskNumbers.{number_without}
+use Rattle.cl_model.specs.TaskNumbers.{number_without}
 use Rattle.cl_model.proofs.ListFacts.{same_tests}
 
 -- those in front keep their numbers

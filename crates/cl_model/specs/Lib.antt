@@ -17,6 +17,7 @@ pub mod Validity
 pub mod ByNumber
 pub mod Groups
 pub mod Changes
+pub mod TaskNumbers
 pub mod MaximalRuns
 pub mod GroupCuts
 pub mod KnownNames

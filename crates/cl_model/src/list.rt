@@ -39,7 +39,8 @@ impl<T> List<T> {
         }
     }
 
-    /// An empty list with room for so many items: while it has no more, pushing takes no memory.
+    /// An empty list with room for so many items: while it has no more, pushing takes no memory. Where there is no memory
+    /// for it, nothing is left.
     pub fn with_room(alloc: Global, room: usize) -> Result<List<T>, NoMemory>
         ensures { IfOk result (λ list. list ≡ []) }
     {

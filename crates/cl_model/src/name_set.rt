@@ -44,7 +44,7 @@ impl NameSet {
         self.names.len()
     }
 
-    /// Makes room for so many further names.
+    /// Makes room for so many further names. Where there is no memory for it, the names are those that they were.
     pub fn reserve(&mut self, further: usize) -> Result<(), NoMemory>
         ensures { self.new ≡ self.old }
     {

@@ -1,6 +1,6 @@
 //! The numbers of tasks where one of them is taken out: those behind it move up.
 ghost use Rattle.std.specs.Prelude.{◌≡◌, map};
-ghost use Rattle.cl_model.specs.Inner.TaskNumbers.{number_without, step_without, group_without};
+ghost use Rattle.cl_model.specs.TaskNumbers.{number_without, step_without, group_without};
 
 use crate::group::{Group, Step};
 use crate::list::List;

@@ -13,7 +13,7 @@ use Rattle.cl_model.specs.Named.{core_names, stimulus_names, task_names, chain_n
 use Rattle.cl_model.specs.NameSets.{names_with}
 use Rattle.cl_model.specs.ByNumber.{core_number, stimulus_number, greatest_time, tasks_of_core}
 use Rattle.cl_model.specs.Inner.StepTable.{step_in, AreStepsOf, StepsAdded, StepsDropped}
-use Rattle.cl_model.specs.Inner.TaskNumbers.{number_without, group_without}
+use Rattle.cl_model.specs.TaskNumbers.{number_without, group_without}
 use Rattle.cl_model.specs.Validity.{IsValid}
 
 -- the names are those of the entries of each section

@@ -7,7 +7,7 @@ use Rattle.cl_model.specs.declared.groups.StepTable.{StepTable}
 use Rattle.cl_model.specs.declared.task.TaskDef.{TaskDef}
 use Rattle.cl_model.specs.Groups.{no_step}
 use Rattle.cl_model.specs.Named.{index_of, runnable_names, all_runnables}
-use Rattle.cl_model.specs.Inner.TaskNumbers.{step_without}
+use Rattle.cl_model.specs.TaskNumbers.{step_without}
 
 -- the steps of the runnables of one task, which are so many
 abbrev pub steps_in : (task count : ℕ) → List Step

@@ -1,6 +1,6 @@
 use Rattle.std.proofs.Common.{length, map, set, sym, ap, ◌∙◌, arith}
 use Rattle.std.proofs.lemmas.List.Edits.{map_over_more}
-use Rattle.cl_model.specs.Inner.TaskNumbers.{group_without}
+use Rattle.cl_model.specs.TaskNumbers.{group_without}
 use Rattle.cl_model.proofs.task_numbers.renumber_chains.Goals as goal
 
 pub loop-groups-preserved : goal.loop-groups-preserved

@@ -1,6 +1,6 @@
 use Rattle.std.proofs.Common.{length, map, set, sym, ap, ◌∙◌, arith}
 use Rattle.std.proofs.lemmas.List.Edits.{map_over_more}
-use Rattle.cl_model.specs.Inner.TaskNumbers.{number_without}
+use Rattle.cl_model.specs.TaskNumbers.{number_without}
 use Rattle.cl_model.proofs.task_numbers.renumber_cores.Goals as goal
 
 pub loop-tasks-preserved : goal.loop-tasks-preserved

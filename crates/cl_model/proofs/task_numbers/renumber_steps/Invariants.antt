@@ -1,5 +1,5 @@
 use Rattle.std.proofs.Common.{◌≡◌, ◌++◌, take, drop, map}
-use Rattle.cl_model.specs.Inner.TaskNumbers.{step_without}
+use Rattle.cl_model.specs.TaskNumbers.{step_without}
 use Rattle.cl_model.proofs.task_numbers.renumber_steps.Given as goal
 
 -- those so far have their new numbers

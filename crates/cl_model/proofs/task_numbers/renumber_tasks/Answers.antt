@@ -1,7 +1,7 @@
 use Rattle.std.proofs.Common.{set, sym, ap, ◌∙◌, arith}
 use Rattle.std.proofs.lemmas.List.Edits.{map_over_more}
 use Rattle.std.proofs.lemmas.Option.{get_or_from_slice_get}
-use Rattle.cl_model.specs.Inner.TaskNumbers.{number_without}
+use Rattle.cl_model.specs.TaskNumbers.{number_without}
 use Rattle.cl_model.proofs.task_numbers.renumber_tasks.Goals as goal
 
 pub loop-place-preserved : goal.loop-place-preserved

@@ -1,5 +1,5 @@
 use Rattle.std.proofs.Common.{◌≡◌, ◌++◌, take, drop, map}
-use Rattle.cl_model.specs.Inner.TaskNumbers.{number_without}
+use Rattle.cl_model.specs.TaskNumbers.{number_without}
 use Rattle.cl_model.proofs.task_numbers.renumber_tasks.Given as goal
 
 -- those so far have their new numbers
