@@ -33,8 +33,9 @@ fn all_above(
     ensures { IfOk result (λ above. above
         ≡ map taken_by (filter (is_above (timing_of model.now (task_at model.now task))) (system_of model.now).tasks)) }
 {
-    let mut above = List::new(alloc);
-    for other in model.tasks_of_core(model.core_of(task)) {
+    let others = model.tasks_of_core(model.core_of(task));
+    let mut above = List::with_room(alloc, others.len())?;
+    for other in others {
         if is_higher(model, *other, priority) {
             let stimulus = AnyStimulus::of(model.stimulus_of(*other));
             let time = model.time_of(*other);

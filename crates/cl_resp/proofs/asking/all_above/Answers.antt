@@ -9,17 +9,17 @@ use Rattle.cl_resp.proofs.asking.all_above.Goals as goal
 
 pub of-stimulus-requires : goal.of-stimulus-requires
 of-stimulus-requires c =
-    let others = c.tasks_of_core-other-items.result.now in
-    let known = c.tasks_of_core-other-items.ensures.within c.loop-other.other-index 0 c.loop-other-test.true in
+    let others = c.tasks_of_core-others.result.now in
+    let known = c.tasks_of_core-others.ensures.within c.loop-other.other-index 0 c.loop-other-test.true in
     subst (λ (k : StimulusKind). IsStimulus k) (sym c.stimulus_of.ensures)
     (has_stimulus c.args.model.now c.requires.valid (get_or others c.loop-other.other-index 0) known)
 
 pub returns : goal.returns
 returns c =
     let model = c.args.model.now in
-    let others = c.tasks_of_core-other-items.result.now in
+    let others = c.tasks_of_core-others.result.now in
     let all : take c.loop-other.other-index others ≡ others = take_all c.loop-other.other-index others (omega (arith, c.loop-other-test.false)) in
     c.loop-other.invariant
     ∙ ap (λ list. map (above_at model) (filter (is_higher model c.args.task) list))
-    (all ∙ c.tasks_of_core-other-items.ensures.tasks ∙ ap (tasks_of_core model) c.core_of.ensures.core)
+    (all ∙ c.tasks_of_core-others.ensures.tasks ∙ ap (tasks_of_core model) c.core_of.ensures.core)
     ∙ sym (above_is model c.args.task)

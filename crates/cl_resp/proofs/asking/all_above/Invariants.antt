@@ -5,4 +5,4 @@ use Rattle.cl_resp.proofs.asking.all_above.Given as goal
 
 -- what the tasks of higher priority so far take
 abbrev pub invariant-loop-other : goal.invariant-loop-other
-invariant-loop-other l = l.above ≡ map (above_at l.model) (filter (is_higher l.model l.task) (take l.other-index l.other-items))
+invariant-loop-other l = l.above ≡ map (above_at l.model) (filter (is_higher l.model l.task) (take l.other-index l.others))
