@@ -1,27 +1,15 @@
--- The members of a table as the entries of a map, and the items of an array as a list.
-use Rattle.std.proofs.Common.{◌≡◌, ℕ, ◌<◌, ◌≤◌, Bool, true, false, ◌&&◌, leb, List, [], ◌∷◌, length, map, Some, String, Global, string_bytes, refl, ap, arith}
+-- The items of an array as a list.
+use Rattle.std.proofs.Common.{◌≡◌, ℕ, ◌<◌, ◌≤◌, Bool, true, false, leb, List, [], ◌∷◌, length, map, Some, refl, ap, arith}
 use Rattle.std.proofs.lemmas.Bool.{le-leb, lt-leb}
 use Rattle.std.proofs.lemmas.List.{append-nil, length-map}
-use Rattle.std.specs.List.{list_any, list_all}
-use Rattle.std.specs.Str.{bytes_eq}
 use Rattle.toml.specs.declared.value.Value.{Value}
-use Rattle.toml.specs.View.{view, items_view, members_view}
-use Rattle.cl_model.specs.declared.place.Key.{Key}
+use Rattle.toml.specs.View.{view, items_view}
 use Rattle.cl_model.specs.declared.place.Place.{Place}
 use Rattle.cl_model.specs.declared.refusal.Code.TheVariants.{M10}
-use Rattle.cl_model.specs.Place.{key_text}
 use Rattle.cl_model.specs.Refusals.{first}
-use Rattle.cl_model.specs.Reading.Checks.{Check, members_of, an_array, has_only}
+use Rattle.cl_model.specs.Reading.Checks.{Check, members_of, an_array}
 use Rattle.cl_model.specs.Refusals.{each_from}
 use Rattle.toml.specs.Data.{array}
-
--- the word is one of the keys
-abbrev pub is_key : List Key → String Global → Bool
-is_key keys word = list_any (λ key. bytes_eq (key_text key) (string_bytes word)) keys
-
-pub has_only-members : (keys : List Key) (es : List (String Global × Value)) → has_only keys (members_view es) ≡ list_all (is_key keys) (map (λ e. e.0) es)
-has_only-members keys [] = refl
-has_only-members keys (e ∷ es) = ap (λ rest. is_key keys e.0 && rest) (has_only-members keys es)
 
 pub members_of-items : (vs : List Value) → members_of (items_view vs) ≡ map view vs
 members_of-items [] = refl

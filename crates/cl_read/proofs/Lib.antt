@@ -1,3 +1,4 @@
+pub mod FoundValues
 pub mod Documents
 pub mod Readings
 pub mod Texts

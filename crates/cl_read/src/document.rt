@@ -1,21 +1,22 @@
 //! The whole document.
-ghost use Rattle.std.specs.Prelude.{◌≤◌, [], map, IfOk};
+ghost use Rattle.std.specs.Prelude.{◌≡◌, ◌≤◌, [], map, IfOk};
 ghost use Rattle.toml.specs.Parse.{parse_document};
 ghost use Rattle.toml.specs.View.{table_view};
 ghost use Rattle.cl_model.specs.declared.place.Key.TheVariants as key;
 ghost use Rattle.cl_model.specs.declared.refusal.Code.TheVariants.{M1, M2, M3};
 ghost use Rattle.cl_model.specs.Place.{section_place, top, at_key};
-ghost use Rattle.cl_model.specs.Refusals.{unless};
+ghost use Rattle.cl_model.specs.Refusals.{unless, in_order};
 ghost use Rattle.cl_model.specs.Reading.Checks.{an_array, found_or, value_at};
 ghost use Rattle.cl_model.specs.Reading.Meanings.{list_of};
-ghost use Rattle.cl_model.specs.Reading.{is_format, is_version, version_in, model_checks, model_meaning, document_of, model_of};
+ghost use Rattle.cl_model.specs.Reading.{is_format, is_version, version_in, section_checks, sections, model_checks, model_meaning, document_of, model_of};
 ghost use Rattle.cl_model.specs.AreNamed.{AreNamed};
 ghost use Rattle.cl_model.specs.Ranges.{IsInRange};
 ghost use Rattle.cl_model.specs.Answers.{Answers, Gives};
 ghost use Rattle.cl_read.specs.Inner.Documents.{IsDocument};
+ghost use Rattle.cl_read.specs.Inner.Fields.{AreFieldsFound};
 
 use crate::arrays::{Member, array_or_none};
-use crate::keys::{has_only, value_at};
+use crate::keys::{Fields, value_at};
 use cl_model::{
     Code, Key, List, MOST_CHAINS, MOST_CORES, MOST_LABELS, MOST_REQUIREMENTS, MOST_STIMULI,
     MOST_TASKS, ModelFault, Part, Place, SystemModel,
@@ -61,7 +62,7 @@ fn parsed(alloc: Global, text: &str) -> Result<Table, ModelFault>
     }
 }
 
-#[tactic(auto, using(cl_model::proofs::FirstRefusals::faults), unfolding(cl_model::specs::Reading::model_checks, cl_model::specs::Reading::model_meaning))]
+#[tactic(auto, using(cl_model::proofs::FirstRefusals::faults), unfolding(cl_model::specs::Reading::model_checks))]
 fn model(alloc: Global, table: &Table) -> Result<SystemModel, ModelFault>
     ensures { let ms = table_view table.now in
         Answers result (model_checks ms) (model_meaning ms) }
@@ -78,24 +79,35 @@ fn model(alloc: Global, table: &Table) -> Result<SystemModel, ModelFault>
         Key::Chain,
         Key::Requirement,
     ];
-    has_only(Place::top(), table, &keys)?;
+    let found = Fields::of_only(Place::top(), table, &keys)?;
+    all_sections(alloc, version, &found)
+}
+
+/// The sections, where the keys are checked.
+#[tactic(auto, using(cl_model::proofs::FirstRefusals::faults), unfolding(cl_model::specs::Reading::model_meaning))]
+fn all_sections(alloc: Global, version: u64, found: &Fields<'_>) -> Result<SystemModel, ModelFault>
+    requires found { AreFieldsFound found.now }
+    requires version { version ≡ version_in (table_view found.now.table.now) }
+    ensures { let ms = table_view found.now.table.now in
+        Answers result (in_order (map (section_checks version ms) sections)) (model_meaning ms) }
+{
     Ok(SystemModel {
-        cores: section(alloc, version, table, Key::Core, Part::Core, MOST_CORES)?,
+        cores: section(alloc, version, found, Key::Core, Part::Core, MOST_CORES)?,
         stimuli: section(
             alloc,
             version,
-            table,
+            found,
             Key::Stimulus,
             Part::Stimulus,
             MOST_STIMULI,
         )?,
-        labels: section(alloc, version, table, Key::Label, Part::Label, MOST_LABELS)?,
-        tasks: section(alloc, version, table, Key::Task, Part::Task, MOST_TASKS)?,
-        chains: section(alloc, version, table, Key::Chain, Part::Chain, MOST_CHAINS)?,
+        labels: section(alloc, version, found, Key::Label, Part::Label, MOST_LABELS)?,
+        tasks: section(alloc, version, found, Key::Task, Part::Task, MOST_TASKS)?,
+        chains: section(alloc, version, found, Key::Chain, Part::Chain, MOST_CHAINS)?,
         requirements: section(
             alloc,
             version,
-            table,
+            found,
             Key::Requirement,
             Part::Requirement,
             MOST_REQUIREMENTS,
@@ -130,13 +142,14 @@ fn version(table: &Table) -> Result<u64, ModelFault>
 fn section<T: Member>(
     alloc: Global,
     version: u64,
-    table: &Table,
+    found: &Fields<'_>,
     key: Key,
     part: Part,
     limit: usize,
 ) -> Result<List<T>, ModelFault>
-    requires { limit ≤ u32.MAX }
-    ensures { let value = value_at key (table_view table.now) in
+    requires limit { limit ≤ u32.MAX }
+    requires found { AreFieldsFound found.now }
+    ensures { let value = value_at key (table_view found.now.table.now) in
         Answers result
         (found_or [] (an_array limit T.place_in (T.checks version) (section_place part)) value)
         (found_or [] (λ d. map (T.meaning version) (list_of d)) value) }
@@ -146,6 +159,6 @@ fn section<T: Member>(
         version,
         part.section_place(),
         limit,
-        value_at(table, key),
+        found.value_at(key),
     )
 }

@@ -8,9 +8,10 @@ ghost use Rattle.cl_model.specs.Reading.Checks.{a_name, a_table_of, fields_check
 ghost use Rattle.cl_model.specs.Reading.Meanings.{text_in, table_of, names_at, tables_at};
 ghost use Rattle.cl_model.specs.Reading.Tables.{core_fields, core_meaning, label_fields, label_meaning, runnable_fields, runnables, runnable_meaning, task_fields, task_meaning, chain_fields, chain_meaning, requirement_fields, requirement_meaning};
 ghost use Rattle.cl_model.specs.Answers.{Answers};
+ghost use Rattle.cl_read.specs.Inner.Fields.{AreFieldsFound};
 
 use crate::arrays::{Member, array_or_none};
-use crate::keys::{has_only, value_at};
+use crate::keys::Fields;
 use crate::values::table_in;
 use crate::{fields, values};
 use cl_model::{
@@ -172,9 +173,10 @@ fn core(place: Place, table: &Table) -> Result<CoreDef, ModelFault>
     ensures { let ms = table_view table.now in
         Answers result (fields_checks core_fields place ms) (core_meaning ms) }
 {
-    has_only(place, table, &[Key::Name])?;
+    let keys = [Key::Name];
+    let found = Fields::of_only(place, table, &keys)?;
     Ok(CoreDef {
-        name: fields::name(place, table, Key::Name)?,
+        name: fields::name(place, &found, Key::Name)?,
     })
 }
 
@@ -182,9 +184,10 @@ fn label(place: Place, table: &Table) -> Result<LabelDef, ModelFault>
     ensures { let ms = table_view table.now in
         Answers result (fields_checks label_fields place ms) (label_meaning ms) }
 {
-    has_only(place, table, &[Key::Name])?;
+    let keys = [Key::Name];
+    let found = Fields::of_only(place, table, &keys)?;
     Ok(LabelDef {
-        name: fields::name(place, table, Key::Name)?,
+        name: fields::name(place, &found, Key::Name)?,
     })
 }
 
@@ -193,12 +196,13 @@ fn names(
     alloc: Global,
     version: u64,
     place: Place,
-    table: &Table,
+    found: &Fields<'_>,
     key: Key,
     limit: usize,
 ) -> Result<List<Name>, ModelFault>
-    requires { limit ≤ u32.MAX }
-    ensures { let ms = table_view table.now in
+    requires limit { limit ≤ u32.MAX }
+    requires found { AreFieldsFound found.now }
+    ensures { let ms = table_view found.now.table.now in
         Answers result (field_checks place ms (optional key (names limit))) (names_at key ms) }
 {
     array_or_none(
@@ -206,7 +210,7 @@ fn names(
         version,
         place.at_key(key),
         limit,
-        value_at(table, key),
+        found.value_at(key),
     )
 }
 
@@ -228,14 +232,14 @@ fn runnable(
         Key::Reads,
         Key::Writes,
     ];
-    has_only(place, table, &keys)?;
+    let found = Fields::of_only(place, table, &keys)?;
     Ok(RunnableDef {
-        name: fields::name(place, table, Key::Name)?,
-        least: fields::number(place, table, Key::Least, 1, MOST_TICKS)?,
-        greatest: fields::number(place, table, Key::Greatest, 1, MOST_TICKS)?,
-        whole: fields::is_set(place, table, Key::Whole)?,
-        reads: names(alloc, version, place, table, Key::Reads, MOST_ACCESSES)?,
-        writes: names(alloc, version, place, table, Key::Writes, MOST_ACCESSES)?,
+        name: fields::name(place, &found, Key::Name)?,
+        least: fields::number(place, &found, Key::Least, 1, MOST_TICKS)?,
+        greatest: fields::number(place, &found, Key::Greatest, 1, MOST_TICKS)?,
+        whole: fields::is_set(place, &found, Key::Whole)?,
+        reads: names(alloc, version, place, &found, Key::Reads, MOST_ACCESSES)?,
+        writes: names(alloc, version, place, &found, Key::Writes, MOST_ACCESSES)?,
     })
 }
 
@@ -244,9 +248,10 @@ fn runnables(
     alloc: Global,
     version: u64,
     place: Place,
-    table: &Table,
+    found: &Fields<'_>,
 ) -> Result<List<RunnableDef>, ModelFault>
-    ensures { let ms = table_view table.now in
+    requires { AreFieldsFound found.now }
+    ensures { let ms = table_view found.now.table.now in
         Answers result
         (field_checks place ms (optional key.Runnable runnables))
         (tables_at runnable_meaning key.Runnable ms) }
@@ -257,7 +262,7 @@ fn runnables(
         version,
         place,
         MOST_RUNNABLES,
-        value_at(table, Key::Runnable),
+        found.value_at(Key::Runnable),
     )
 }
 
@@ -275,15 +280,15 @@ fn task(alloc: Global, version: u64, place: Place, table: &Table) -> Result<Task
         Key::Deadline,
         Key::Runnable,
     ];
-    has_only(place, table, &keys)?;
+    let found = Fields::of_only(place, table, &keys)?;
     Ok(TaskDef {
-        name: fields::name(place, table, Key::Name)?,
-        core: fields::name(place, table, Key::Core)?,
-        stimulus: fields::name(place, table, Key::Stimulus)?,
-        priority: fields::number(place, table, Key::Priority, 0, MOST_PRIORITY)?,
-        access: fields::access(place, table, Key::Access)?,
-        deadline: fields::number_if(place, table, Key::Deadline, 1, MOST_TICKS)?,
-        runnables: runnables(alloc, version, place, table)?,
+        name: fields::name(place, &found, Key::Name)?,
+        core: fields::name(place, &found, Key::Core)?,
+        stimulus: fields::name(place, &found, Key::Stimulus)?,
+        priority: fields::number(place, &found, Key::Priority, 0, MOST_PRIORITY)?,
+        access: fields::access(place, &found, Key::Access)?,
+        deadline: fields::number_if(place, &found, Key::Deadline, 1, MOST_TICKS)?,
+        runnables: runnables(alloc, version, place, &found)?,
     })
 }
 
@@ -292,11 +297,12 @@ fn chain(alloc: Global, version: u64, place: Place, table: &Table) -> Result<Cha
     ensures { let ms = table_view table.now in
         Answers result (fields_checks chain_fields place ms) (chain_meaning ms) }
 {
-    has_only(place, table, &[Key::Name, Key::Runnables, Key::Labels])?;
+    let keys = [Key::Name, Key::Runnables, Key::Labels];
+    let found = Fields::of_only(place, table, &keys)?;
     Ok(ChainDef {
-        name: fields::name(place, table, Key::Name)?,
-        runnables: names(alloc, version, place, table, Key::Runnables, MOST_STEPS)?,
-        labels: names(alloc, version, place, table, Key::Labels, MOST_HOPS)?,
+        name: fields::name(place, &found, Key::Name)?,
+        runnables: names(alloc, version, place, &found, Key::Runnables, MOST_STEPS)?,
+        labels: names(alloc, version, place, &found, Key::Labels, MOST_HOPS)?,
     })
 }
 
@@ -305,11 +311,12 @@ fn requirement(place: Place, table: &Table) -> Result<RequirementDef, ModelFault
     ensures { let ms = table_view table.now in
         Answers result (fields_checks requirement_fields place ms) (requirement_meaning ms) }
 {
-    has_only(place, table, &[Key::Name, Key::Chain, Key::Kind, Key::Most])?;
+    let keys = [Key::Name, Key::Chain, Key::Kind, Key::Most];
+    let found = Fields::of_only(place, table, &keys)?;
     Ok(RequirementDef {
-        name: fields::name(place, table, Key::Name)?,
-        chain: fields::name(place, table, Key::Chain)?,
-        kind: fields::length(place, table, Key::Kind)?,
-        most: fields::number(place, table, Key::Most, 0, MOST_REQUIRED)?,
+        name: fields::name(place, &found, Key::Name)?,
+        chain: fields::name(place, &found, Key::Chain)?,
+        kind: fields::length(place, &found, Key::Kind)?,
+        most: fields::number(place, &found, Key::Most, 0, MOST_REQUIRED)?,
     })
 }

@@ -6,18 +6,19 @@ ghost use Rattle.cl_model.specs.Reading.Checks.{a_name, a_number, a_boolean, a_w
 ghost use Rattle.cl_model.specs.Reading.Meanings.{text_at, number_at, number_or, number_if, is_set, word_at};
 ghost use Rattle.cl_model.specs.Reading.Tables.{access_words, length_words};
 ghost use Rattle.cl_model.specs.Answers.{Answers};
+ghost use Rattle.cl_read.specs.Inner.Fields.{AreFieldsFound};
 
-use crate::keys::value_at;
+use crate::keys::Fields;
 use crate::values;
 use cl_model::{AccessKind, Code, Key, LengthKind, ModelFault, Name, Place};
-use toml::Table;
 
-pub(crate) fn name(place: Place, table: &Table, key: Key) -> Result<Name, ModelFault>
-    ensures { let ms = table_view table.now in
+pub(crate) fn name(place: Place, fields: &Fields<'_>, key: Key) -> Result<Name, ModelFault>
+    requires { AreFieldsFound fields.now }
+    ensures { let ms = table_view fields.now.table.now in
         Answers result (field_checks place ms (required key a_name)) (text_at key ms) }
 {
     let place = place.at_key(key);
-    match value_at(table, key) {
+    match fields.value_at(key) {
         Some(value) => values::name(place, value),
         None => Err(ModelFault::refused(Code::M5, place)),
     }
@@ -25,16 +26,17 @@ pub(crate) fn name(place: Place, table: &Table, key: Key) -> Result<Name, ModelF
 
 pub(crate) fn number(
     place: Place,
-    table: &Table,
+    fields: &Fields<'_>,
     key: Key,
     low: u64,
     high: u64,
 ) -> Result<u64, ModelFault>
-    ensures { let ms = table_view table.now in
+    requires { AreFieldsFound fields.now }
+    ensures { let ms = table_view fields.now.table.now in
         Answers result (field_checks place ms (required key (a_number low high))) (number_at key ms) }
 {
     let place = place.at_key(key);
-    match value_at(table, key) {
+    match fields.value_at(key) {
         Some(value) => values::number(place, low, high, value),
         None => Err(ModelFault::refused(Code::M5, place)),
     }
@@ -43,14 +45,15 @@ pub(crate) fn number(
 /// A number up to `high`, 0 where the key is absent.
 pub(crate) fn number_or_zero(
     place: Place,
-    table: &Table,
+    fields: &Fields<'_>,
     key: Key,
     high: u64,
 ) -> Result<u64, ModelFault>
-    ensures { let ms = table_view table.now in
+    requires { AreFieldsFound fields.now }
+    ensures { let ms = table_view fields.now.table.now in
         Answers result (field_checks place ms (optional key (a_number 0 high))) (number_or 0 key ms) }
 {
-    match value_at(table, key) {
+    match fields.value_at(key) {
         Some(value) => values::number(place.at_key(key), 0, high, value),
         None => Ok(0),
     }
@@ -59,52 +62,56 @@ pub(crate) fn number_or_zero(
 /// A number from `low` to `high`, or none where the key is absent.
 pub(crate) fn number_if(
     place: Place,
-    table: &Table,
+    fields: &Fields<'_>,
     key: Key,
     low: u64,
     high: u64,
 ) -> Result<Option<u64>, ModelFault>
-    ensures { let ms = table_view table.now in
+    requires { AreFieldsFound fields.now }
+    ensures { let ms = table_view fields.now.table.now in
         Answers result (field_checks place ms (optional key (a_number low high))) (number_if key ms) }
 {
-    match value_at(table, key) {
+    match fields.value_at(key) {
         Some(value) => Ok(Some(values::number(place.at_key(key), low, high, value)?)),
         None => Ok(None),
     }
 }
 
 /// Whether true stands at a key, false where the key is absent.
-pub(crate) fn is_set(place: Place, table: &Table, key: Key) -> Result<bool, ModelFault>
-    ensures { let ms = table_view table.now in
+pub(crate) fn is_set(place: Place, fields: &Fields<'_>, key: Key) -> Result<bool, ModelFault>
+    requires { AreFieldsFound fields.now }
+    ensures { let ms = table_view fields.now.table.now in
         Answers result (field_checks place ms (optional key a_boolean)) (is_set key ms) }
 {
-    match value_at(table, key) {
+    match fields.value_at(key) {
         Some(value) => values::boolean(place.at_key(key), value),
         None => Ok(false),
     }
 }
 
-pub(crate) fn access(place: Place, table: &Table, key: Key) -> Result<AccessKind, ModelFault>
-    ensures { let ms = table_view table.now in
+pub(crate) fn access(place: Place, fields: &Fields<'_>, key: Key) -> Result<AccessKind, ModelFault>
+    requires { AreFieldsFound fields.now }
+    ensures { let ms = table_view fields.now.table.now in
         Answers result
         (field_checks place ms (required key (a_word access_words)))
         (word_at access_words Explicit key ms) }
 {
     let place = place.at_key(key);
-    match value_at(table, key) {
+    match fields.value_at(key) {
         Some(value) => values::access(place, value),
         None => Err(ModelFault::refused(Code::M5, place)),
     }
 }
 
-pub(crate) fn length(place: Place, table: &Table, key: Key) -> Result<LengthKind, ModelFault>
-    ensures { let ms = table_view table.now in
+pub(crate) fn length(place: Place, fields: &Fields<'_>, key: Key) -> Result<LengthKind, ModelFault>
+    requires { AreFieldsFound fields.now }
+    ensures { let ms = table_view fields.now.table.now in
         Answers result
         (field_checks place ms (required key (a_word length_words)))
         (word_at length_words Reaction key ms) }
 {
     let place = place.at_key(key);
-    match value_at(table, key) {
+    match fields.value_at(key) {
         Some(value) => values::length(place, value),
         None => Err(ModelFault::refused(Code::M5, place)),
     }

@@ -1,17 +1,18 @@
 //! The keys of a table.
-ghost use Rattle.std.specs.Prelude.{◌≡◌, option_map, string_bytes};
-ghost use Rattle.std.specs.BTreeMap.{keys as words_in};
-ghost use Rattle.std.specs.List.{list_any, list_all};
-ghost use Rattle.std.specs.Str.{bytes_eq};
+ghost use Rattle.std.specs.Prelude.{◌≡◌, ◌≤◌, length, option_map, position, slice_get, Some, IsTrue, IfOk, IfSome};
 ghost use Rattle.toml.specs.View.{view, table_view};
 ghost use Rattle.cl_model.specs.declared.refusal.Code.TheVariants.{M4};
-ghost use Rattle.cl_model.specs.Place.{key_text};
 ghost use Rattle.cl_model.specs.Refusals.{unless};
 ghost use Rattle.cl_model.specs.Reading.Checks.{value_at, has_only};
-ghost use Rattle.cl_model.specs.Answers.{Answers};
+ghost use Rattle.cl_model.specs.Answers.{Passes};
+ghost use Rattle.cl_read.specs.Inner.Fields.{is_word, are_apart, AreValuesAt, AreNone, AreFieldsFound, data_of, first_of};
+ghost use Rattle.cl_read.specs.declared.keys.TheConstants as constants;
 
-use cl_model::{Code, Key, ModelFault, Place, refuse_unless};
+use cl_model::{Code, Key, ModelFault, Place};
 use toml::{Table, Value};
+
+/// The most keys that a table may have.
+const MOST_KEYS: usize = 8;
 
 /// The value at a key, if the key is there.
 pub(crate) fn value_at(table: &Table, key: Key) -> Option<&Value>
@@ -20,21 +21,105 @@ pub(crate) fn value_at(table: &Table, key: Key) -> Option<&Value>
     table.get(key.word())
 }
 
-fn is_among(keys: &[Key], word: &str) -> bool
-    ensures { result ≡ list_any (λ key. bytes_eq (key_text key) word.now) keys.now }
+/// The place of a word among these keys.
+fn place_of(keys: &[Key], word: &str) -> Option<usize>
+    ensures { result ≡ position (is_word word.now) keys.now }
 {
-    keys.iter().any(|key| key.word() == word)
+    keys.iter().position(|key| key.word() == word)
 }
 
-fn are_all_among(keys: &[Key], table: &Table) -> bool
-    ensures { result ≡ list_all (λ word. list_any (λ key. bytes_eq (key_text key) (string_bytes word)) keys.now) (words_in table.now) }
+/// The place of a key among these keys.
+fn place_of_key(keys: &[Key], key: Key) -> Option<usize>
+    ensures { IfSome result (λ place. slice_get keys.now place ≡ Some key) }
 {
-    table.keys().all(|word| is_among(keys, word.as_str()))
+    for (place, known) in keys.iter().enumerate() {
+        if *known == key {
+            return Some(place);
+        }
+    }
+    None
 }
 
-/// Refuses a table that has another key.
-pub(crate) fn has_only(place: Place, table: &Table, keys: &[Key]) -> Result<(), ModelFault>
-    ensures { Answers result (unless (has_only keys.now (table_view table.now)) M4 place) tt }
+/// The value that came first.
+fn first_of<'a>(earlier: Option<&'a Value>, value: &'a Value) -> Option<&'a Value>
+    ensures { data_of result ≡ first_of (data_of earlier.entry) (view value.now) }
 {
-    refuse_unless(are_all_among(keys, table), Code::M4, place)
+    match earlier {
+        Some(earlier) => Some(earlier),
+        None => Some(value),
+    }
+}
+
+/// Finds the values at these keys, in one pass over the table. Tells whether the table has no other key.
+fn find<'a>(keys: &[Key], table: &'a Table, values: &mut [Option<&'a Value>]) -> bool
+    requires few { length keys.now ≤ length values.old }
+    requires apart { IsTrue (are_apart keys.now) }
+    requires none { AreNone values.old }
+    ensures only { result ≡ has_only keys.now (table_view table.now) }
+    ensures values { IsTrue result → AreValuesAt keys.now (table_view table.now) values.new }
+{
+    for (word, value) in table {
+        match place_of(keys, word.as_str()) {
+            Some(place) => values[place] = first_of(values[place], value),
+            None => return false,
+        }
+    }
+    true
+}
+
+/// The fields of a table, where the values at some keys are found already.
+#[derive(Clone, Copy)]
+pub(crate) struct Fields<'a> {
+    table: &'a Table,
+    keys: &'a [Key],
+    values: [Option<&'a Value>; MOST_KEYS],
+}
+
+impl<'a> Fields<'a> {
+    /// The fields of a table that may have any keys.
+    pub fn of_any(table: &'a Table) -> Fields<'a>
+        ensures table { result.table.now ≡ table.now }
+        ensures found { AreFieldsFound result }
+    {
+        Fields {
+            table,
+            keys: &[],
+            values: [None; MOST_KEYS],
+        }
+    }
+
+    /// The fields of a table at these keys. A table that has another key is refused.
+    pub fn of_only(
+        place: Place,
+        table: &'a Table,
+        keys: &'a [Key],
+    ) -> Result<Fields<'a>, ModelFault>
+        requires few { length keys.now ≤ constants.MOST_KEYS }
+        requires apart { IsTrue (are_apart keys.now) }
+        ensures checked { Passes result (unless (has_only keys.now (table_view table.now)) M4 place) }
+        ensures table { IfOk result (λ fields. fields.table.now ≡ table.now) }
+        ensures found { IfOk result AreFieldsFound }
+    {
+        let mut values = [None; MOST_KEYS];
+        if !find(keys, table, &mut values) {
+            return Err(ModelFault::refused(Code::M4, place));
+        }
+        Ok(Fields {
+            table,
+            keys,
+            values,
+        })
+    }
+
+    /// The value at a key, if the key is there. Only a key that the table was not asked for is looked up now.
+    pub fn value_at(&self, key: Key) -> Option<&'a Value>
+        requires { AreFieldsFound self.now }
+        ensures { data_of result ≡ value_at key (table_view self.now.table.now) }
+    {
+        let values = &self.values[..];
+        match place_of_key(self.keys, key) {
+            Some(place) => values[place],
+            None => value_at(self.table, key),
+        }
+    }
 }

@@ -12,7 +12,7 @@ ghost use Rattle.cl_model.specs.Answers.{Answers};
 
 use crate::arrays::Member;
 use crate::fields;
-use crate::keys::{has_only, value_at};
+use crate::keys::{Fields, value_at};
 use crate::values::table_in;
 use cl_model::{
     Code, Key, LEAST_JOBS_OF_BURST, MOST_JOBS_OF_BURST, MOST_TICKS, ModelFault, Place, StimulusDef,
@@ -48,7 +48,7 @@ fn stimulus(version: u64, place: Place, table: &Table) -> Result<StimulusDef, Mo
         Answers result (stimulus_entry_checks version place ms) (stimulus_meaning version ms) }
 {
     Ok(StimulusDef {
-        name: fields::name(place, table, Key::Name)?,
+        name: fields::name(place, &Fields::of_any(table), Key::Name)?,
         kind: kind(version, place, table)?,
     })
 }
@@ -96,11 +96,11 @@ fn periodic(place: Place, table: &Table) -> Result<StimulusKind, ModelFault>
         Answers result (form_checks place ms (Some periodic_form)) (periodic_form.meaning ms) }
 {
     let keys = [Key::Name, Key::Kind, Key::Period, Key::Offset, Key::Jitter];
-    has_only(place, table, &keys)?;
+    let found = Fields::of_only(place, table, &keys)?;
     Ok(StimulusKind::Periodic {
-        period: fields::number(place, table, Key::Period, 1, MOST_TICKS)?,
-        offset: fields::number_or_zero(place, table, Key::Offset, MOST_TICKS)?,
-        jitter: fields::number_or_zero(place, table, Key::Jitter, MOST_TICKS)?,
+        period: fields::number(place, &found, Key::Period, 1, MOST_TICKS)?,
+        offset: fields::number_or_zero(place, &found, Key::Offset, MOST_TICKS)?,
+        jitter: fields::number_or_zero(place, &found, Key::Jitter, MOST_TICKS)?,
     })
 }
 
@@ -109,14 +109,11 @@ fn sporadic(place: Place, table: &Table) -> Result<StimulusKind, ModelFault>
     ensures { let ms = table_view table.now in
         Answers result (form_checks place ms (Some sporadic_form)) (sporadic_form.meaning ms) }
 {
-    has_only(
-        place,
-        table,
-        &[Key::Name, Key::Kind, Key::Least, Key::Greatest],
-    )?;
+    let keys = [Key::Name, Key::Kind, Key::Least, Key::Greatest];
+    let found = Fields::of_only(place, table, &keys)?;
     Ok(StimulusKind::Sporadic {
-        least: fields::number(place, table, Key::Least, 1, MOST_TICKS)?,
-        greatest: fields::number(place, table, Key::Greatest, 1, MOST_TICKS)?,
+        least: fields::number(place, &found, Key::Least, 1, MOST_TICKS)?,
+        greatest: fields::number(place, &found, Key::Greatest, 1, MOST_TICKS)?,
     })
 }
 
@@ -133,17 +130,17 @@ fn burst(place: Place, table: &Table) -> Result<StimulusKind, ModelFault>
         Key::Count,
         Key::Distance,
     ];
-    has_only(place, table, &keys)?;
+    let found = Fields::of_only(place, table, &keys)?;
     Ok(StimulusKind::Burst {
-        period: fields::number(place, table, Key::Period, 1, MOST_TICKS)?,
-        offset: fields::number_or_zero(place, table, Key::Offset, MOST_TICKS)?,
+        period: fields::number(place, &found, Key::Period, 1, MOST_TICKS)?,
+        offset: fields::number_or_zero(place, &found, Key::Offset, MOST_TICKS)?,
         count: fields::number(
             place,
-            table,
+            &found,
             Key::Count,
             LEAST_JOBS_OF_BURST,
             MOST_JOBS_OF_BURST,
         )?,
-        distance: fields::number(place, table, Key::Distance, 1, MOST_TICKS)?,
+        distance: fields::number(place, &found, Key::Distance, 1, MOST_TICKS)?,
     })
 }

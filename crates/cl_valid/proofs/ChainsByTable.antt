@@ -1,5 +1,5 @@
 -- The checks of chains over tables are those of the model.
-use Rattle.std.proofs.Common.{◌≡◌, ℕ, ◌+◌, not, ◌||◌, List, [], ◌++◌, map, Option, Some, None, refl, ap, ◌∙◌}
+use Rattle.std.proofs.Common.{◌≡◌, ℕ, ◌+◌, not, ◌||◌, List, [], ◌++◌, map, Option, Some, None, refl, sym, ap, ◌∙◌}
 use Rattle.std.specs.Prelude.{slice_get}
 use Rattle.std.specs.Option.{option_map, option_and_then}
 use Rattle.std.proofs.lemmas.Option.{slice_get-map}
@@ -16,7 +16,7 @@ use Rattle.cl_model.specs.Refusals.{when, each}
 use Rattle.cl_model.proofs.Refused.{each_same}
 use Rattle.cl_model.specs.Validity.{lengths_check, step_of, misses_label, hop_check, chain_check}
 use Rattle.cl_valid.specs.declared.runnables.LabelUse.{LabelUse}
-use Rattle.cl_valid.specs.Inner.ChainsByTable.{use_of_step, misses_use, use_hop_check, known_steps_check, use_hops_check, use_chain_check}
+use Rattle.cl_valid.specs.Inner.ChainsByTable.{AreNumbersOf, use_of_number, number_hop_check, use_of_step, misses_use, use_hop_check, known_steps_check, use_hops_check, use_chain_check}
 use Rattle.cl_valid.specs.Inner.Tables.{names_of, use_of, uses_of}
 use Rattle.cl_valid.specs.declared.names.Names.{Names}
 
@@ -35,6 +35,30 @@ writes_is label (Some r) = refl
 reads_is : (label : List ℕ) (step : Option RunnableDef) → is_some_and (option_map use_of step) (λ reader. not (has_name label reader.reads)) ≡ is_some_and step (λ reader. not (has_name label reader.reads))
 reads_is label None = refl
 reads_is label (Some r) = refl
+
+number_is : (runnables : List (List ℕ)) (uses : List LabelUse) (number : Option ℕ) (name : Option (List ℕ))
+    → option_map (λ n. Some n) number ≡ option_map (λ n. index_of n runnables) name
+    → option_and_then (slice_get uses) number ≡ option_and_then (λ n. entry_named n runnables uses) name
+number_is runnables uses None None same = refl
+number_is runnables uses None (Some n) same = cc
+number_is runnables uses (Some k) None same = cc
+number_is runnables uses (Some k) (Some n) same = ap (option_and_then (slice_get uses)) (let e : Some k ≡ index_of n runnables = cc in e)
+
+-- what a step reads and writes is found by its number
+step_by_number : (runnables : List (List ℕ)) (uses : List LabelUse) (chain : ChainDef) (numbers : List ℕ) (k : ℕ)
+    → AreNumbersOf runnables chain.runnables numbers → use_of_number uses numbers k ≡ use_of_step runnables uses chain k
+step_by_number runnables uses chain numbers k are =
+    number_is runnables uses (slice_get numbers k) (slice_get chain.runnables k)
+    (sym (slice_get-map (λ n. Some n) numbers k) ∙ ap (λ l. slice_get l k) are ∙ slice_get-map (λ n. index_of n runnables) chain.runnables k)
+
+-- M45 by the numbers of the steps
+pub hops_by_number : (runnables : List (List ℕ)) (uses : List LabelUse) (chain : ChainDef) (numbers : List ℕ) (place : Place)
+    → AreNumbersOf runnables chain.runnables numbers
+    → each (number_hop_check uses numbers place) chain.labels ≡ each (use_hop_check runnables uses chain place) chain.labels
+unfolding use_hop_check number_hop_check
+hops_by_number runnables uses chain numbers place are =
+    each_same 0 (number_hop_check uses numbers place) (use_hop_check runnables uses chain place) chain.labels
+    (λ k label. rw (step_by_number runnables uses chain numbers k are, step_by_number runnables uses chain numbers (k + 1) are) refl)
 
 misses_is : (model : SystemModel) (chain : ChainDef) (k : ℕ) (label : List ℕ)
     → misses_use (use_of_step (runnable_names (all_runnables model.tasks)) (map use_of (all_runnables model.tasks)) chain k)

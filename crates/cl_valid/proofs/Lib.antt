@@ -3,3 +3,4 @@ pub mod NamesByPlace
 pub mod TasksByShare
 pub mod UsesByTask
 pub mod ChainsByTable
+pub mod FewOrMany

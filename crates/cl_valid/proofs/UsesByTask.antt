@@ -82,10 +82,6 @@ count_is model i task n old new place lt is kept added counted here =
     let number : n ≡ length (all_runnables (take (i + 1) model.tasks)) = counted ∙ ap length all ∙ length-map (all_runnables (take (i + 1) model.tasks)) use_of in
     ap (λ k. when (nat_lt MOST_RUNNABLES_OF_MODEL k) M41 place) number ∙ ap (when (nat_lt MOST_RUNNABLES_OF_MODEL (length (all_runnables (take (i + 1) model.tasks)))) M41) here
 
--- what is kept of a runnable
-pub use_is : (runnable : RunnableDef) (reads writes : List (List ℕ)) → reads ≡ runnable.reads → writes ≡ runnable.writes → record { reads = reads; writes = writes } ≡ use_of runnable
-use_is runnable reads writes a b = rw (a, b) refl
-
 -- what is kept of tasks
 pub kept_is : (model : SystemModel) (tasks : List TaskDef) (shares : List (List Share)) (written : List (List ℕ)) (each : List LabelUse) → shares ≡ shares_by_core model tasks → written ≡ labels_written (all_runnables tasks) → each ≡ uses_of (all_runnables tasks)
     → record { shares = shares; uses = record { written = written; each = each } } ≡ kept_of model tasks

@@ -1,13 +1,13 @@
 //! The checks of chains and requirements.
-ghost use Rattle.std.specs.Prelude.{◌≡◌, All, ℕ, List, ◌+◌, ◌<◌, ◌^◌, not, map, length};
+ghost use Rattle.std.specs.Prelude.{◌≡◌, All, ℕ, List, ◌+◌, ◌<◌, ◌^◌, [], not, map, length, Some, IfOk, OnOk};
 ghost use Rattle.std.specs.Option.{option_copied};
-ghost use Rattle.cl_model.specs.Answers.{Answers};
+ghost use Rattle.cl_model.specs.Answers.{Answers, Passes};
 ghost use Rattle.cl_model.specs.declared.chain.ChainDef.{ChainDef};
-ghost use Rattle.cl_model.specs.Named.{has_name, is_some_and, runnable_names, all_runnables, chain_names};
+ghost use Rattle.cl_model.specs.Named.{has_name, index_of, is_some_and, runnable_names, all_runnables, chain_names};
 ghost use Rattle.cl_model.specs.Ranges.{IsInRange, IsChainInRange};
 ghost use Rattle.cl_model.specs.Refusals.{each};
 ghost use Rattle.cl_model.specs.Validity.{lengths_check, chain_check, requirement_check};
-ghost use Rattle.cl_valid.specs.Inner.ChainsByTable.{use_of_step, misses_use, known_step_check, use_hop_check, known_steps_check, use_hops_check, use_chain_check, known_chain_check};
+ghost use Rattle.cl_valid.specs.Inner.ChainsByTable.{AreNumbersOf, use_of_number, misses_use, known_step_check, number_hop_check, known_steps_check, use_hops_check, use_chain_check, known_chain_check};
 ghost use Rattle.cl_valid.specs.Inner.Tables.{names_of, uses_of};
 ghost use Rattle.cl_valid.specs.declared.runnables.LabelUse.{LabelUse};
 
@@ -18,19 +18,14 @@ use cl_model::{
     ChainDef, Code, Key, ModelFault, Name, NameSet, Part, Place, RequirementDef, SystemModel,
     refuse_unless, refuse_when,
 };
+use std::alloc::Global;
 
-/// What step k of a chain reads and writes, where it is known.
-fn step_of<'a>(
-    runnables: &NameSet,
-    uses: &'a [LabelUse],
-    chain: &ChainDef,
-    k: usize,
-) -> Option<&'a LabelUse>
-    ensures { option_copied result ≡ use_of_step runnables.now uses.now chain.now k }
+/// What step k of a chain reads and writes, where the steps have these numbers.
+fn step_of<'a>(uses: &'a [LabelUse], numbers: &[usize], k: usize) -> Option<&'a LabelUse>
+    ensures { option_copied result ≡ use_of_number uses.now numbers.now k }
 {
-    let name = chain.runnables.at(k)?;
-    let number = runnables.number_of(name)?;
-    uses.get(number)
+    let number = numbers.get(k)?;
+    uses.get(*number)
 }
 
 /// Whether a step is known and doesn't write a label.
@@ -60,15 +55,25 @@ fn misses_label(writer: Option<&LabelUse>, reader: Option<&LabelUse>, label: &Na
     misses_write(writer, label) || misses_read(reader, label)
 }
 
-fn check_step(runnables: &NameSet, place: Place, k: usize, name: &Name) -> Result<(), ModelFault>
+/// Checks M44 for step k: its number.
+fn step_number(
+    runnables: &NameSet,
+    place: Place,
+    k: usize,
+    name: &Name,
+) -> Result<usize, ModelFault>
     requires { k < 2 ^ 32 }
-    ensures { Answers result (known_step_check runnables.now place k name.now) tt }
+    ensures checked { Passes result (known_step_check runnables.now place k name.now) }
+    ensures number { IfOk result (λ number. index_of name.now runnables.now ≡ Some number) }
 {
-    refuse_unless(runnables.contains(name), Code::M44, at_spot(place, k))
+    match runnables.number_of(name) {
+        Some(number) => Ok(number),
+        None => Err(ModelFault::refused(Code::M44, at_spot(place, k))),
+    }
 }
 
 /// Checks that a label is handed over from step k, the writer, to the next one, the reader.
-#[tactic(auto, unfolding(crate::specs::Inner::ChainsByTable::use_hop_check))]
+#[tactic(auto, unfolding(crate::specs::Inner::ChainsByTable::number_hop_check))]
 fn check_hop(
     writer: Option<&LabelUse>,
     reader: Option<&LabelUse>,
@@ -77,23 +82,30 @@ fn check_hop(
     label: &Name,
 ) -> Result<(), ModelFault>
     requires { k < 2 ^ 32 }
-    ensures { (runnables : List (List ℕ)) (uses : List LabelUse) (chain : ChainDef)
-        → option_copied writer.entry ≡ use_of_step runnables uses chain k
-        → option_copied reader.entry ≡ use_of_step runnables uses chain (k + 1)
-        → Answers result (use_hop_check runnables uses chain place k label.now) tt }
+    ensures { (uses : List LabelUse) (numbers : List ℕ)
+        → option_copied writer.entry ≡ use_of_number uses numbers k
+        → option_copied reader.entry ≡ use_of_number uses numbers (k + 1)
+        → Answers result (number_hop_check uses numbers place k label.now) tt }
 {
     let is_missed = misses_label(writer, reader, label);
     refuse_when(is_missed, Code::M45, at_spot(place, k))
 }
 
-/// Checks M44.
-#[tactic(auto, using(cl_model::proofs::FirstRefusals::loop_faults))]
-fn check_steps(runnables: &NameSet, place: Place, steps: &[Name]) -> Result<(), ModelFault>
-    requires { length steps.now < 2 ^ 32 }
-    ensures { Answers result (each (known_step_check runnables.now place) steps.now) tt }
+/// Checks M44, and adds the number of each step.
+fn add_numbers(
+    numbers: &mut Vec<usize>,
+    runnables: &NameSet,
+    place: Place,
+    steps: &[Name],
+) -> Result<(), ModelFault>
+    requires count { length steps.now < 2 ^ 32 }
+    requires empty { numbers.old.items ≡ [] }
+    ensures checked { Answers result (each (known_step_check runnables.now place) steps.now) tt }
+    ensures numbers { OnOk result (AreNumbersOf runnables.now steps.now numbers.new.items) }
 {
     for (k, name) in steps.iter().enumerate() {
-        check_step(runnables, place, k, name)?;
+        let number = step_number(runnables, place, k, name)?;
+        numbers.push(number)?;
     }
     Ok(())
 }
@@ -101,18 +113,17 @@ fn check_steps(runnables: &NameSet, place: Place, steps: &[Name]) -> Result<(), 
 /// Checks M45.
 #[tactic(auto, using(cl_model::proofs::FirstRefusals::loop_faults))]
 fn check_hops(
-    runnables: &NameSet,
     uses: &[LabelUse],
+    numbers: &[usize],
     place: Place,
-    chain: &ChainDef,
+    labels: &[Name],
 ) -> Result<(), ModelFault>
-    requires { length chain.now.labels < 2 ^ 32 }
-    ensures { Answers result (each (use_hop_check runnables.now uses.now chain.now place) chain.now.labels) tt }
+    requires { length labels.now < 2 ^ 32 }
+    ensures { Answers result (each (number_hop_check uses.now numbers.now place) labels.now) tt }
 {
-    let labels = chain.labels.as_slice();
-    let mut writer = step_of(runnables, uses, chain, 0);
+    let mut writer = step_of(uses, numbers, 0);
     for (k, label) in labels.iter().enumerate() {
-        let reader = step_of(runnables, uses, chain, k + 1);
+        let reader = step_of(uses, numbers, k + 1);
         check_hop(writer, reader, place, k, label)?;
         writer = reader;
     }
@@ -129,32 +140,43 @@ fn check_lengths(i: usize, chain: &ChainDef) -> Result<(), ModelFault>
     refuse_unless(fits, Code::M43, place)
 }
 
-fn check_all_steps(runnables: &NameSet, i: usize, chain: &ChainDef) -> Result<(), ModelFault>
+/// Checks M44: the numbers of the steps.
+fn step_numbers(
+    alloc: Global,
+    runnables: &NameSet,
+    i: usize,
+    chain: &ChainDef,
+) -> Result<Vec<usize>, ModelFault>
     requires item { i < 2 ^ 32 }
     requires chain { IsChainInRange chain.now }
-    ensures { Answers result (known_steps_check runnables.now i chain.now) tt }
+    ensures checked { Passes result (known_steps_check runnables.now i chain.now) }
+    ensures numbers { IfOk result (λ numbers. AreNumbersOf runnables.now chain.now.runnables numbers.items) }
 {
     let place = entry_of(Part::Chain, i).at_key(Key::Runnables);
-    check_steps(runnables, place, chain.runnables.as_slice())
+    let mut numbers = Vec::with_capacity(alloc, chain.runnables.len())?;
+    add_numbers(&mut numbers, runnables, place, chain.runnables.as_slice())?;
+    Ok(numbers)
 }
 
 fn check_all_hops(
-    runnables: &NameSet,
     uses: &[LabelUse],
+    numbers: &[usize],
     i: usize,
     chain: &ChainDef,
 ) -> Result<(), ModelFault>
     requires item { i < 2 ^ 32 }
     requires chain { IsChainInRange chain.now }
-    ensures { Answers result (use_hops_check runnables.now uses.now i chain.now) tt }
+    ensures { (runnables : List (List ℕ)) → AreNumbersOf runnables chain.now.runnables numbers.now
+        → Answers result (use_hops_check runnables uses.now i chain.now) tt }
 {
     let place = entry_of(Part::Chain, i).at_key(Key::Labels);
-    check_hops(runnables, uses, place, chain)
+    check_hops(uses, numbers, place, chain.labels.as_slice())
 }
 
 /// Checks M43 to M45 for chain i.
 #[tactic(auto, using(cl_model::proofs::FirstRefusals::faults), unfolding(crate::specs::Inner::ChainsByTable::use_chain_check))]
 fn check_chain(
+    alloc: Global,
     runnables: &NameSet,
     uses: &[LabelUse],
     i: usize,
@@ -165,14 +187,15 @@ fn check_chain(
     ensures { Answers result (use_chain_check runnables.now uses.now i chain.now) tt }
 {
     check_lengths(i, chain)?;
-    check_all_steps(runnables, i, chain)?;
-    check_all_hops(runnables, uses, i, chain)?;
+    let numbers = step_numbers(alloc, runnables, i, chain)?;
+    check_all_hops(uses, numbers.as_slice(), i, chain)?;
     Ok(())
 }
 
 /// Checks M43 to M45 for each of the chains.
 #[tactic(auto, using(cl_model::proofs::FirstRefusals::loop_faults))]
 fn check_all_chains(
+    alloc: Global,
     runnables: &NameSet,
     uses: &[LabelUse],
     chains: &[ChainDef],
@@ -182,19 +205,24 @@ fn check_all_chains(
     ensures { Answers result (each (use_chain_check runnables.now uses.now) chains.now) tt }
 {
     for (i, chain) in chains.iter().enumerate() {
-        check_chain(runnables, uses, i, chain)?;
+        check_chain(alloc, runnables, uses, i, chain)?;
     }
     Ok(())
 }
 
 /// Checks M43 to M45.
-pub fn check_chains(model: &SystemModel, names: &Names, uses: &[LabelUse]) -> Result<(), ModelFault>
+pub fn check_chains(
+    alloc: Global,
+    model: &SystemModel,
+    names: &Names,
+    uses: &[LabelUse],
+) -> Result<(), ModelFault>
     requires in_range { IsInRange model.now }
     requires names { names.now ≡ names_of model.now }
     requires uses { uses.now ≡ uses_of (all_runnables model.now.tasks) }
     ensures { Answers result (each (chain_check model.now) model.now.chains) tt }
 {
-    check_all_chains(&names.runnables, uses, model.chains.as_slice())
+    check_all_chains(alloc, &names.runnables, uses, model.chains.as_slice())
 }
 
 fn check_requirement(

@@ -5,6 +5,7 @@ use cl_model::ModelFault;
 
 mod chains;
 mod deadlines;
+mod labels;
 mod names;
 mod places;
 mod ranges;

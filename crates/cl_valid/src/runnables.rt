@@ -1,28 +1,34 @@
 //! The checks of what runnables read and write.
-ghost use Rattle.std.specs.Prelude.{◌≡◌, ◌<◌, ◌^◌, ◌++◌, length, map, IfOk, OnOk};
+ghost use Rattle.std.specs.Prelude.{◌≡◌, ◌<◌, ◌^◌, ◌++◌, [], length, map, OnOk};
 ghost use Rattle.cl_model.specs.declared.place.Key.TheVariants as keys;
 ghost use Rattle.cl_model.specs.Answers.{Answers};
 ghost use Rattle.cl_model.specs.Named.{labels_written};
 ghost use Rattle.cl_model.specs.NameSets.{AreNew};
-ghost use Rattle.cl_model.specs.Place.{at_key};
+ghost use Rattle.cl_model.specs.Place.{at_key, at_spot as spot};
+ghost use Rattle.cl_model.specs.declared.refusal.Code.TheVariants.{M39};
+ghost use Rattle.cl_model.specs.ValidNames.{repeat_check};
 ghost use Rattle.cl_model.specs.Ranges.{IsRunnableInRange, IsTaskInRange};
 ghost use Rattle.cl_model.specs.Refusals.{each};
 ghost use Rattle.cl_model.specs.ValidTasks.{label_check, writer_check, times_check, reads_check, writes_check, twice_check, contest_check, runnable_checks, body_checks};
 ghost use Rattle.cl_valid.specs.Inner.Tables.{use_of, uses_of};
 
+use crate::labels::Labels;
 use crate::places::{at_spot, at_sub};
 use cl_model::{
-    Code, Key, List, ModelFault, Name, NameSet, Place, RunnableDef, TaskDef, add_new,
+    Code, Key, List, ModelFault, Name, NameSet, Place, RunnableDef, TaskDef, TryCopy, add_new,
     refuse_unless, refuse_when,
 };
 use cl_time::NoMemory;
 use std::alloc::Global;
 
+/// So many labels are kept in a list, and compared pair by pair, sooner than they are put into a set.
+const FEW_LABELS: usize = 8;
+
 /// What one runnable reads and writes.
 #[derive(Drop)]
 pub struct LabelUse {
-    pub reads: NameSet,
-    pub writes: NameSet,
+    pub reads: Labels,
+    pub writes: Labels,
 }
 
 /// What the runnables so far read and write.
@@ -66,8 +72,30 @@ fn check_known(known: &NameSet, code: Code, place: Place, labels: &[Name]) -> Re
     Ok(())
 }
 
-/// Checks M39: the labels of a list, each of which stands there once.
-fn distinct(alloc: Global, place: Place, labels: &[Name]) -> Result<NameSet, ModelFault>
+/// Checks that label k of a list doesn't stand earlier in it.
+fn check_apart(place: Place, labels: &[Name], k: usize, label: &Name) -> Result<(), ModelFault>
+    requires within { k < length labels.now }
+    requires few { length labels.now < 2 ^ 32 }
+    ensures { Answers result (repeat_check M39 (λ n. spot n place) [] labels.now k label.now) tt }
+{
+    let is_earlier = labels[..k].contains(label);
+    refuse_when(is_earlier, Code::M39, at_spot(place, k))
+}
+
+/// Checks M39 pair by pair.
+#[tactic(auto, using(cl_model::proofs::FirstRefusals::loop_faults))]
+fn check_few(place: Place, labels: &[Name]) -> Result<(), ModelFault>
+    requires { length labels.now < 2 ^ 32 }
+    ensures { Answers result (twice_check place labels.now) tt }
+{
+    for (k, label) in labels.iter().enumerate() {
+        check_apart(place, labels, k, label)?;
+    }
+    Ok(())
+}
+
+/// Checks M39 by a set of the labels so far: the set of all of them.
+fn distinct_many(alloc: Global, place: Place, labels: &[Name]) -> Result<NameSet, ModelFault>
     requires { length labels.now < 2 ^ 32 }
     ensures { Answers result (twice_check place labels.now) labels.now }
 {
@@ -76,6 +104,29 @@ fn distinct(alloc: Global, place: Place, labels: &[Name]) -> Result<NameSet, Mod
         add_new(&mut set, label, Code::M39, at_spot(place, k))?;
     }
     Ok(set)
+}
+
+/// Checks M39 pair by pair: a list of the labels.
+fn distinct_few(alloc: Global, place: Place, labels: &List<Name>) -> Result<List<Name>, ModelFault>
+    requires { length labels.now < 2 ^ 32 }
+    ensures { Answers result (twice_check place labels.now) labels.now }
+{
+    check_few(place, labels.as_slice())?;
+    Ok(labels.try_copy(alloc)?)
+}
+
+/// Checks M39: the labels of a list, each of which stands there once.
+fn distinct(alloc: Global, place: Place, labels: &List<Name>) -> Result<Labels, ModelFault>
+    requires { length labels.now < 2 ^ 32 }
+    ensures { Answers result (twice_check place labels.now) labels.now }
+{
+    if labels.len() <= FEW_LABELS {
+        let few = distinct_few(alloc, place, labels)?;
+        Ok(Labels::few(alloc, few))
+    } else {
+        let many = distinct_many(alloc, place, labels.as_slice())?;
+        Ok(Labels::many(alloc, many))
+    }
 }
 
 /// Checks M40: no label is written yet.
@@ -124,26 +175,22 @@ fn check_writes(known: &NameSet, place: Place, runnable: &RunnableDef) -> Result
     check_known(known, Code::M38, place, runnable.writes.as_slice())
 }
 
-fn distinct_reads(
-    alloc: Global,
-    place: Place,
-    runnable: &RunnableDef,
-) -> Result<NameSet, ModelFault>
+fn distinct_reads(alloc: Global, place: Place, runnable: &RunnableDef) -> Result<Labels, ModelFault>
     requires { IsRunnableInRange runnable.now }
     ensures { Answers result (twice_check (at_key keys.Reads place) runnable.now.reads) runnable.now.reads }
 {
-    distinct(alloc, place.at_key(Key::Reads), runnable.reads.as_slice())
+    distinct(alloc, place.at_key(Key::Reads), &runnable.reads)
 }
 
 fn distinct_writes(
     alloc: Global,
     place: Place,
     runnable: &RunnableDef,
-) -> Result<NameSet, ModelFault>
+) -> Result<Labels, ModelFault>
     requires { IsRunnableInRange runnable.now }
     ensures { Answers result (twice_check (at_key keys.Writes place) runnable.now.writes) runnable.now.writes }
 {
-    distinct(alloc, place.at_key(Key::Writes), runnable.writes.as_slice())
+    distinct(alloc, place.at_key(Key::Writes), &runnable.writes)
 }
 
 fn check_contest(written: &NameSet, place: Place, runnable: &RunnableDef) -> Result<(), ModelFault>
@@ -154,7 +201,8 @@ fn check_contest(written: &NameSet, place: Place, runnable: &RunnableDef) -> Res
     check_unwritten(written, place, runnable.writes.as_slice())
 }
 
-/// Checks M36 to M40 for the runnable at a place.
+/// Checks M36 to M40 for the runnable at a place: what it reads and writes.
+#[tactic(auto, using(cl_model::proofs::FirstRefusals::faults), unfolding(cl_model::specs::ValidTasks::runnable_checks))]
 fn checked_use(
     alloc: Global,
     known: &NameSet,

@@ -19,7 +19,12 @@ use std::alloc::Global;
 
 /// Checks M42 to M46, after the tasks.
 #[tactic(auto, using(cl_model::proofs::FirstRefusals::faults))]
-fn check_links(model: &SystemModel, names: &Names, kept: &TasksSoFar) -> Result<(), ModelFault>
+fn check_links(
+    alloc: Global,
+    model: &SystemModel,
+    names: &Names,
+    kept: &TasksSoFar,
+) -> Result<(), ModelFault>
     requires in_range { IsInRange model.now }
     requires passed { task_checks model.now ≡ [] }
     requires names { names.now ≡ names_of model.now }
@@ -27,7 +32,7 @@ fn check_links(model: &SystemModel, names: &Names, kept: &TasksSoFar) -> Result<
     ensures { Answers result (link_checks model.now) tt }
 {
     check_deadlines(model, names, &kept.shares)?;
-    check_chains(model, names, kept.uses.each.as_slice())?;
+    check_chains(alloc, model, names, kept.uses.each.as_slice())?;
     check_requirements(model, names)?;
     Ok(())
 }
@@ -41,7 +46,7 @@ fn check_parts(alloc: Global, model: &SystemModel, names: &Names) -> Result<(), 
 {
     check_stimuli(model)?;
     let kept = kept_tasks(alloc, model, names)?;
-    check_links(model, names, &kept)
+    check_links(alloc, model, names, &kept)
 }
 
 /// Checks M20 to M47.

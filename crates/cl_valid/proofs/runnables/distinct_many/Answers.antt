@@ -3,7 +3,7 @@ use Rattle.std.proofs.lemmas.Result.{err_from_is_err_and}
 use Rattle.cl_model.specs.declared.refusal.Code.TheVariants.{M39}
 use Rattle.cl_model.specs.Place.{at_spot}
 use Rattle.cl_valid.proofs.AddedNames.{none_added, one_added, one_refused, all_pass, all_added}
-use Rattle.cl_valid.proofs.runnables.distinct.Goals as goal
+use Rattle.cl_valid.proofs.runnables.distinct_many.Goals as goal
 
 pub loop-k-init : goal.loop-k-init
 loop-k-init c = none_added M39 (λ k. at_spot k c.args.place) [] c.args.labels.now c.new-set.result c.new-set.ensures

@@ -2,7 +2,7 @@ use Rattle.std.proofs.Common.{[]}
 use Rattle.cl_model.specs.declared.refusal.Code.TheVariants.{M39}
 use Rattle.cl_model.specs.Place.{at_spot}
 use Rattle.cl_valid.proofs.AddedNames.{AreAdded}
-use Rattle.cl_valid.proofs.runnables.distinct.Given as goal
+use Rattle.cl_valid.proofs.runnables.distinct_many.Given as goal
 
 -- the labels so far are apart, and they are kept
 abbrev pub invariant-loop-k : goal.invariant-loop-k
