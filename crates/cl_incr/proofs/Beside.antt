@@ -1,46 +1,46 @@
--- An edit that adds or drops a task leaves the tasks of other cores their questions, and one that adds or drops a chain
--- leaves the others what was found of them.
-use Rattle.std.proofs.Common.{◌≡◌, ◌≢◌, ℕ, zero, suc, ◌<◌, ◌≤◌, inl, inr, Bool, false, cond, ◌==◌, List, [], ◌∷◌, ◌++◌, length, get_or, append-nil, refl, sym, ap, ◌∙◌, subst, arith, Ok}
-use Rattle.std.specs.Prelude.{map, filter, remove, All, Option, Some, None, IfSome, unwrap_or}
-use Rattle.std.proofs.lemmas.Bool.{cases_lt, ne_eqb}
-use Rattle.std.proofs.lemmas.List.{map-append, get_or_append_left, get_or_push, length_push}
+-- An edit that adds or drops a task leaves the tasks of other cores their questions, and each chain its groups. One that
+-- adds or drops a chain leaves the others what was found of them.
+use Rattle.std.proofs.Common.{◌≡◌, ◌≢◌, ℕ, zero, suc, ◌+◌, ◌-◌, ◌<◌, ◌≤◌, inl, inr, Bool, false, cond, ◌==◌, List, [], ◌∷◌, ◌++◌, length, get_or, append-nil, refl, sym, ap, ◌∙◌, subst, arith, Ok}
+use Rattle.std.specs.Prelude.{map, filter, remove, All}
+use Rattle.std.proofs.lemmas.Bool.{cases_lt, lt-ltb, le-ltb, ne_eqb}
+use Rattle.std.proofs.lemmas.List.{map-append, map-id, get_or_append_left, get_or_push, length_push}
 use Rattle.std.proofs.lemmas.List.Edits.{length-remove, get_or-remove_below, get_or-remove_above}
 use Rattle.std.proofs.lemmas.List.Elements.{filter-append}
+use Rattle.std.proofs.lemmas.Simd.{map-map}
 use Rattle.cl_model.specs.declared.model.SystemModel.{SystemModel}
 use Rattle.cl_model.specs.declared.chain.ChainDef.{ChainDef}
 use Rattle.cl_model.specs.declared.group.Group.{Group}
 use Rattle.cl_model.specs.declared.task.TaskDef.{TaskDef}
-use Rattle.cl_model.specs.ByNumber.{no_task, no_chain, core_of, chain_named}
+use Rattle.cl_model.specs.ByNumber.{no_task, no_chain, core_of}
 use Rattle.cl_model.specs.Changes.{with_new_task, without_task, with_new_chain, without_chain}
-use Rattle.cl_model.specs.Groups.{groups_of, groups_at}
+use Rattle.cl_model.specs.Groups.{groups_of, groups_at, IsGroupOf}
+use Rattle.cl_model.specs.TaskNumbers.{group_without}
 use Rattle.cl_model.specs.Validity.{IsValid}
+use Rattle.cl_model.proofs.AddedTasks.{maps_agree_on, groups_kept}
+use Rattle.cl_model.proofs.DroppedTasks.{groups_moved, groups_of_others_at}
+use Rattle.cl_model.proofs.GroupFacts.{groups_at_are}
 use Rattle.cl_runs.specs.SystemOf.{timing_of, system_of}
 use Rattle.cl_runs.specs.TaskTiming.{Timing, System, no_timing, timing_at}
 use Rattle.cl_runs.proofs.ModelSystem.{count_is}
 use Rattle.cl_resp.specs.Question.{question_of}
-use Rattle.cl_bound.specs.declared.answer.TaskAnswer.{TaskAnswer}
-use Rattle.cl_bound.specs.Answers.{answers_of, answer_at, answer_to}
-use Rattle.cl_analyse.specs.declared.findings.Findings.{Findings}
-use Rattle.cl_analyse.specs.Findings.{AreFindings}
+use Rattle.cl_bound.specs.Answers.{answers_of, answer_at}
 use Rattle.cl_edit.specs.declared.edit.Edit.{Edit}
 use Rattle.cl_edit.specs.declared.edit.Edit.TheVariants.{AddTask, DropTask, AddChain, DropChain}
 use Rattle.cl_edit.specs.Edited.{task_number, chain_number, with_edit, edited}
 use Rattle.cl_edit.proofs.EditedValid.{made_is}
 use Rattle.cl_incr.specs.declared.chains.ChainFindings.{ChainFindings}
-use Rattle.cl_incr.specs.declared.stays.Site.{Site}
 use Rattle.cl_incr.specs.Inner.Kept.{AreFoundOf}
-use Rattle.cl_incr.specs.Inner.Stays.{number_before, HadQuestion, StayOffCore, ChainsStay}
+use Rattle.cl_incr.specs.Inner.Reach.{number_before, moved_count, group_before, HadQuestion, StayOffCore, MovesTasks, ChainsStay, AddsChain, DropsChain}
 use Rattle.cl_incr.specs.Touched.{StandsAsBefore}
 use Rattle.cl_incr.proofs.SameCores.{on_core, same_question}
-use Rattle.cl_incr.proofs.KeptAnswers.{answer_count, kept_answer, found_before}
 use Rattle.cl_incr.proofs.Mended.{core_is}
-use Rattle.cl_incr.proofs.MovedChains.{before_below, before_above}
+use Rattle.cl_incr.proofs.NumbersBefore.{before_below, before_above, before_without}
 use Rattle.cl_incr.proofs.SameChains.{chain_answer_same, exact_answer_same}
 
 -- ---- lists with one item more or less
 
 module _ {X : Type 0} (xs : List X) (gone : ℕ) (d : X) (in_list : gone < length xs) where
-  without_at : (k : ℕ) → get_or (remove xs gone) k d ≡ get_or xs (number_before gone k) d
+  pub without_at : (k : ℕ) → get_or (remove xs gone) k d ≡ get_or xs (number_before gone k) d
   without_at k = elim (cases_lt k gone) [
     | inl below ↦ get_or-remove_below xs gone d k below in_list ∙ ap (λ n. get_or xs n d) (sym (before_below gone k below))
     | inr above ↦
@@ -48,7 +48,7 @@ module _ {X : Type 0} (xs : List X) (gone : ℕ) (d : X) (in_list : gone < lengt
         get_or-remove_above xs gone d k from in_list ∙ ap (λ n. get_or xs n d) (sym (before_above gone k from))
   ]
 
-  without_within : (k : ℕ) → k < length (remove xs gone) → number_before gone k < length xs
+  pub without_within : (k : ℕ) → k < length (remove xs gone) → number_before gone k < length xs
   without_within k within = elim (cases_lt k gone) [
     | inl below ↦ omega (arith, before_below gone k below, below, in_list)
     | inr above ↦
@@ -87,21 +87,30 @@ module _ (old new : SystemModel) (core gone : ℕ)
         same = same_question (system_of old) (system_of new) before (others before.core apart) ∙ ap (question_of (system_of new)) timing;
       }
 
--- where it was within the answers, the answer for it stands there
-module _ (old new : SystemModel) (answers : List TaskAnswer) (are : answers ≡ answers_of (system_of old)) (site : Option Site)
-    (stay : IfSome site (λ (s : Site). StayOffCore s.core s.gone old new)) (here : Site) (is : site ≡ Some here)
-    (task : ℕ) (is_task : task < length new.tasks) (off : core_of new task ≢ here.core) where
-  had : HadQuestion here.gone old new task
-  had = subst (λ (s : Option Site). IfSome s (λ (s : Site). StayOffCore s.core s.gone old new)) is stay task is_task off
+-- ---- groups
 
-  pub answer_within : number_before here.gone task < length answers
-  answer_within = omega (arith, had.within, answer_count old answers are)
+-- a map that leaves each item of a list as it is
+map_of_same : {X : Type 0} (f : X → X) (xs : List X) → All (λ x. f x ≡ x) xs → map f xs ≡ xs
+map_of_same f xs same = maps_agree_on f (λ x. x) xs same ∙ map-id xs
 
-  pub answer_beside : (before : ℕ) (found : TaskAnswer) → before ≡ number_before here.gone task → found ≡ get_or answers before found
-      → found ≡ answer_to (system_of new) (timing_at (system_of new) task)
-  answer_beside before found number at =
-      kept_answer old new task answers (number_before here.gone task) found are had.within
-      (at ∙ ap (λ (n : ℕ). get_or answers n found) number) had.same
+-- a group under a number
+with_number : (group : Group) (number : ℕ) → number ≡ group.task → record group { task = number } ≡ group
+with_number group number is = ap (λ (n : ℕ). record group { task = n }) is
+
+-- the groups of tasks below a number were the same
+before_of_known : (model : SystemModel) (gone : ℕ) → length model.tasks ≤ gone → (groups : List Group) → All (IsGroupOf model) groups
+    → map (group_before gone) groups ≡ groups
+before_of_known model gone past groups are =
+    map_of_same (group_before gone) groups
+    (λ k d within. with_number (get_or groups k d) _ (before_below gone _ (omega (arith, past, (are k d within).known))))
+
+-- the groups of other tasks have the groups back that they had
+before_of_others : (gone : ℕ) (groups : List Group) → All (λ (group : Group). group.task ≢ gone) groups
+    → map (group_before gone) (map (group_without gone) groups) ≡ groups
+before_of_others gone groups others =
+    map-map (group_before gone) (group_without gone) groups
+    ∙ map_of_same (λ (group : Group). group_before gone (group_without gone group)) groups
+    (λ k d within. with_number (get_or groups k d) _ (before_without gone _ (others k d within)))
 
 -- ---- a task is added
 
@@ -126,7 +135,7 @@ module _ (old : SystemModel) (added : TaskDef) where
       (ap (λ (core : ℕ). core == other) added_core ∙ ne_eqb (core_of longer (length old.tasks)) other apart))
       ∙ ap (filter (on_core other)) (sym tasks_longer)
 
-  pub stay_where_added : StayOffCore (core_of longer (length old.tasks)) (length old.tasks) old longer
+  stay_where_added : StayOffCore (core_of longer (length old.tasks)) (length old.tasks) old longer
   stay_where_added task is_task off = elim (cases_lt task (length old.tasks)) [
     | inl below ↦
         let same : number_before (length old.tasks) task ≡ task = before_below (length old.tasks) task below in
@@ -139,6 +148,24 @@ module _ (old : SystemModel) (added : TaskDef) where
         let last : task ≡ length old.tasks = omega (arith, not, is_task, length_push old.tasks added) in
         absurd (off (ap (core_of longer) last))
   ]
+
+  last_of_more : length longer.tasks ≡ moved_count (length old.tasks) (length old.tasks)
+  last_of_more =
+      length_push old.tasks added
+      ∙ sym (ap (λ (b : Bool). cond b (length old.tasks - 1) (length old.tasks + 1)) (le-ltb (length old.tasks) (length old.tasks) (omega arith)))
+
+  -- a task that is added moves none of the others
+  moves_where_added : IsValid old → IsValid longer → core_of longer (length old.tasks) < length longer.cores
+      → MovesTasks (core_of longer (length old.tasks)) (length old.tasks) old longer
+  moves_where_added valid still_valid core_known = record {
+    core_known = core_known;
+    count = last_of_more;
+    off_core = stay_where_added;
+    groups = λ chain within.
+        sym (before_of_known old (length old.tasks) (omega arith) (groups_at old chain) (groups_at_are old valid chain))
+        ∙ ap (map (group_before (length old.tasks))) (sym (groups_kept old added still_valid valid chain within));
+    keeps = record { chains = refl; requirements = refl };
+  }
 
 -- ---- a task is dropped
 
@@ -160,12 +187,29 @@ module _ (old : SystemModel) (gone : ℕ) (was_task : gone < length old.tasks) w
       (ap (λ (core : ℕ). core == other) (core_is old gone was_task) ∙ ne_eqb (core_of old gone) other apart))
       ∙ ap (filter (on_core other)) (sym tasks_shorter)
 
-  pub stay_where_dropped : StayOffCore (core_of old gone) gone old shorter
+  stay_where_dropped : StayOffCore (core_of old gone) gone old shorter
   stay_where_dropped task is_task off =
       had_question old shorter (core_of old gone) gone others_shorter task is_task off
       (without_within old.tasks gone no_task was_task task is_task)
       (sym (without_at (system_of old).tasks gone no_timing had_timing task)
       ∙ ap (λ (tasks : List Timing). get_or tasks task no_timing) (sym tasks_shorter))
+
+  one_less : length shorter.tasks ≡ moved_count gone (length old.tasks)
+  one_less =
+      omega (arith, length-remove old.tasks gone was_task, was_task)
+      ∙ sym (ap (λ (b : Bool). cond b (length old.tasks - 1) (length old.tasks + 1)) (lt-ltb gone (length old.tasks) was_task))
+
+  -- a task that is dropped moves those behind it
+  moves_where_dropped : IsValid old → IsValid shorter → core_of old gone < length old.cores → MovesTasks (core_of old gone) gone old shorter
+  moves_where_dropped valid still_valid core_known = record {
+    core_known = core_known;
+    count = one_less;
+    off_core = stay_where_dropped;
+    groups = λ chain within.
+        sym (before_of_others gone (groups_at old chain) (groups_of_others_at old valid gone was_task still_valid chain within))
+        ∙ ap (map (group_before gone)) (sym (groups_moved old valid gone was_task still_valid chain within));
+    keeps = record { chains = refl; requirements = refl };
+  }
 
 -- ---- chains
 
@@ -182,18 +226,8 @@ found_same old new valid before chain within systems groups found was =
       exact = exact_answer_same old new before chain groups stands valid within found.exact was.exact;
     }
 
--- what stood of a chain is found of it where it stays
-pub found_beside : (old new : SystemModel) (findings : Findings) → AreFindings old findings → (place : Option ℕ) → IfSome place (λ (n : ℕ). ChainsStay n old new)
-    → (number : ℕ) → place ≡ Some number → (chain : ℕ) → chain < length new.chains → (before : ℕ) → before ≡ number_before number chain
-    → before < length old.chains → (found : ChainFindings) → found.bounds ≡ get_or findings.chains before found.bounds
-    → found.exact ≡ get_or findings.exacts before found.exact → AreFoundOf new chain found
-found_beside old new findings are place stay number is chain is_chain before numbered within found bounds exact =
-    let stays : ChainsStay number old new = subst (λ (o : Option ℕ). IfSome o (λ (n : ℕ). ChainsStay n old new)) is stay in
-    stays chain is_chain (omega (arith, numbered, within)) found
-    (subst (λ (n : ℕ). AreFoundOf old n found) numbered (found_before old findings are before found within bounds exact))
-
 module _ (old : SystemModel) (valid : IsValid old) where
-  pub chains_stay_where_added : (added : ChainDef) → ChainsStay (length old.chains) old (with_new_chain old added)
+  chains_stay_where_added : (added : ChainDef) → ChainsStay (length old.chains) old (with_new_chain old added)
   unfolding system_of groups_of
   chains_stay_where_added added chain is_chain within found was = elim (cases_lt chain (length old.chains)) [
     | inl below ↦
@@ -205,12 +239,33 @@ module _ (old : SystemModel) (valid : IsValid old) where
     | inr not ↦ absurd (omega (arith, within, before_above (length old.chains) chain (omega (arith, not)), not))
   ]
 
-  pub chains_stay_where_dropped : (gone : ℕ) → gone < length old.chains → ChainsStay gone old (without_chain old gone)
+  chains_stay_where_dropped : (gone : ℕ) → gone < length old.chains → ChainsStay gone old (without_chain old gone)
   unfolding system_of groups_of
   chains_stay_where_dropped gone was_chain chain is_chain within found was =
       found_same old (without_chain old gone) valid (number_before gone chain) chain within refl
       (ap (groups_of old) (sym (without_at old.chains gone no_chain was_chain chain)))
       found was
+
+  -- a chain that is added stands behind the others
+  adds_where_added : (added : ChainDef) → AddsChain old (with_new_chain old added)
+  unfolding system_of
+  adds_where_added added = record {
+    system = refl;
+    count = length_push old.chains added;
+    stay = chains_stay_where_added added;
+    requirements = refl;
+  }
+
+  -- a chain that is dropped is taken out
+  drops_where_dropped : (gone : ℕ) → gone < length old.chains → DropsChain gone old (without_chain old gone)
+  unfolding system_of
+  drops_where_dropped gone was_chain = record {
+    system = refl;
+    known = was_chain;
+    count = omega (arith, length-remove old.chains gone was_chain, was_chain);
+    stay = chains_stay_where_dropped gone was_chain;
+    requirements = refl;
+  }
 
 -- ---- edits
 
@@ -218,38 +273,37 @@ module _ (old new : SystemModel) (edit : Edit) (made : edited old edit ≡ Ok ne
   by_meaning : (P : SystemModel → Type 0) (meaning : SystemModel) → with_edit old edit ≡ meaning → P meaning → P new
   by_meaning P meaning is = subst P (sym is ∙ made_is old edit new made)
 
+  -- where a task was added, there is one more
   pub added_is : (task : TaskDef) → edit ≡ AddTask task → length old.tasks < length new.tasks
   unfolding with_edit
   added_is task is = by_meaning (λ (m : SystemModel). length old.tasks < length m.tasks) (with_new_task old task) (ap (with_edit old) is) (is_last old task)
 
-  pub stay_after_adding : (task : TaskDef) → edit ≡ AddTask task → StayOffCore (core_of new (length old.tasks)) (length old.tasks) old new
+  -- what an edit that adds a task reaches
+  pub moves_after_adding : IsValid old → IsValid new → (task : TaskDef) → edit ≡ AddTask task → core_of new (length old.tasks) < length new.cores
+      → MovesTasks (core_of new (length old.tasks)) (length old.tasks) old new
   unfolding with_edit
-  stay_after_adding task is =
-      by_meaning (λ (m : SystemModel). StayOffCore (core_of m (length old.tasks)) (length old.tasks) old m) (with_new_task old task)
-      (ap (with_edit old) is) (stay_where_added old task)
+  moves_after_adding valid new_valid task is core_known =
+      by_meaning (λ (m : SystemModel). IsValid m → core_of m (length old.tasks) < length m.cores → MovesTasks (core_of m (length old.tasks)) (length old.tasks) old m)
+      (with_new_task old task) (ap (with_edit old) is) (moves_where_added old task valid) new_valid core_known
 
-  pub stay_after_dropping : (task : List ℕ) → edit ≡ DropTask task → task_number old task < length old.tasks
-      → StayOffCore (core_of old (task_number old task)) (task_number old task) old new
+  -- what an edit that drops a task reaches
+  pub moves_after_dropping : IsValid old → IsValid new → (task : List ℕ) → edit ≡ DropTask task → task_number old task < length old.tasks
+      → core_of old (task_number old task) < length old.cores → MovesTasks (core_of old (task_number old task)) (task_number old task) old new
   unfolding with_edit
-  stay_after_dropping task is within =
-      by_meaning (StayOffCore (core_of old (task_number old task)) (task_number old task) old) (without_task old (task_number old task))
-      (ap (with_edit old) is) (stay_where_dropped old (task_number old task) within)
+  moves_after_dropping valid new_valid task is within core_known =
+      by_meaning (λ (m : SystemModel). IsValid m → MovesTasks (core_of old (task_number old task)) (task_number old task) old m)
+      (without_task old (task_number old task)) (ap (with_edit old) is)
+      (λ still_valid. moves_where_dropped old (task_number old task) within valid still_valid core_known) new_valid
 
-  pub chains_stay_after_adding : IsValid old → (chain : ChainDef) → edit ≡ AddChain chain → ChainsStay (length old.chains) old new
+  -- what an edit that adds a chain reaches
+  pub adds_after_adding : IsValid old → (chain : ChainDef) → edit ≡ AddChain chain → AddsChain old new
   unfolding with_edit
-  chains_stay_after_adding valid chain is =
-      by_meaning (ChainsStay (length old.chains) old) (with_new_chain old chain) (ap (with_edit old) is) (chains_stay_where_added old valid chain)
+  adds_after_adding valid chain is = by_meaning (AddsChain old) (with_new_chain old chain) (ap (with_edit old) is) (adds_where_added old valid chain)
 
-  chains_stay_after_dropping : IsValid old → (chain : List ℕ) → edit ≡ DropChain chain → chain_number old chain < length old.chains
-      → ChainsStay (chain_number old chain) old new
+  -- what an edit that drops a chain reaches
+  pub drops_after_dropping : IsValid old → (chain : List ℕ) → edit ≡ DropChain chain → chain_number old chain < length old.chains
+      → DropsChain (chain_number old chain) old new
   unfolding with_edit
-  chains_stay_after_dropping valid chain is within =
-      by_meaning (ChainsStay (chain_number old chain) old) (without_chain old (chain_number old chain)) (ap (with_edit old) is)
-      (chains_stay_where_dropped old valid (chain_number old chain) within)
-
-  pub chains_stay_if_dropped : IsValid old → (chain : List ℕ) → edit ≡ DropChain chain → (found : Option ℕ) → found ≡ chain_named old chain
-      → IfSome found (λ number. number < length old.chains) → IfSome found (λ gone. ChainsStay gone old new)
-  chains_stay_if_dropped valid chain is None named within = tt
-  chains_stay_if_dropped valid chain is (Some gone) named within =
-      let same : gone ≡ chain_number old chain = ap (λ (o : Option ℕ). unwrap_or o 0) named in
-      subst (λ (n : ℕ). ChainsStay n old new) (sym same) (chains_stay_after_dropping valid chain is (subst (λ (n : ℕ). n < length old.chains) same within))
+  drops_after_dropping valid chain is within =
+      by_meaning (DropsChain (chain_number old chain) old) (without_chain old (chain_number old chain)) (ap (with_edit old) is)
+      (drops_where_dropped old valid (chain_number old chain) within)

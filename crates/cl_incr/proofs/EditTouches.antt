@@ -1,6 +1,7 @@
 -- What the edits that keep all numbers touch, by their kinds.
-use Rattle.std.proofs.Common.{◌≡◌, ℕ, ◌<◌, ◌⊎◌, Bool, List, [], ◌∷◌, length, refl, sym, ap, ◌∙◌, subst, Ok}
-use Rattle.std.specs.Prelude.{All, Contains, Option, Result, IfOk, IfSome, Err, Some, None}
+use Rattle.std.proofs.Common.{◌≡◌, ℕ, ◌<◌, ◌⊎◌, inl, Bool, List, [], ◌∷◌, length, refl, sym, ap, ◌∙◌, subst, Ok}
+use Rattle.std.proofs.lemmas.List.Elements.{All-nil}
+use Rattle.std.specs.Prelude.{All, Contains, Option}
 use Rattle.cl_model.specs.declared.model.SystemModel.{SystemModel}
 use Rattle.cl_model.specs.declared.stimulus.StimulusKind.{StimulusKind}
 use Rattle.cl_model.specs.declared.task.AccessKind.{AccessKind}
@@ -8,23 +9,34 @@ use Rattle.cl_model.specs.ByNumber.{stimulus_number, task_at, runnable_at, stimu
 use Rattle.cl_model.specs.declared.group.Step.{Step}
 use Rattle.cl_model.specs.Groups.{step_named}
 use Rattle.cl_edit.specs.declared.edit.Edit.{Edit}
-use Rattle.cl_edit.specs.declared.edit.Edit.TheVariants.{Range, Whole, Period, Offset, Jitter, Distances, Burst, Deadline, Swap, Move, Kind}
+use Rattle.cl_edit.specs.declared.edit.Edit.TheVariants.{Range, Whole, Period, Offset, Jitter, Distances, Burst, Deadline, Swap, Move, Kind, Report}
 use Rattle.cl_model.specs.Changes.{with_range, with_whole, with_kind, with_period, with_offset, with_jitter, with_distances, with_burst, with_deadline, with_swap, with_place, with_access}
-use Rattle.cl_edit.specs.Edited.{task_number, with_edit, edited}
+use Rattle.cl_model.specs.Validity.{refusals_of}
+use Rattle.cl_edit.specs.Edited.{task_number, edit_checks, with_edit, edited}
 use Rattle.cl_incr.specs.Touched.{Touches}
-use Rattle.cl_edit.proofs.EditedValid.{made_is}
+use Rattle.cl_edit.proofs.CheckedEdits.{passes_where_made}
+use Rattle.cl_edit.proofs.EditedValid.{first_none, made_is}
 use Rattle.cl_incr.proofs.Touching.{task_touches, runnable_touches, swap_touches, kind_touches}
-
--- a fact of what is found, if something is, follows from another
-pub if_found : {X E : Type 0} (P Q : X → Type 0) (result : Result (Option X) E) → ((x : X) → P x → Q x) → IfOk result (λ found. IfSome found P)
-    → IfOk result (λ found. IfSome found Q)
-if_found P Q (Ok (Some x)) then is = then x is
-if_found P Q (Ok None) then is = is
-if_found P Q (Err e) then is = is
 
 module _ (model changed : SystemModel) (edit : Edit) (made : edited model edit ≡ Ok changed) where
   touches_by : (tasks : List ℕ) (meaning : SystemModel) → with_edit model edit ≡ meaning → Touches model meaning tasks → Touches model changed tasks
   touches_by tasks meaning is = subst (λ m. Touches model m tasks) (sym is ∙ made_is model edit changed made)
+
+  -- an edit that was made passes its own checks
+  pub checks_pass : (kind : Edit) → edit ≡ kind → edit_checks model kind ≡ []
+  checks_pass kind is =
+      ap (edit_checks model) (sym is) ∙ (first_none (edit_checks model edit) (refusals_of (with_edit model edit)) (passes_where_made model edit changed made)).0
+
+  -- a report changes nothing
+  pub report_touches : edit ≡ Report → (tasks : List ℕ) → tasks ≡ [] → Touches model changed tasks
+  unfolding with_edit
+  report_touches is tasks none =
+      touches_by tasks model (ap (with_edit model) is)
+      (subst (Touches model model) (sym none) (record {
+        keeps = record { cores = refl; tasks = refl; runnables = refl; chains = refl; requirements = refl };
+        known = All-nil (λ task. task < length model.tasks);
+        others = λ task within. inl refl;
+      }))
 
   -- ---- runnables
 

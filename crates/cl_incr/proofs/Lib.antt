@@ -21,6 +21,10 @@ pub mod Touching
 pub mod EditTouches
 pub mod Mended
 pub mod CheckedEdits
-pub mod ChainEdits
+pub mod NumbersBefore
 pub mod MovedChains
 pub mod Beside
+pub mod MovedLists
+pub mod ChainLists
+pub mod MovedPasses
+pub mod MovedAnswers

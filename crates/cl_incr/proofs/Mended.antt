@@ -61,7 +61,7 @@ module _ (old new : SystemModel) (keeps : KeepsNumbers old new) where
 pub core_is : (model : SystemModel) (task : ℕ) → task < length model.tasks → (timing_at (system_of model) task).core ≡ core_of model task
 core_is model task within = ap (λ (timing : Timing). timing.core) (timing_is model task within)
 
-on_its_core : (model : SystemModel) (task : ℕ) → task < length model.tasks → Contains (tasks_of_core model (core_of model task)) task
+pub on_its_core : (model : SystemModel) (task : ℕ) → task < length model.tasks → Contains (tasks_of_core model (core_of model task)) task
 on_its_core model task within =
     let found = listed_on_core model (core_of model task) task within refl in
     (found.0, found.1, get_or_default (tasks_of_core model (core_of model task)) found.0 task 0 found.1 ∙ found.2)
@@ -205,7 +205,7 @@ module _ (old new : SystemModel) (valid : IsValid old) (keeps : KeepsNumbers old
 -- ---- tasks of other kinds
 
 module _ (Same : ℕ → Type 0) where
-  abbrev EachTold : ℕ → List ℕ → Type 0
+  abbrev pub EachTold : ℕ → List ℕ → Type 0
   EachTold n tasks = (k : ℕ) → k < n → Same k ⊎ Contains tasks k
 
   pub told_next : (n : ℕ) (tasks more : List ℕ) (b : Bool) → more ≡ cond b tasks (tasks ++ n ∷ []) → (b ≡ true → Same n) → EachTold n tasks

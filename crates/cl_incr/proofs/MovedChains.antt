@@ -1,36 +1,36 @@
 -- A chain off the core where a task was added or dropped, and none of whose tasks was late, asks what it asked.
-use Rattle.std.proofs.Common.{◌≡◌, ℕ, ◌+◌, ◌<◌, ◌≤◌, inl, inr, Bool, false, cond, ◌==◌, List, length, sym, ap, ◌∙◌, subst, arith, Some, None}
-use Rattle.std.proofs.lemmas.Bool.{cases_lt, lt-ltb, le-ltb}
+use Rattle.std.proofs.Common.{◌≡◌, ◌≢◌, ℕ, ◌+◌, ◌<◌, inl, inr, Bool, false, cond, ◌==◌, List, length, sym, ap, ◌∙◌, subst, refl, arith, Some, None}
+use Rattle.std.specs.Prelude.{Option}
+use Rattle.std.proofs.lemmas.Bool.{cases_lt}
 use Rattle.std.proofs.lemmas.Bool.Decides.{eqb_tells}
-use Rattle.std.proofs.lemmas.List.{get_or_default}
+use Rattle.std.proofs.lemmas.List.{get_or_default, get_or-map, length-map}
 use Rattle.cl_model.specs.declared.model.SystemModel.{SystemModel}
 use Rattle.cl_model.specs.declared.group.Group.{Group}
-use Rattle.cl_model.specs.ByNumber.{chain_at}
+use Rattle.cl_model.specs.ByNumber.{chain_at, core_of}
 use Rattle.cl_model.specs.Groups.{no_group, group_at, steps_of, groups_at}
+use Rattle.cl_model.specs.Validity.{IsValid}
+use Rattle.cl_model.proofs.GroupFacts.{groups_at_are}
 use Rattle.cl_runs.specs.SystemOf.{system_of}
 use Rattle.cl_runs.specs.TaskTiming.{Timing, timing_at}
 use Rattle.cl_bound.specs.Answers.{answers_of, answer_at, is_late, NoneIsLate}
-use Rattle.cl_bound.specs.Bounds.{settled_timing}
+use Rattle.cl_bound.specs.Bounds.{Lengths, settled_timing, bounds_of}
 use Rattle.cl_bound.specs.Hops.{group_timing, saves}
-use Rattle.cl_analyse.specs.ChainAnswers.{first_late}
+use Rattle.cl_analyse.specs.declared.findings.ChainAnswer.TheVariants.{Bounds}
+use Rattle.cl_analyse.specs.ChainAnswers.{first_late, chain_answer, chain_answer_of}
 use Rattle.cl_analyse.proofs.FirstLate.{settled_groups, none_late}
 use Rattle.cl_incr.specs.declared.question.HopLine.TheVariants.{SameTask, Saving, Plain}
 use Rattle.cl_incr.specs.Questions.{group_question, hop_line, hop_lines, question_of_groups, unless_late, chain_question}
 use Rattle.cl_incr.specs.Inner.Kept.{AreBothAsked}
-use Rattle.cl_incr.specs.Inner.Stays.{number_before, HadQuestion, StayOffCore, IsOffCore, AreOffCore}
+use Rattle.cl_incr.specs.Inner.News.{StaysFound}
+use Rattle.cl_incr.specs.Inner.Reach.{number_before, group_before, HadQuestion, StayOffCore, AvoidsCore, MovesTasks}
+use Rattle.cl_incr.proofs.NumbersBefore.{before_below, before_above}
 use Rattle.cl_incr.proofs.EqualGroups.{asked, AskTheSame}
-use Rattle.cl_incr.proofs.EqualAnswers.{same_answers}
+use Rattle.cl_incr.proofs.EqualAnswers.{same_answers, chain_answers_same, exact_answers_same}
 use Rattle.cl_incr.proofs.KeptAnswers.{answer_is}
 use Rattle.cl_incr.proofs.SameChains.{asked_by, saves_by}
 use Rattle.cl_incr.proofs.SameQuestions.{same_maps, same_hops}
 
 -- ---- numbers
-
-pub before_below : (gone number : ℕ) → number < gone → number_before gone number ≡ number
-before_below gone number below = ap (λ (b : Bool). cond b number (number + 1)) (lt-ltb number gone below)
-
-pub before_above : (gone number : ℕ) → gone ≤ number → number_before gone number ≡ number + 1
-before_above gone number above = ap (λ (b : Bool). cond b number (number + 1)) (le-ltb _ _ above)
 
 -- two numbers that were one are one
 before_once : (gone a b : ℕ) → number_before gone a ≡ number_before gone b → a ≡ b
@@ -56,6 +56,33 @@ before_apart gone a b = elim (eqb_tells a b) [
     | inr also ↦ also.0 ∙ sym other.0
   ]
 ]
+
+-- ---- chains off the core
+
+-- a group of a task that is not on the core was one of the same runnables of it
+pub record IsOffCore (core gone : ℕ) (new : SystemModel) (before group : Group) : Type 0 where
+  pub known : group.task < length new.tasks
+  pub off : core_of new group.task ≢ core
+  pub moved : before ≡ group_before gone group
+
+-- so is each group of a chain
+pub record AreOffCore (core gone : ℕ) (old new : SystemModel) (chain : ℕ) : Type 0 where
+  pub count : length (groups_at old chain) ≡ length (groups_at new chain)
+  pub each : (place : ℕ) → place < length (groups_at new chain)
+      → IsOffCore core gone new (group_at (groups_at old chain) place) (group_at (groups_at new chain) place)
+
+off_core : (core gone : ℕ) (old new : SystemModel) → IsValid new → MovesTasks core gone old new → (chain : ℕ) → chain < length new.chains
+    → AvoidsCore core new chain → AreOffCore core gone old new chain
+off_core core gone old new valid moves chain within avoids = record {
+  count = ap length (moves.groups chain within) ∙ length-map (groups_at new chain) (group_before gone);
+  each = λ place inside. record {
+    known = (groups_at_are new valid chain place no_group inside).known;
+    off = avoids place no_group inside;
+    moved =
+        ap (λ (groups : List Group). group_at groups place) (moves.groups chain within)
+        ∙ get_or-map (group_before gone) (groups_at new chain) place no_group no_group inside;
+  };
+}
 
 -- ---- groups and hops
 
@@ -141,3 +168,23 @@ module _ (old new : SystemModel) (core gone : ℕ) (stay : StayOffCore core gone
               ∙ (λ i. Some (record { groups = ask_alike i; hops = lines_alike i }));
           new_asks = ap (λ late. unless_late late (question_of_groups (system_of new) news)) still;
         }
+
+-- a chain with bounds has no late task
+bounded_in_time : (first : Option ℕ) (lengths bounds : Lengths) → chain_answer first lengths ≡ Bounds bounds → first ≡ None
+bounded_in_time None lengths bounds is = refl
+bounded_in_time (Some task) lengths bounds is = absurd cc
+
+-- what was found of a chain that avoids the core and has bounds is found of it
+pub stays_found_off : (core gone : ℕ) (old new : SystemModel) → IsValid old → IsValid new → MovesTasks core gone old new → (chain : ℕ) → chain < length new.chains
+    → AvoidsCore core new chain → (bounds : Lengths) → chain_answer_of old (chain_at old chain) ≡ Bounds bounds → StaysFound old new chain
+unfolding chain_answer_of
+stays_found_off core gone old new old_valid new_valid moves chain within avoids bounds is found was =
+    let asked : AreBothAsked (chain_question old chain) (chain_question new chain) =
+    both_ask old new core gone moves.off_core chain (off_core core gone old new new_valid moves chain within avoids)
+    (bounded_in_time (first_late (answers_of (system_of old)) (steps_of old (chain_at old chain))) (bounds_of (system_of old) (groups_at old chain)) bounds is) in
+    record {
+      bounds = was.bounds ∙ chain_answers_same old new chain chain asked.question asked.old_asks asked.new_asks;
+      exact =
+          exact_answers_same old new old_valid chain chain (omega (arith, within, ap length moves.keeps.chains)) asked.question asked.old_asks asked.new_asks
+          found.exact was.exact;
+    }

@@ -7,7 +7,7 @@ use Rattle.cl_model.specs.declared.model.SystemModel.{SystemModel}
 use Rattle.cl_model.specs.declared.chain.ChainDef.{ChainDef}
 use Rattle.cl_model.specs.declared.chain.RequirementDef.{RequirementDef}
 use Rattle.cl_model.specs.Named.{index_of}
-use Rattle.cl_model.specs.ByNumber.{no_chain, chain_at}
+use Rattle.cl_model.specs.ByNumber.{no_chain}
 use Rattle.cl_analyse.specs.declared.findings.ChainAnswer.{ChainAnswer}
 use Rattle.cl_analyse.specs.declared.findings.ChainAnswer.TheVariants.{Late}
 use Rattle.cl_analyse.specs.declared.findings.ExactAnswer.{ExactAnswer}
@@ -21,11 +21,10 @@ use Rattle.cl_analyse.specs.Findings.{AreFindings}
 use Rattle.cl_incr.specs.declared.chains.ChainFindings.{ChainFindings}
 use Rattle.cl_incr.specs.declared.news.FoundChain.{FoundChain}
 use Rattle.cl_incr.specs.declared.news.News.{News}
-use Rattle.cl_incr.specs.Touched.{KeepsNumbers}
+use Rattle.cl_incr.specs.Touched.{KeepsChains}
 use Rattle.cl_incr.specs.Inner.Kept.{AreFoundOf}
 use Rattle.cl_incr.specs.Inner.News.{AreNewsOf}
 use Rattle.cl_incr.specs.Inner.Put.{found_at, ArePut}
-use Rattle.cl_incr.proofs.Mended.{chain_count}
 use Rattle.cl_incr.proofs.Puts.{standing}
 
 -- the verdict on a requirement by what is found of its chain
@@ -43,16 +42,31 @@ pub verdict_there : (model : SystemModel) (chains : List ChainAnswer) (exacts : 
 verdict_there model chains exacts requirement within =
     get_or-map (verdict_of model chains exacts) model.requirements requirement no_requirement (Unshown None) within
 
-module _ (old new : SystemModel) (keeps : KeepsNumbers old new) (before : Findings) (are : AreFindings old before) (news : News) (are_news : AreNewsOf old new news)
-    (chains : List ChainAnswer) (exacts : List ExactAnswer) (put : ArePut news.chains.items before.chains before.exacts chains exacts) where
-  was_found : (chain : ℕ) → chain < length old.chains → AreFoundOf old chain (found_at before.chains before.exacts chain)
-  was_found chain within = record {
-    bounds =
-        ap (λ (l : List ChainAnswer). get_or l chain (Late 0)) are.chains
-        ∙ get_or-map (chain_answer_of old) old.chains chain no_chain (Late 0) within;
-    exact = are.exacts.each chain within;
-  }
+-- what stands of a chain in the findings of a model is found of it
+pub was_found : (old : SystemModel) (before : Findings) → AreFindings old before → (chain : ℕ) → chain < length old.chains
+    → AreFoundOf old chain (found_at before.chains before.exacts chain)
+was_found old before are chain within = record {
+  bounds =
+      ap (λ (l : List ChainAnswer). get_or l chain (Late 0)) are.chains
+      ∙ get_or-map (chain_answer_of old) old.chains chain no_chain (Late 0) within;
+  exact = are.exacts.each chain within;
+}
 
+-- lists in which each chain has what is found of it
+module _ (new : SystemModel) (chains : List ChainAnswer) (exacts : List ExactAnswer) (chain_count : length chains ≡ length new.chains)
+    (exact_count : length exacts ≡ length new.chains) (is_found : (chain : ℕ) → chain < length new.chains → AreFoundOf new chain (found_at chains exacts chain)) where
+  pub are_chain_answers : chains ≡ chain_answers_of new
+  are_chain_answers =
+      ext_get_or (Late 0) chains (chain_answers_of new) (chain_count ∙ sym (length-map new.chains (chain_answer_of new)))
+      (λ i within.
+      let inside : i < length new.chains = omega (arith, within, chain_count) in
+      (is_found i inside).bounds ∙ sym (get_or-map (chain_answer_of new) new.chains i no_chain (Late 0) inside))
+
+  pub are_exact_answers : AreExactAnswers new exacts
+  are_exact_answers = record { one_a_chain = exact_count; each = λ chain within. (is_found chain within).exact }
+
+module _ (old new : SystemModel) (keeps : KeepsChains old new) (before : Findings) (are : AreFindings old before) (news : News) (are_news : AreNewsOf old new news)
+    (chains : List ChainAnswer) (exacts : List ExactAnswer) (put : ArePut news.chains.items before.chains before.exacts chains exacts) where
   put_right : (chain : ℕ) → Contains news.chains.items (standing chains exacts chain) → AreFoundOf new chain (found_at chains exacts chain)
   put_right chain among =
       All-contains (λ (one : FoundChain). AreFoundOf new one.chain one.found) news.chains.items (standing chains exacts chain) are_news.chains among
@@ -64,26 +78,21 @@ module _ (old new : SystemModel) (keeps : KeepsNumbers old new) (before : Findin
       | inr among ↦ put_right chain among
       | inl same ↦
           subst (AreFoundOf new chain) (sym same)
-          (stays (found_at before.chains before.exacts chain) (was_found chain (omega (arith, within, chain_count old new keeps))))
+          (stays (found_at before.chains before.exacts chain) (was_found old before are chain (omega (arith, within, ap length keeps.chains))))
     ]
   ]
 
   count : length chains ≡ length new.chains
-  count =
-      put.chain_count ∙ ap length are.chains ∙ length-map old.chains (chain_answer_of old) ∙ chain_count old new keeps
+  count = put.chain_count ∙ ap length are.chains ∙ length-map old.chains (chain_answer_of old) ∙ ap length keeps.chains
+
+  exact_count : length exacts ≡ length new.chains
+  exact_count = put.exact_count ∙ are.exacts.one_a_chain ∙ ap length keeps.chains
 
   pub chains_right : chains ≡ chain_answers_of new
-  chains_right =
-      ext_get_or (Late 0) chains (chain_answers_of new) (count ∙ sym (length-map new.chains (chain_answer_of new)))
-      (λ i within.
-      let inside : i < length new.chains = omega (arith, within, count) in
-      (is_found i inside).bounds ∙ sym (get_or-map (chain_answer_of new) new.chains i no_chain (Late 0) inside))
+  chains_right = are_chain_answers new chains exacts count exact_count is_found
 
   pub exacts_right : AreExactAnswers new exacts
-  exacts_right = record {
-    one_a_chain = put.exact_count ∙ are.exacts.one_a_chain ∙ chain_count old new keeps;
-    each = λ chain within. (is_found chain within).exact;
-  }
+  exacts_right = are_exact_answers new chains exacts count exact_count is_found
 
   -- the verdict on a requirement whose chain has what it had
   same_verdict : (requirement : RequirementDef)

@@ -5,6 +5,7 @@ use Rattle.cl_model.specs.declared.task.TaskDef.{TaskDef}
 use Rattle.cl_model.specs.Named.{task_names, runnable_names}
 use Rattle.cl_runs.specs.SystemOf.{system_of}
 use Rattle.cl_runs.specs.TaskTiming.{timing_at}
+use Rattle.cl_bound.specs.declared.answer.TaskAnswer.{TaskAnswer}
 use Rattle.cl_bound.specs.Answers.{answers_of, answer_at}
 
 -- the names of the runnables of each task
@@ -17,6 +18,11 @@ pub record KeepsNumbers (old new : SystemModel) : Type 0 where
   pub cores : old.cores ≡ new.cores
   pub tasks : task_names old ≡ task_names new
   pub runnables : runnable_names_of old ≡ runnable_names_of new
+  pub chains : old.chains ≡ new.chains
+  pub requirements : old.requirements ≡ new.requirements
+
+-- the chains and the requirements stay as they are
+pub record KeepsChains (old new : SystemModel) : Type 0 where
   pub chains : old.chains ≡ new.chains
   pub requirements : old.requirements ≡ new.requirements
 
@@ -37,6 +43,11 @@ pub record Touches (old new : SystemModel) (tasks : List ℕ) : Type 0 where
 -- the task of a number has the same answer in both models
 abbrev pub HasSameAnswer : (old new : SystemModel) → (task : ℕ) → Type 0
 HasSameAnswer old new task = answer_at (answers_of (system_of old)) task ≡ answer_at (answers_of (system_of new)) task
+
+-- the tasks that are not in this list have these answers in a model
+abbrev pub AreAnswersBut : (tasks : List ℕ) → (answers : List TaskAnswer) → SystemModel → Type 0
+AreAnswersBut tasks answers model =
+    (task : ℕ) → task < length model.tasks → (answer_at answers task ≡ answer_at (answers_of (system_of model)) task) ⊎ Contains tasks task
 
 -- the tasks that are not in this list have the answers that they had
 abbrev pub KeepAnswersBut : (tasks : List ℕ) → (old new : SystemModel) → Type 0

@@ -1,5 +1,5 @@
 //! Whether two chains, of two models, have the same question. No call takes memory. Times are in ticks.
-ghost use Rattle.std.specs.Prelude.{◌≡◌, ◌-◌, ◌<◌, ◌↔◌, length, map, IsTrue};
+ghost use Rattle.std.specs.Prelude.{◌≡◌, ◌≢◌, ◌-◌, ◌<◌, ◌↔◌, length, map, IsTrue};
 ghost use Rattle.cl_model.specs.Groups.{group_at, groups_at, IsGroupOf};
 ghost use Rattle.cl_runs.specs.SystemOf.{system_of};
 ghost use Rattle.cl_bound.specs.Answers.{answers_of, answer_at, response_in};
@@ -46,6 +46,31 @@ fn is_same_group(one: GroupQuestion, other: GroupQuestion) -> bool
     one == other
 }
 
+/// Whether two chains, which have as many groups, pass tasks with other responses. Few other questions have the same.
+fn have_other_responses(
+    old: &ValidModel,
+    old_answers: &List<TaskAnswer>,
+    before: u32,
+    new: &ValidModel,
+    new_answers: &List<TaskAnswer>,
+    chain: u32,
+) -> bool
+    requires before { before < length old.now.chains }
+    requires chain { chain < length new.now.chains }
+    requires count { length (groups_at old.now before) ≡ length (groups_at new.now chain) }
+    ensures { IsTrue result → map (group_question (system_of old.now) old_answers.now) (groups_at old.now before)
+        ≢ map (group_question (system_of new.now) new_answers.now) (groups_at new.now chain) }
+{
+    for place in 0..new.group_count(chain) {
+        let old_response = response_of(old_answers, old.group(before, place).task);
+        let new_response = response_of(new_answers, new.group(chain, place).task);
+        if old_response != new_response {
+            return true;
+        }
+    }
+    false
+}
+
 /// Whether the groups of two chains have the same questions.
 fn have_same_groups(
     old: &ValidModel,
@@ -61,7 +86,9 @@ fn have_same_groups(
         ≡ map (group_question (system_of new.now) new_answers.now) (groups_at new.now chain)) }
 {
     let count = new.group_count(chain);
-    if old.group_count(before) != count {
+    if old.group_count(before) != count
+        || have_other_responses(old, old_answers, before, new, new_answers, chain)
+    {
         return false;
     }
     for place in 0..count {

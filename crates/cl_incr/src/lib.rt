@@ -2,18 +2,19 @@
 //! edited asks only what an edit changed.
 #![tactic(auto)]
 
+mod chain_lists;
 mod chains;
 mod comparing;
 pub mod laws;
 mod mend;
+mod moved;
 mod news;
 mod numbers;
-mod off_core;
 mod passing;
 mod put;
 mod question;
+mod reach;
 mod session;
-mod stays;
 mod tasks;
 mod touch;
 mod twin;

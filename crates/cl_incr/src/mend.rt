@@ -6,7 +6,7 @@ ghost use Rattle.cl_runs.specs.SystemOf.{system_of};
 ghost use Rattle.cl_bound.specs.Answers.{answer_at, answers_of};
 ghost use Rattle.cl_analyse.specs.Findings.{AreFindings};
 ghost use Rattle.cl_incr.specs.Changed.{AsksForChanges};
-ghost use Rattle.cl_incr.specs.Touched.{KeepsNumbers, Touches, KeepAnswersBut, StandBut};
+ghost use Rattle.cl_incr.specs.Touched.{KeepsNumbers, Touches, AreAnswersBut, KeepAnswersBut, StandBut};
 ghost use Rattle.cl_incr.specs.Inner.Asked.{AsksTasks, AsksChains};
 ghost use Rattle.cl_incr.specs.Inner.Passes.{ArePassesOf, ListChains};
 ghost use Rattle.cl_incr.specs.Inner.News.{chains_found, AreAllFound, StayFoundBut, AreNewsOf};
@@ -24,9 +24,9 @@ use cl_time::{NoMemory, Steps};
 use std::alloc::Global;
 use std::sync::ledger::Ledger;
 
-/// Asks these tasks of the new model, and mends their answers in a list of those for the old one. Each changed question
-/// counts a step.
-fn mend_tasks<L: Ledger>(
+/// Asks these tasks of the new model, and mends their answers in a list that has those of the others. Each changed
+/// question counts a step.
+pub(crate) fn mend_tasks<L: Ledger>(
     alloc: Global,
     old: &ValidModel,
     answers: &List<TaskAnswer>,
@@ -36,11 +36,10 @@ fn mend_tasks<L: Ledger>(
     steps: &mut Steps<L>,
 ) -> Result<(), NoMemory>
     requires answers { answers.now ≡ answers_of (system_of old.now) }
-    requires mended { mended.old ≡ answers.now }
-    requires keeps { KeepsNumbers old.now new.now }
+    requires count { length mended.old ≡ length new.now.tasks }
     requires rising { IsStrictlyIncreasing asked.now }
     requires below { All (λ task. task < length new.now.tasks) asked.now }
-    requires others { KeepAnswersBut asked.now old.now new.now }
+    requires others { AreAnswersBut asked.now mended.old new.now }
     ensures answers { OnOk result (mended.new ≡ answers_of (system_of new.now)) }
     ensures steps { AsksTasks old.now new.now (length new.now.tasks) steps.old steps.new }
 {
@@ -83,7 +82,7 @@ fn tasks_standing_otherwise(
 }
 
 /// What is found of these chains of the new model. Each changed question counts up to two steps.
-fn find_these<L: Ledger>(
+pub(crate) fn find_these<L: Ledger>(
     alloc: Global,
     old: &ValidModel,
     findings: &Findings,
@@ -100,7 +99,7 @@ fn find_these<L: Ledger>(
     ensures found { IfOk result (λ found. AreAllFound new.now found.items) }
     ensures steps { AsksChains old.now new.now (length new.now.chains) steps.old steps.new }
 {
-    let mut all = Vec::new(alloc);
+    let mut all = Vec::with_capacity(alloc, chains.len())?;
     for chain in chains {
         let found = find_chain(old, findings, new, tasks, *chain, steps);
         all.push(FoundChain {
@@ -148,6 +147,8 @@ pub(crate) fn news_of<L: Ledger>(
     requires tasks { tasks ≡ findings.now.tasks }
     requires touched { Touches old.now new.now touched }
     ensures news { IfOk result (AreNewsOf old.now new.now) }
+    ensures asked_below { IfOk result (λ news. All (λ task. task < length new.now.tasks) news.asked.items) }
+    ensures asked { IfOk result (λ news. KeepAnswersBut news.asked.items old.now new.now) }
     ensures steps { AsksForChanges old.now new.now steps.old steps.new }
 {
     let answers = &findings.tasks;

@@ -3,7 +3,7 @@ ghost use Rattle.std.specs.Prelude.{◌≡◌, ℕ, ◌<◌, ◌⊎◌, length, 
 ghost use Rattle.cl_model.specs.declared.model.SystemModel.{SystemModel};
 ghost use Rattle.cl_analyse.specs.Verdicts.{verdict_of, verdicts_of, verdict_at, requirement_at};
 ghost use Rattle.cl_analyse.specs.Findings.{AreFindings};
-ghost use Rattle.cl_incr.specs.Touched.{KeepsNumbers};
+ghost use Rattle.cl_incr.specs.Touched.{KeepsChains};
 ghost use Rattle.cl_incr.specs.Inner.News.{chains_found, AreNewsOf};
 ghost use Rattle.cl_incr.specs.Inner.Put.{ArePut};
 
@@ -50,7 +50,7 @@ fn judge_again(
 /// Puts the news on a model in the place of what was found of the one before. The answers for the tasks change places
 /// with the new ones.
 pub(crate) fn put_news(model: &ValidModel, findings: &mut Findings, news: &mut News)
-    requires { (old : SystemModel) × AreFindings old findings.old × KeepsNumbers old model.now × AreNewsOf old model.now news.old }
+    requires { (old : SystemModel) × AreFindings old findings.old × KeepsChains old model.now × AreNewsOf old model.now news.old }
     ensures found { AreFindings model.now findings.new }
     ensures tasks { findings.new.tasks ≡ news.old.tasks }
     ensures old_tasks { news.new.tasks ≡ findings.old.tasks }

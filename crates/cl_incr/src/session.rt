@@ -1,26 +1,30 @@
 //! A session over a model that is edited.
-ghost use Rattle.std.specs.Prelude.{◌≡◌, ◌+◌, ◌*◌, ◌≤◌, length, Ok, Err, IfOk, IfErr, OnOk, OnErr};
+ghost use Rattle.std.specs.Prelude.{◌≡◌, ◌+◌, ◌*◌, ◌<◌, ◌≤◌, length, Ok, Err, IfOk, IfErr, OnOk, OnErr, All};
 ghost use Rattle.cl_model.specs.declared.model.SystemModel.{SystemModel};
 ghost use Rattle.cl_model.specs.declared.refusal.Refusal.{Refusal};
+ghost use Rattle.cl_runs.specs.SystemOf.{system_of};
+ghost use Rattle.cl_bound.specs.declared.answer.TaskAnswer.TheVariants.{Late};
+ghost use Rattle.cl_bound.specs.Answers.{answers_of};
 ghost use Rattle.cl_edit.specs.Edited.{with_edit, edited};
 ghost use Rattle.cl_edit.specs.Ranges.{IsEditInRange};
 ghost use Rattle.cl_analyse.specs.Findings.{AreFindings};
 ghost use Rattle.cl_incr.specs.Changed.{AsksForChanges};
-ghost use Rattle.cl_incr.specs.Touched.{KeepsNumbers, Touches};
+ghost use Rattle.cl_incr.specs.Touched.{KeepsNumbers, Touches, AreAnswersBut, KeepAnswersBut};
 ghost use Rattle.cl_incr.specs.Inner.IsTwin.{IsTwinOf};
 ghost use Rattle.cl_incr.specs.Inner.Passes.{ArePassesOf};
 ghost use Rattle.cl_incr.specs.Inner.News.{AreNewsOf};
+ghost use Rattle.cl_incr.specs.Inner.Reach.{moved, MovesTasks, AddsChain, DropsChain};
 
-use crate::chains::find_chains;
+use crate::chain_lists::{drop_chain, put_new_chain};
+use crate::chains::find_chain;
 use crate::mend::news_of;
+use crate::moved::{caught_up_at, moved_passing, news_at};
 use crate::news::News;
 use crate::passing::{Passing, passing_of};
 use crate::put::put_news;
-use crate::stays::{chain_gone, site_of};
-use crate::tasks::tasks_after;
-use crate::touch::touched_tasks;
-use crate::twin::{Twin, caught_up, twin_after, twin_of};
-use cl_analyse::{Findings, analyse, judge_all};
+use crate::reach::{Reach, Site, reach_of};
+use crate::twin::{Twin, caught_up, twin_of, twin_with};
+use cl_analyse::{Findings, analyse};
 use cl_bound::TaskAnswer;
 use cl_edit::{Edit, change_valid, check_edit};
 use cl_model::{List, ModelFault, ValidModel};
@@ -149,9 +153,14 @@ impl Session {
         let _findings = self.findings();
         let Twin { model, tasks } = self.take_twin()?;
         let model = change_valid(self.alloc, model, edit)?;
-        match touched_tasks(self.alloc, &self.model, &model, edit)? {
-            Some(touched) => self.mend(model, tasks, touched, edit, steps),
-            None => self.renew(model, tasks, edit, steps),
+        match reach_of(self.alloc, &self.model, &model, edit)? {
+            Reach::Timings(touched) => self.mend(model, tasks, touched, edit, steps),
+            Reach::Task(site) => self.move_tasks(model, tasks, site, edit, steps),
+            Reach::NewChain => self.add_chain(model, tasks, edit, steps),
+            Reach::Chain(gone) => {
+                self.drop_chain(model, tasks, gone, edit);
+                Ok(())
+            }
         }
     }
 
@@ -211,8 +220,42 @@ impl Session {
         Ok(())
     }
 
-    /// Turns to an edited model, all of which is found anew where its question is changed.
-    fn renew<L: Ledger>(
+    /// Turns to an edited model in which a task is added or dropped.
+    fn move_tasks<L: Ledger>(
+        &mut self,
+        model: ValidModel,
+        tasks: List<TaskAnswer>,
+        site: Site,
+        edit: &Edit,
+        steps: &mut Steps<L>,
+    ) -> Result<(), NoMemory>
+        requires in_range { IsEditInRange edit.now }
+        requires made { edited self.old.model edit.now ≡ Ok model }
+        requires tasks { tasks ≡ self.old.findings.tasks }
+        requires moves { MovesTasks site.core site.gone self.old.model model }
+        ensures model { OnOk result (self.new.model ≡ model) }
+        ensures findings { AreFindings self.new.model self.new.findings }
+        ensures unchanged { OnErr result (self.new ≡ self.old) }
+        ensures steps { AsksForChanges self.old.model model steps.old steps.new }
+    {
+        let _findings = self.findings();
+        let passing = self.take_passing()?;
+        let news = news_at(
+            self.alloc,
+            &self.model,
+            &self.findings,
+            &passing,
+            &model,
+            tasks,
+            site,
+            steps,
+        )?;
+        self.take_moved(model, news, passing, site, edit);
+        Ok(())
+    }
+
+    /// Turns to an edited model in which a chain is added. `tasks` are the answers for the tasks once more.
+    fn add_chain<L: Ledger>(
         &mut self,
         model: ValidModel,
         tasks: List<TaskAnswer>,
@@ -222,23 +265,36 @@ impl Session {
         requires in_range { IsEditInRange edit.now }
         requires made { edited self.old.model edit.now ≡ Ok model }
         requires tasks { tasks ≡ self.old.findings.tasks }
+        requires adds { AddsChain self.old.model model }
         ensures model { OnOk result (self.new.model ≡ model) }
         ensures findings { AreFindings self.new.model self.new.findings }
         ensures unchanged { OnErr result (self.new ≡ self.old) }
         ensures steps { AsksForChanges self.old.model model steps.old steps.new }
     {
         let _findings = self.findings();
-        let findings = findings_after(
-            self.alloc,
-            &self.model,
-            &self.findings,
-            tasks,
-            &model,
-            edit,
-            steps,
-        )?;
-        self.turn_to(model, findings, edit);
+        let chain = self.model.chains();
+        let found = find_chain(&self.model, &self.findings, &model, &tasks, chain, steps);
+        put_new_chain(&model, &mut self.findings, found)?;
+        let old = mem::replace(&mut self.model, model);
+        self.twin = twin_with(self.alloc, old, edit, tasks);
+        self.passing = None;
         Ok(())
+    }
+
+    /// Turns to an edited model in which a chain is dropped. `tasks` are the answers for the tasks once more.
+    fn drop_chain(&mut self, model: ValidModel, tasks: List<TaskAnswer>, gone: u32, edit: &Edit)
+        requires in_range { IsEditInRange edit.now }
+        requires made { edited self.old.model edit.now ≡ Ok model }
+        requires tasks { tasks ≡ self.old.findings.tasks }
+        requires drops { DropsChain gone self.old.model model }
+        ensures model { self.new.model ≡ model }
+        ensures findings { AreFindings self.new.model self.new.findings }
+    {
+        let _findings = self.findings();
+        drop_chain(&model, &mut self.findings, gone);
+        let old = mem::replace(&mut self.model, model);
+        self.twin = twin_with(self.alloc, old, edit, tasks);
+        self.passing = None;
     }
 
     /// Puts the edited model and the news on it in the place of what the session held. What it held is brought up to
@@ -248,6 +304,8 @@ impl Session {
         requires made { edited self.old.model edit.now ≡ Ok model }
         requires keeps { KeepsNumbers self.old.model model }
         requires news { AreNewsOf self.old.model model news }
+        requires asked_below { All (λ task. task < length model.tasks) news.asked.items }
+        requires asked { KeepAnswersBut news.asked.items self.old.model model }
         requires passing { ArePassesOf self.old.model passing }
         ensures model { self.new.model ≡ model }
         ensures findings { AreFindings self.new.model self.new.findings }
@@ -265,19 +323,40 @@ impl Session {
         self.passing = Some(passing);
     }
 
-    /// Puts the edited model and its findings in the place of what the session held, and edits what it held for the next
-    /// time.
-    fn turn_to(&mut self, model: ValidModel, findings: Findings, edit: &Edit)
+    /// Puts the edited model, in which a task is added or dropped, and the news on it in the place of what the session
+    /// held. What it held is brought up to the same for the next edit.
+    fn take_moved(
+        &mut self,
+        model: ValidModel,
+        mut news: News,
+        passing: Passing,
+        site: Site,
+        edit: &Edit,
+    )
         requires in_range { IsEditInRange edit.now }
         requires made { edited self.old.model edit.now ≡ Ok model }
-        requires found { AreFindings model findings }
+        requires moves { MovesTasks site.core site.gone self.old.model model }
+        requires news { AreNewsOf self.old.model model news }
+        requires asked_below { All (λ task. task < length model.tasks) news.asked.items }
+        requires asked { AreAnswersBut news.asked.items (moved site.gone Late (answers_of (system_of self.old.model))) model }
+        requires passing { ArePassesOf self.old.model passing }
         ensures model { self.new.model ≡ model }
-        ensures findings { self.new.findings ≡ findings }
+        ensures findings { AreFindings self.new.model self.new.findings }
     {
+        // the old model was valid
+        let _valid = self.model.plain();
         let old = mem::replace(&mut self.model, model);
-        self.twin = twin_after(self.alloc, old, edit, &findings.tasks);
-        self.findings = findings;
-        self.passing = None;
+        put_news(&self.model, &mut self.findings, &mut news);
+        self.twin = caught_up_at(
+            self.alloc,
+            old,
+            edit,
+            news.tasks,
+            site.gone,
+            news.asked.as_slice(),
+            &self.findings.tasks,
+        );
+        self.passing = moved_passing(self.alloc, passing, site.gone);
     }
 }
 
@@ -289,34 +368,4 @@ fn check(alloc: Global, model: &ValidModel, edit: &Edit) -> Result<(), ModelFaul
         → edited model.now edit.now ≡ Err refusal) }
 {
     check_edit(alloc, model, edit)
-}
-
-/// The findings of an edited model, from those of the model before: what they ask alike is kept. `tasks` are the answers
-/// for the tasks once more.
-fn findings_after<L: Ledger>(
-    alloc: Global,
-    old: &ValidModel,
-    findings: &Findings,
-    tasks: List<TaskAnswer>,
-    new: &ValidModel,
-    edit: &Edit,
-    steps: &mut Steps<L>,
-) -> Result<Findings, NoMemory>
-    requires findings { AreFindings old.now findings.now }
-    requires tasks { tasks ≡ findings.now.tasks }
-    requires made { edited old.now edit.now ≡ Ok new.now }
-    ensures findings { IfOk result (AreFindings new.now) }
-    ensures steps { AsksForChanges old.now new.now steps.old steps.new }
-{
-    let site = site_of(old, new, edit);
-    let gone = chain_gone(old, new, edit);
-    let tasks = tasks_after(alloc, old, tasks, new, edit, site, steps)?;
-    let found = find_chains(alloc, old, findings, new, &tasks, site, gone, steps)?;
-    let verdicts = judge_all(alloc, new, &found.bounds, &found.exacts)?;
-    Ok(Findings {
-        tasks,
-        chains: found.bounds,
-        exacts: found.exacts,
-        verdicts,
-    })
 }

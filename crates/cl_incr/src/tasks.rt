@@ -1,21 +1,17 @@
 //! The answers for the tasks of an edited model: those that stood before where the questions are the same, and else
 //! asked anew. Times are in ticks.
-ghost use Rattle.std.specs.Prelude.{◌≡◌, ℕ, ◌<◌, ◌↔◌, length, Ok, IfOk, IfSome, IsTrue};
+ghost use Rattle.std.specs.Prelude.{◌≡◌, ℕ, ◌<◌, ◌↔◌, length, IfOk, IsTrue};
 ghost use Rattle.cl_model.specs.declared.model.SystemModel.{SystemModel};
 ghost use Rattle.cl_runs.specs.SystemOf.{system_of};
 ghost use Rattle.cl_runs.specs.TaskTiming.{timing_at};
 ghost use Rattle.cl_bound.specs.Answers.{answer_to, answers_of};
-ghost use Rattle.cl_edit.specs.Edited.{edited};
 ghost use Rattle.cl_analyse.specs.Headline.{question_at};
 ghost use Rattle.cl_incr.specs.Changed.{IsChangedTask};
 ghost use Rattle.cl_incr.specs.Inner.Kept.{IsKeptTask};
-ghost use Rattle.cl_incr.specs.Inner.Asked.{AsksOne, AsksTasks};
-ghost use Rattle.cl_incr.specs.Inner.Stays.{StayOffCore};
+ghost use Rattle.cl_incr.specs.Inner.Asked.{AsksOne};
 
-use crate::stays::{Site, number_before};
 use cl_analyse::answer_question;
 use cl_bound::TaskAnswer;
-use cl_edit::Edit;
 use cl_model::{List, ValidModel};
 use cl_resp::{Question, ask};
 use cl_time::{NoMemory, Steps};
@@ -74,94 +70,5 @@ pub(crate) fn answer_task<L: Ledger>(
     match kept_answer(alloc, old, answers, new, task, &question)? {
         Some(kept) => Ok(kept),
         None => Ok(answer_question(&question, steps)),
-    }
-}
-
-/// The answer that stood before for a task which is not on the core where one is added or dropped.
-fn answer_off_core(
-    old: &ValidModel,
-    answers: &List<TaskAnswer>,
-    new: &ValidModel,
-    site: Option<Site>,
-    task: u32,
-) -> Option<TaskAnswer>
-    requires answers { answers.now ≡ answers_of (system_of old.now) }
-    requires site { IfSome site (λ site. StayOffCore site.core site.gone old.now new.now) }
-    requires task { task < length new.now.tasks }
-    ensures { IfSome result (λ answer. answer ≡ answer_to (system_of new.now) (timing_at (system_of new.now) task)) }
-{
-    let site = site?;
-    if new.core_of(task) == site.core {
-        return None;
-    }
-    Some(answers.as_slice()[number_before(site.gone, task)])
-}
-
-/// The answer for a task of the new model, which isn't asked where one is added or dropped on another core. It counts a
-/// step where its question is changed.
-fn answer_beside<L: Ledger>(
-    alloc: Global,
-    old: &ValidModel,
-    answers: &List<TaskAnswer>,
-    new: &ValidModel,
-    site: Option<Site>,
-    task: u32,
-    steps: &mut Steps<L>,
-) -> Result<TaskAnswer, NoMemory>
-    requires answers { answers.now ≡ answers_of (system_of old.now) }
-    requires site { IfSome site (λ site. StayOffCore site.core site.gone old.now new.now) }
-    requires task { task < length new.now.tasks }
-    ensures answer { IfOk result (λ answer. answer ≡ answer_to (system_of new.now) (timing_at (system_of new.now) task)) }
-    ensures steps { AsksOne (IsChangedTask old.now new.now task) 1 steps.old steps.new }
-{
-    match answer_off_core(old, answers, new, site, task) {
-        Some(answer) => Ok(answer),
-        None => answer_task(alloc, old, answers, new, task, steps),
-    }
-}
-
-/// The answers for all tasks of the new model, in file order. Each changed question counts a step.
-fn answer_tasks<L: Ledger>(
-    alloc: Global,
-    old: &ValidModel,
-    answers: &List<TaskAnswer>,
-    new: &ValidModel,
-    site: Option<Site>,
-    steps: &mut Steps<L>,
-) -> Result<List<TaskAnswer>, NoMemory>
-    requires answers { answers.now ≡ answers_of (system_of old.now) }
-    requires site { IfSome site (λ site. StayOffCore site.core site.gone old.now new.now) }
-    ensures answers { IfOk result (λ answers. answers ≡ answers_of (system_of new.now)) }
-    ensures steps { AsksTasks old.now new.now (length new.now.tasks) steps.old steps.new }
-{
-    let mut new_answers = List::with_room(alloc, new.tasks() as usize)?;
-    for task in 0..new.tasks() {
-        let answer = answer_beside(alloc, old, answers, new, site, task, steps)?;
-        new_answers.push(answer)?;
-    }
-    Ok(new_answers)
-}
-
-/// The answers for all tasks of an edited model. `answers` are those for the tasks of the model before once more: an
-/// edit of chains keeps them.
-pub(crate) fn tasks_after<L: Ledger>(
-    alloc: Global,
-    old: &ValidModel,
-    answers: List<TaskAnswer>,
-    new: &ValidModel,
-    edit: &Edit,
-    site: Option<Site>,
-    steps: &mut Steps<L>,
-) -> Result<List<TaskAnswer>, NoMemory>
-    requires answers { answers ≡ answers_of (system_of old.now) }
-    requires made { edited old.now edit.now ≡ Ok new.now }
-    requires site { IfSome site (λ site. StayOffCore site.core site.gone old.now new.now) }
-    ensures answers { IfOk result (λ answers. answers ≡ answers_of (system_of new.now)) }
-    ensures steps { AsksTasks old.now new.now (length new.now.tasks) steps.old steps.new }
-{
-    match edit {
-        Edit::AddChain(_) => Ok(answers),
-        Edit::DropChain { .. } => Ok(answers),
-        _ => answer_tasks(alloc, old, &answers, new, site, steps),
     }
 }

@@ -1,14 +1,14 @@
 //! What an edit touches, where each task and each chain keeps its number: the tasks that it may give other timings, and
 //! the tasks of their cores, which may get other answers. Times are in ticks.
-ghost use Rattle.std.specs.Prelude.{◌≡◌, ℕ, ◌<◌, ◌⊎◌, ◌↔◌, [], ◌∷◌, ◌++◌, cond, length, IsTrue, IfOk, IfSome, OnOk, Ok, All, Contains};
+ghost use Rattle.std.specs.Prelude.{◌≡◌, ℕ, ◌<◌, ◌⊎◌, ◌↔◌, [], ◌∷◌, ◌++◌, cond, length, IsTrue, IfOk, OnOk, All, Contains};
 ghost use Rattle.std.specs.List.Sorted.{IsStrictlyIncreasing};
 ghost use Rattle.cl_model.specs.ByNumber.{core_of, stimulus_of, tasks_of_core};
 ghost use Rattle.cl_model.specs.Groups.{step_named};
-ghost use Rattle.cl_edit.specs.Edited.{task_number, edited};
+ghost use Rattle.cl_model.specs.Named.{task_names};
+ghost use Rattle.cl_edit.specs.Edited.{all_names, found, task_number};
 ghost use Rattle.cl_incr.specs.Touched.{Touches, KeepAnswersBut};
 
 use crate::numbers::put_in_order;
-use cl_edit::Edit;
 use cl_model::{List, Name, StimulusKind, ValidModel};
 use cl_time::NoMemory;
 use std::alloc::Global;
@@ -31,45 +31,53 @@ fn two_tasks(alloc: Global, one: u32, other: u32) -> Result<List<u32>, NoMemory>
 }
 
 /// The task of the runnable of that name.
-fn task_of_runnable(
+pub(crate) fn task_of_runnable(
     alloc: Global,
     model: &ValidModel,
     runnable: &Name,
-) -> Result<Option<List<u32>>, NoMemory>
-    ensures { IfOk result (λ found. IfSome found (λ tasks.
-        (tasks ≡ (step_named model.now runnable.now).task ∷ []) × ((step_named model.now runnable.now).task < length model.now.tasks))) }
+) -> Result<List<u32>, NoMemory>
+    requires { found runnable.now (all_names model.now) ≡ [] }
+    ensures task { IfOk result (λ tasks. tasks ≡ (step_named model.now runnable.now).task ∷ []) }
+    ensures known { (step_named model.now runnable.now).task < length model.now.tasks }
 {
     match model.step_named(runnable) {
-        Some(step) => Ok(Some(one_task(alloc, step.task)?)),
-        None => Ok(None),
+        Some(step) => one_task(alloc, step.task),
+        None => unreachable!(),
     }
 }
 
 /// The task of that name.
-fn task_named(alloc: Global, model: &ValidModel, task: &Name) -> Result<Option<List<u32>>, NoMemory>
-    ensures { IfOk result (λ found. IfSome found (λ tasks.
-        (tasks ≡ task_number model.now task.now ∷ []) × (task_number model.now task.now < length model.now.tasks))) }
+pub(crate) fn task_named(
+    alloc: Global,
+    model: &ValidModel,
+    task: &Name,
+) -> Result<List<u32>, NoMemory>
+    requires { found task.now (task_names model.now) ≡ [] }
+    ensures task { IfOk result (λ tasks. tasks ≡ task_number model.now task.now ∷ []) }
+    ensures known { task_number model.now task.now < length model.now.tasks }
 {
     match model.task_named(task) {
-        Some(number) => Ok(Some(one_task(alloc, number)?)),
-        None => Ok(None),
+        Some(number) => one_task(alloc, number),
+        None => unreachable!(),
     }
 }
 
 /// The tasks of two names.
-fn tasks_named(
+pub(crate) fn tasks_named(
     alloc: Global,
     model: &ValidModel,
     one: &Name,
     other: &Name,
-) -> Result<Option<List<u32>>, NoMemory>
-    ensures { IfOk result (λ found. IfSome found (λ tasks.
-        (tasks ≡ task_number model.now one.now ∷ task_number model.now other.now ∷ [])
-        × (task_number model.now one.now < length model.now.tasks) × (task_number model.now other.now < length model.now.tasks))) }
+) -> Result<List<u32>, NoMemory>
+    requires one { found one.now (task_names model.now) ≡ [] }
+    requires other { found other.now (task_names model.now) ≡ [] }
+    ensures tasks { IfOk result (λ tasks. tasks ≡ task_number model.now one.now ∷ task_number model.now other.now ∷ []) }
+    ensures one_known { task_number model.now one.now < length model.now.tasks }
+    ensures other_known { task_number model.now other.now < length model.now.tasks }
 {
     match (model.task_named(one), model.task_named(other)) {
-        (Some(one), Some(other)) => Ok(Some(two_tasks(alloc, one, other)?)),
-        _ => Ok(None),
+        (Some(one), Some(other)) => two_tasks(alloc, one, other),
+        _ => unreachable!(),
     }
 }
 
@@ -88,7 +96,7 @@ pub(crate) fn push_unless(tasks: &mut List<u32>, test: bool, task: u32) -> Resul
 }
 
 /// The tasks whose stimuli are of other kinds, or have other numbers, in another model of the same tasks.
-fn tasks_of_other_kinds(
+pub(crate) fn tasks_of_other_kinds(
     alloc: Global,
     old: &ValidModel,
     new: &ValidModel,
@@ -104,32 +112,6 @@ fn tasks_of_other_kinds(
         push_unless(&mut tasks, is_same, task)?;
     }
     Ok(tasks)
-}
-
-/// The tasks that an edit may give other timings, where each task and each chain keeps its number.
-pub(crate) fn touched_tasks(
-    alloc: Global,
-    old: &ValidModel,
-    new: &ValidModel,
-    edit: &Edit,
-) -> Result<Option<List<u32>>, NoMemory>
-    requires { edited old.now edit.now ≡ Ok new.now }
-    ensures { IfOk result (λ found. IfSome found (Touches old.now new.now)) }
-{
-    match edit {
-        Edit::Range { runnable, .. } => task_of_runnable(alloc, old, runnable),
-        Edit::Whole { runnable, .. } => task_of_runnable(alloc, old, runnable),
-        Edit::Deadline { task, .. } => task_named(alloc, old, task),
-        Edit::Kind { task, .. } => task_named(alloc, old, task),
-        Edit::Move { task, .. } => task_named(alloc, old, task),
-        Edit::Swap { one, other } => tasks_named(alloc, old, one, other),
-        Edit::Period { .. } => Ok(Some(tasks_of_other_kinds(alloc, old, new)?)),
-        Edit::Offset { .. } => Ok(Some(tasks_of_other_kinds(alloc, old, new)?)),
-        Edit::Jitter { .. } => Ok(Some(tasks_of_other_kinds(alloc, old, new)?)),
-        Edit::Distances { .. } => Ok(Some(tasks_of_other_kinds(alloc, old, new)?)),
-        Edit::Burst { .. } => Ok(Some(tasks_of_other_kinds(alloc, old, new)?)),
-        _ => Ok(None),
-    }
 }
 
 /// The cores of these tasks, before a change and after it, in rising order.
@@ -154,7 +136,11 @@ fn cores_of(
 }
 
 /// The tasks of these cores, in rising order.
-fn tasks_of_cores(alloc: Global, model: &ValidModel, cores: &[u32]) -> Result<Vec<u32>, NoMemory>
+pub(crate) fn tasks_of_cores(
+    alloc: Global,
+    model: &ValidModel,
+    cores: &[u32],
+) -> Result<Vec<u32>, NoMemory>
     requires { All (λ core. core < length model.now.cores) cores.now }
     ensures rising { IfOk result (λ tasks. IsStrictlyIncreasing tasks.items) }
     ensures below { IfOk result (λ tasks. All (λ task. task < length model.now.tasks) tasks.items) }

@@ -42,19 +42,18 @@ pub(crate) fn twin_of(
     Ok(Twin { model, tasks })
 }
 
-/// The twin of an edited model, made anew from the model before, where there is memory for it.
-pub(crate) fn twin_after(
+/// The twin of an edited model with these answers: the model before, which is edited too where there is memory for that.
+pub(crate) fn twin_with(
     alloc: Global,
     old: ValidModel,
     edit: &Edit,
-    answers: &List<TaskAnswer>,
+    tasks: List<TaskAnswer>,
 ) -> Option<Twin>
     requires in_range { IsEditInRange edit.now }
     requires passes { edited old edit.now ≡ Ok (with_edit old edit.now) }
-    ensures { IfSome result (IsEditedTwin old edit.now answers.now) }
+    ensures { IfSome result (IsEditedTwin old edit.now tasks) }
 {
     let model = change_valid(alloc, old, edit).ok()?;
-    let tasks = copy_answers(alloc, answers).ok()?;
     Some(Twin { model, tasks })
 }
 
@@ -71,8 +70,7 @@ fn catch_up(answers: &mut List<TaskAnswer>, tasks: &[u32], new: &List<TaskAnswer
     }
 }
 
-/// The twin of an edited model: the model before, which is edited too where there is memory for that, and the answers
-/// for its tasks, brought up to the new ones.
+/// The twin of an edited model, with the answers for its tasks, which are brought up to the new ones.
 pub(crate) fn caught_up(
     alloc: Global,
     old: ValidModel,
@@ -89,6 +87,5 @@ pub(crate) fn caught_up(
     ensures { IfSome result (IsEditedTwin old edit.now answers.now) }
 {
     catch_up(&mut tasks, asked, answers);
-    let model = change_valid(alloc, old, edit).ok()?;
-    Some(Twin { model, tasks })
+    twin_with(alloc, old, edit, tasks)
 }

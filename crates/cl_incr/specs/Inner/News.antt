@@ -7,7 +7,6 @@ use Rattle.cl_analyse.specs.Verdicts.{required_chain, requirement_at}
 use Rattle.cl_incr.specs.declared.chains.ChainFindings.{ChainFindings}
 use Rattle.cl_incr.specs.declared.news.FoundChain.{FoundChain}
 use Rattle.cl_incr.specs.declared.news.News.{News}
-use Rattle.cl_incr.specs.Touched.{KeepAnswersBut}
 use Rattle.cl_incr.specs.Inner.Kept.{AreFoundOf}
 
 -- the numbers of the chains of which something is found
@@ -34,8 +33,6 @@ IsConcerned model chains requirements requirement =
 -- with the news in their places, the findings of the old model are those of the new one
 pub record AreNewsOf (old new : SystemModel) (news : News) : Type 0 where
   pub tasks : news.tasks ≡ answers_of (system_of new)
-  pub asked_below : All (λ task. task < length new.tasks) news.asked.items
-  pub asked : KeepAnswersBut news.asked.items old new
   pub chains_below : All (λ chain. chain < length new.chains) (chains_found news.chains.items)
   pub chains : AreAllFound new news.chains.items
   pub other_chains : StayFoundBut (chains_found news.chains.items) old new

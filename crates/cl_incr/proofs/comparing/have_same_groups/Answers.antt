@@ -4,18 +4,22 @@ use Rattle.cl_runs.specs.SystemOf.{system_of}
 use Rattle.cl_incr.specs.Questions.{group_question}
 use Rattle.cl_incr.proofs.SameQuestions.{same_maps, maps_count, maps_at}
 use Rattle.cl_incr.proofs.comparing.have_same_groups.Goals as goal
+use Rattle.cl_incr.proofs.comparing.have_same_groups.Goals.{then-group_count-count-via-then-group_count-count, then-group_count-count-via-else-group_count-count+then-have_other_responses}
 
 pub returns-then-group_count-count : goal.returns-then-group_count-count
 returns-then-group_count-count c = (
   λ is. absurd cc,
-  λ same. absurd (omega (
-    arith,
-    c.if-group_count-count.true,
-    c.group_count.ensures.count,
-    c.group_count-count.ensures.count,
-    maps_count (group_question (system_of c.args.old.now) c.args.old_answers.now) (group_question (system_of c.args.new.now) c.args.new_answers.now)
-        (groups_at c.args.old.now c.args.before) (groups_at c.args.new.now c.args.chain) no_group no_group same,
-  )),
+  λ same. elim c.then-group_count-count.branch [
+    | then-group_count-count-via-then-group_count-count w ↦ absurd (omega (
+      arith,
+      w.if-group_count-count.true,
+      c.group_count.ensures.count,
+      c.group_count-count.ensures.count,
+      maps_count (group_question (system_of c.args.old.now) c.args.old_answers.now) (group_question (system_of c.args.new.now) c.args.new_answers.now)
+          (groups_at c.args.old.now c.args.before) (groups_at c.args.new.now c.args.chain) no_group no_group same,
+    ))
+    | then-group_count-count-via-else-group_count-count+then-have_other_responses w ↦ absurd (w.have_other_responses.ensures w.if-have_other_responses.true same)
+  ],
 )
 
 pub loop-place-preserved : goal.loop-place-preserved

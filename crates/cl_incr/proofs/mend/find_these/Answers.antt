@@ -1,4 +1,4 @@
-use Rattle.std.proofs.Common.{◌≡◌, ℕ, ◌<◌, ◌++◌, [], ◌∷◌, List, get_or, length, take, map, sym, ap, ◌∙◌, subst, arith}
+use Rattle.std.proofs.Common.{◌≡◌, ℕ, ◌++◌, [], ◌∷◌, List, get_or, length, sym, ap, ◌∙◌, subst}
 use Rattle.std.proofs.lemmas.List.{take_more, take_all, map-append}
 use Rattle.std.proofs.lemmas.List.Elements.{All-nil, All-push}
 use Rattle.cl_incr.specs.declared.news.FoundChain.{FoundChain}
@@ -10,8 +10,8 @@ use Rattle.cl_incr.proofs.mend.find_these.Goals as goal
 
 pub loop-chain-init : goal.loop-chain-init
 loop-chain-init g c = record {
-  chains = ap chains_found c.new-all.ensures.items;
-  found = subst (AreAllFound c.args.new.now) (sym c.new-all.ensures.items) (All-nil (λ (f : FoundChain). AreFoundOf c.args.new.now f.chain f.found));
+  chains = ap chains_found c.in_ok-all.ensures.items;
+  found = subst (AreAllFound c.args.new.now) (sym c.in_ok-all.ensures.items) (All-nil (λ (f : FoundChain). AreFoundOf c.args.new.now f.chain f.found));
   steps = asks_start (IsChangedChain c.args.old.now c.args.new.now) 2 (length c.args.new.now.chains) c.args.chains.now c.args.steps.now;
 }
 

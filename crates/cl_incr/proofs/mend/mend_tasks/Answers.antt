@@ -1,29 +1,22 @@
-use Rattle.std.proofs.Common.{◌≡◌, ℕ, ◌<◌, List, get_or, length, refl, sym, ap, ◌∙◌, inl, inr, arith}
+use Rattle.std.proofs.Common.{◌≡◌, get_or, length, refl, sym, ◌∙◌, arith}
 use Rattle.std.proofs.lemmas.List.{length-set}
 use Rattle.cl_runs.specs.SystemOf.{system_of}
-use Rattle.cl_bound.specs.declared.answer.TaskAnswer.{TaskAnswer}
 use Rattle.cl_bound.specs.declared.answer.TaskAnswer.TheVariants.{Late}
 use Rattle.cl_bound.specs.Answers.{answer_at, answers_of}
 use Rattle.cl_incr.specs.Changed.{IsChangedTask}
 use Rattle.cl_incr.proofs.AskedSteps.{asks_start, asks_on, asks_all}
 use Rattle.cl_incr.proofs.KeptAnswers.{answer_is, answer_count}
-use Rattle.cl_incr.proofs.Mended.{task_count}
 use Rattle.cl_incr.proofs.Waiting.{all_ahead, item_next, all_items}
 use Rattle.cl_incr.proofs.mend.mend_tasks.Goals as goal
 
 pub loop-task-init : goal.loop-task-init
 loop-task-init g c =
-    let old = c.args.old.now in
     let new = c.args.new.now in
-    let was : c.args.mended.now ≡ answers_of (system_of old) = c.requires.mended ∙ c.requires.answers in
     record {
-      count = answer_count old c.args.mended.now was ∙ task_count old new c.requires.keeps;
+      count = c.requires.count;
       each = λ task within. all_ahead (λ t. answer_at c.args.mended.now t ≡ answer_at (answers_of (system_of new)) t) c.args.asked.now task
-          (elim (c.requires.others task within) [
-            | inl same ↦ inl (ap (λ (l : List TaskAnswer). answer_at l task) was ∙ same)
-            | inr among ↦ inr among
-          ]);
-      steps = asks_start (IsChangedTask old new) 1 (length new.tasks) c.args.asked.now c.args.steps.now;
+          (c.requires.others task within);
+      steps = asks_start (IsChangedTask c.args.old.now new) 1 (length new.tasks) c.args.asked.now c.args.steps.now;
     }
 
 pub answer_task-requires-clause-task : goal.answer_task-requires-clause-task

@@ -6,7 +6,7 @@ use Rattle.cl_bound.specs.declared.answer.TaskAnswer.{TaskAnswer}
 use Rattle.cl_bound.specs.Answers.{answer_at, answers_of}
 use Rattle.cl_analyse.specs.Verdicts.{required_chain, requirement_at}
 use Rattle.cl_incr.specs.Changed.{IsChangedChain}
-use Rattle.cl_incr.specs.Touched.{HasSameAnswer, StandBut}
+use Rattle.cl_incr.specs.Touched.{HasSameAnswer, AreAnswersBut, StandBut}
 use Rattle.cl_incr.specs.Inner.Listed.{listed, AreListedBelow}
 use Rattle.cl_incr.specs.Inner.News.{chains_found, StayFoundBut}
 use Rattle.cl_incr.proofs.AskedSteps.{asks_none, asks_for_changes}
@@ -14,6 +14,18 @@ use Rattle.cl_incr.proofs.KeptAnswers.{answer_count}
 use Rattle.cl_incr.proofs.Mended.{task_count, stand_but}
 use Rattle.cl_incr.proofs.PassesKept.{passes_kept}
 use Rattle.cl_incr.proofs.mend.news_of.Goals as goal
+
+pub mend_tasks-requires-clause-count : goal.mend_tasks-requires-clause-count
+mend_tasks-requires-clause-count g c =
+    ap length c.requires.tasks
+    ∙ answer_count c.args.old.now c.args.findings.now.tasks c.requires.findings.tasks
+    ∙ task_count c.args.old.now c.args.new.now c.requires.touched.keeps
+
+pub mend_tasks-requires-clause-others : goal.mend_tasks-requires-clause-others
+mend_tasks-requires-clause-others g c =
+    subst (λ (l : List ℕ). AreAnswersBut l c.args.tasks c.args.new.now) (sym c.as_slice.ensures.value)
+    (subst (λ (l : List TaskAnswer). AreAnswersBut c.in_ok-asked.asked.items l c.args.new.now) (sym (c.requires.tasks ∙ c.requires.findings.tasks))
+    c.in_ok-asked.ensures.others)
 
 pub tasks_standing_otherwise-requires-clause-count : goal.tasks_standing_otherwise-requires-clause-count
 tasks_standing_otherwise-requires-clause-count g c =
@@ -86,8 +98,6 @@ returns-clause-news g c =
     c.in_ok-requirements.ensures.all) in
     record {
       tasks = c.in_ok-mend_tasks.ensures.answers;
-      asked_below = c.in_ok-asked.ensures.below;
-      asked = c.in_ok-asked.ensures.others;
       chains_below = subst (λ (l : List ℕ). All (λ chain. chain < length new.chains) l) (sym found_is) c.in_ok-chains.ensures.below;
       chains = c.in_ok-found.ensures.found;
       other_chains = subst (λ (l : List ℕ). StayFoundBut l old new) (sym found_is) c.in_ok-chains.ensures.others;

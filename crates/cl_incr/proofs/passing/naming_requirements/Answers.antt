@@ -1,4 +1,4 @@
-use Rattle.std.proofs.Common.{◌≡◌, ℕ, ◌<◌, [], List, length, replicate, sym, ap, ◌∙◌, subst, arith, below_more}
+use Rattle.std.proofs.Common.{[], length, sym, ap, ◌∙◌, subst, arith, below_more}
 use Rattle.std.proofs.lemmas.List.{length-replicate}
 use Rattle.cl_model.specs.declared.model.SystemModel.{SystemModel}
 use Rattle.cl_incr.specs.Inner.Listed.{AreListedBelow}

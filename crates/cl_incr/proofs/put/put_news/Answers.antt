@@ -1,23 +1,21 @@
 use Rattle.std.proofs.Common.{◌≡◌, ℕ, ◌<◌, ◌⊎◌, List, length, sym, ap, ◌∙◌, subst, arith}
 use Rattle.std.specs.Prelude.{All, Contains}
 use Rattle.std.proofs.lemmas.List.{length-map}
-use Rattle.cl_runs.specs.SystemOf.{system_of}
 use Rattle.cl_model.specs.declared.model.SystemModel.{SystemModel}
 use Rattle.cl_analyse.specs.Verdicts.{verdict_at, verdict_of, requirement_at}
 use Rattle.cl_analyse.specs.ChainAnswers.{chain_answer_of}
 use Rattle.cl_analyse.specs.declared.findings.Findings.{Findings}
 use Rattle.cl_analyse.specs.Findings.{AreFindings}
 use Rattle.cl_incr.specs.declared.news.FoundChain.{FoundChain}
-use Rattle.cl_incr.specs.Touched.{KeepsNumbers}
-use Rattle.cl_incr.specs.Inner.News.{chains_found, AreNewsOf}
+use Rattle.cl_incr.specs.Touched.{KeepsChains}
+use Rattle.cl_incr.specs.Inner.News.{chains_found}
 use Rattle.cl_incr.specs.Inner.Put.{ArePut}
-use Rattle.cl_incr.proofs.Mended.{chain_count}
-use Rattle.cl_incr.proofs.NewFindings.{chains_right, exacts_right, verdict_count, other_verdicts}
+use Rattle.cl_incr.proofs.NewFindings.{chains_right, exacts_right, other_verdicts}
 use Rattle.cl_incr.proofs.put.put_news.Goals as goal
 
 -- as many chains are found as the new model has
-as_many : (old new : SystemModel) (findings : Findings) → AreFindings old findings → KeepsNumbers old new → length findings.chains ≡ length new.chains
-as_many old new findings are keeps = ap length are.chains ∙ length-map old.chains (chain_answer_of old) ∙ chain_count old new keeps
+as_many : (old new : SystemModel) (findings : Findings) → AreFindings old findings → KeepsChains old new → length findings.chains ≡ length new.chains
+as_many old new findings are keeps = ap length are.chains ∙ length-map old.chains (chain_answer_of old) ∙ ap length keeps.chains
 
 pub put_chains-requires-clause-chains : goal.put_chains-requires-clause-chains
 put_chains-requires-clause-chains c =

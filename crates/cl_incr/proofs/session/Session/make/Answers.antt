@@ -14,3 +14,7 @@ returns-in_err-model-2-clause-steps g c =
 pub returns-in_err-touched-clause-steps : goal.returns-in_err-touched-clause-steps
 returns-in_err-touched-clause-steps g c =
     asks_nothing c.args.self.now.model (with_edit c.args.self.now.model c.args.edit.now) c.args.steps.now c.args.steps.now (omega arith)
+
+pub returns-in-Chain-clause-steps : goal.returns-in-Chain-clause-steps
+returns-in-Chain-clause-steps g c =
+    asks_nothing c.args.self.now.model (with_edit c.args.self.now.model c.args.edit.now) c.args.steps.now c.args.steps.now (omega arith)

@@ -5,20 +5,22 @@ use Rattle.cl_runs.specs.SystemOf.{system_of}
 use Rattle.cl_bound.specs.declared.answer.TaskAnswer.{TaskAnswer}
 use Rattle.cl_bound.specs.Answers.{answer_at, answers_of}
 use Rattle.cl_edit.specs.Edited.{with_edit, edited}
+use Rattle.cl_analyse.specs.Findings.{AreFindings}
 use Rattle.cl_incr.specs.declared.news.News.{News}
 use Rattle.cl_incr.specs.SessionState.{SessionState}
-use Rattle.cl_incr.specs.Touched.{KeepsNumbers}
+use Rattle.cl_incr.specs.Touched.{KeepsNumbers, KeepsChains, KeepAnswersBut}
 use Rattle.cl_incr.specs.Inner.IsTwin.{IsTwinOf, IsEditedTwin}
 use Rattle.cl_incr.specs.Inner.Passes.{ArePassesOf}
 use Rattle.cl_incr.specs.Inner.News.{AreNewsOf}
 use Rattle.cl_incr.proofs.CheckedEdits.{made_as_meant, twin_again}
 use Rattle.cl_incr.proofs.KeptAnswers.{answer_count}
 use Rattle.cl_incr.proofs.Mended.{task_count}
-use Rattle.cl_incr.proofs.PassesKept.{passes_kept}
+use Rattle.cl_incr.proofs.PassesKept.{keeps_chains, passes_kept}
 use Rattle.cl_incr.proofs.session.Session.take_news.Goals as goal
 
 -- the answers for the tasks of the old model differ from those for the new one only where a task was asked
-module _ (old new : SystemModel) (keeps : KeepsNumbers old new) (news : News) (are : AreNewsOf old new news) (tasks answers : List TaskAnswer) (asked : List ℕ)
+module _ (old new : SystemModel) (keeps : KeepsNumbers old new) (news : News) (are_below : All (λ task. task < length new.tasks) news.asked.items)
+    (are_asked : KeepAnswersBut news.asked.items old new) (tasks answers : List TaskAnswer) (asked : List ℕ)
     (were : tasks ≡ answers_of (system_of old)) (is : answers ≡ answers_of (system_of new)) (those : asked ≡ news.asked.items) where
   same_count : length tasks ≡ length answers
   same_count = answer_count old tasks were ∙ task_count old new keeps ∙ sym (answer_count new answers is)
@@ -26,13 +28,21 @@ module _ (old new : SystemModel) (keeps : KeepsNumbers old new) (news : News) (a
   all_below : All (λ task. task < length answers) asked
   all_below =
       subst (λ (l : List ℕ). All (λ task. task < length answers) l) (sym those)
-      (λ k d within. omega (arith, are.asked_below k d within, answer_count new answers is))
+      (λ k d within. omega (arith, are_below k d within, answer_count new answers is))
 
   others_same : (task : ℕ) → task < length answers → (answer_at tasks task ≡ answer_at answers task) ⊎ Contains asked task
-  others_same task within = elim (are.asked task (omega (arith, within, answer_count new answers is))) [
+  others_same task within = elim (are_asked task (omega (arith, within, answer_count new answers is))) [
     | inl same ↦ inl (ap (λ (l : List TaskAnswer). answer_at l task) were ∙ same ∙ sym (ap (λ (l : List TaskAnswer). answer_at l task) is))
     | inr among ↦ inr (subst (λ (l : List ℕ). Contains l task) (sym those) among)
   ]
+
+pub put_news-requires : goal.put_news-requires
+put_news-requires c = (
+  c.args.self.now.model,
+  subst (λ (m : SystemModel). AreFindings m c.self.inside.findings) (ap (λ (s : SessionState). s.model) c.self.view_is) c.self.invariant.found,
+  subst (KeepsChains c.args.self.now.model) (sym c.replace-old.ensures.after) (keeps_chains c.args.self.now.model c.args.model c.requires.keeps),
+  subst (λ (m : SystemModel). AreNewsOf c.args.self.now.model m c.args.news) (sym c.replace-old.ensures.after) c.requires.news,
+)
 
 pub caught_up-requires : goal.caught_up-requires
 caught_up-requires c =
@@ -51,9 +61,9 @@ caught_up-requires c =
       passes =
           subst (λ (m : SystemModel). edited m c.args.edit.now ≡ Ok (with_edit m c.args.edit.now)) (sym (c.replace-old.ensures.value ∙ model_is))
           (made_as_meant old c.args.edit.now new c.requires.made);
-      count = same_count old new c.requires.keeps c.args.news c.requires.news tasks answers asked were is those;
-      below = all_below old new c.requires.keeps c.args.news c.requires.news tasks answers asked were is those;
-      others = others_same old new c.requires.keeps c.args.news c.requires.news tasks answers asked were is those;
+      count = same_count old new c.requires.keeps c.args.news c.requires.asked_below c.requires.asked tasks answers asked were is those;
+      below = all_below old new c.requires.keeps c.args.news c.requires.asked_below c.requires.asked tasks answers asked were is those;
+      others = others_same old new c.requires.keeps c.args.news c.requires.asked_below c.requires.asked tasks answers asked were is those;
     }
 
 -- the findings are those of the model that is put, its twin holds the same, and the same chains pass each task

@@ -1,0 +1,82 @@
+use Rattle.std.proofs.Common.{◌≡◌, ◌<◌, List, length, sym, ap, ◌∙◌, subst, arith, Ok}
+use Rattle.std.specs.Prelude.{IfSome}
+use Rattle.cl_model.specs.declared.model.SystemModel.{SystemModel}
+use Rattle.cl_runs.specs.SystemOf.{system_of}
+use Rattle.cl_bound.specs.declared.answer.TaskAnswer.{TaskAnswer}
+use Rattle.cl_bound.specs.Answers.{answers_of}
+use Rattle.cl_edit.specs.Edited.{with_edit, edited}
+use Rattle.cl_analyse.specs.declared.findings.Findings.{Findings}
+use Rattle.cl_analyse.specs.Findings.{AreFindings}
+use Rattle.cl_incr.specs.Changed.{AsksForChanges}
+use Rattle.cl_incr.specs.SessionState.{SessionState}
+use Rattle.cl_incr.specs.Inner.Kept.{AreFoundOf}
+use Rattle.cl_incr.specs.Inner.IsTwin.{IsTwinOf, IsEditedTwin}
+use Rattle.cl_incr.proofs.AskedSteps.{asks_for_chain}
+use Rattle.cl_incr.proofs.CheckedEdits.{made_as_meant, twin_again}
+use Rattle.cl_incr.proofs.session.Session.add_chain.Goals as goal
+
+pub find_chain-found-requires-clause-findings : goal.find_chain-found-requires-clause-findings
+find_chain-found-requires-clause-findings g c = c.self.invariant.found
+
+pub find_chain-found-requires-clause-tasks : goal.find_chain-found-requires-clause-tasks
+find_chain-found-requires-clause-tasks g c =
+    c.requires.tasks ∙ sym (ap (λ (s : SessionState). s.findings.tasks) c.self.view_is) ∙ c.self.invariant.found.tasks
+    ∙ ap (λ (s : SessionState). answers_of (system_of s.model)) c.self.view_is ∙ ap answers_of c.requires.adds.system
+
+pub find_chain-found-requires-clause-chain : goal.find_chain-found-requires-clause-chain
+find_chain-found-requires-clause-chain g c =
+    omega (arith, c.chains-chain.ensures.count, ap (λ (s : SessionState). length s.model.chains) c.self.view_is, c.requires.adds.count)
+
+pub put_new_chain-requires : goal.put_new_chain-requires
+put_new_chain-requires g c = (
+  c.args.self.now.model,
+  subst (λ (m : SystemModel). AreFindings m c.self.inside.findings) (ap (λ (s : SessionState). s.model) c.self.view_is) c.self.invariant.found,
+  c.requires.adds,
+  subst (λ n. AreFoundOf c.args.model n c.find_chain-found.result) (c.chains-chain.ensures.count ∙ ap (λ (s : SessionState). length s.model.chains) c.self.view_is)
+      c.find_chain-found.ensures.found,
+)
+
+pub twin_with-requires-clause-passes : goal.twin_with-requires-clause-passes
+twin_with-requires-clause-passes g c =
+    subst (λ (m : SystemModel). edited m c.args.edit.now ≡ Ok (with_edit m c.args.edit.now))
+    (sym (c.replace-old.ensures.value ∙ ap (λ (s : SessionState). s.model) c.self.view_is))
+    (made_as_meant c.args.self.now.model c.args.edit.now c.args.model c.requires.made)
+
+-- where there is no memory for the chain, all is as it was
+pub invariant_of-self : goal.invariant_of-self
+invariant_of-self g c =
+    let same = c.in_err-put_new_chain.ensures.unchanged in
+    record {
+      found = subst (λ (f : Findings). AreFindings c.self.inside.model f) (sym same) c.self.invariant.found;
+      twin = subst (λ (f : Findings). IfSome c.self.inside.twin (IsTwinOf c.self.inside.model f.tasks)) (sym same) c.self.invariant.twin;
+      passing = c.self.invariant.passing;
+    }
+
+-- the findings are those of the model that is put, and its twin holds the same
+pub invariant_of-self-2 : goal.invariant_of-self-2
+invariant_of-self-2 g c =
+    let old_is = c.replace-old.ensures.value ∙ ap (λ (s : SessionState). s.model) c.self.view_is in
+    let twin = c.twin_with.result in
+    let tasks_are : c.args.tasks ≡ c.put_new_chain.new.findings.tasks
+    = c.requires.tasks ∙ sym (ap (λ (s : SessionState). s.findings.tasks) c.self.view_is) ∙ sym c.put_new_chain.ensures.tasks in
+    record {
+      found = subst (λ (m : SystemModel). AreFindings m c.put_new_chain.new.findings) (sym c.replace-old.ensures.after) c.in_ok-put_new_chain.ensures.found;
+      twin =
+          subst (λ (m : SystemModel). IfSome twin (IsTwinOf m c.put_new_chain.new.findings.tasks)) (sym c.replace-old.ensures.after)
+          (twin_again c.args.self.now.model c.args.edit.now c.args.model c.put_new_chain.new.findings.tasks twin c.requires.made
+          (subst (λ (l : List TaskAnswer). IfSome twin (IsEditedTwin c.args.self.now.model c.args.edit.now l)) tasks_are
+          (subst (λ (m : SystemModel). IfSome twin (IsEditedTwin m c.args.edit.now c.args.tasks)) old_is c.twin_with.ensures)));
+      passing = tt;
+    }
+
+pub returns-clause-steps : goal.returns-clause-steps
+returns-clause-steps g c =
+    let within : c.chains-chain.result < length c.args.model.chains = omega (arith, c.chains-chain.ensures.count, ap (λ (s : SessionState). length s.model.chains) c.self.view_is, c.requires.adds.count) in
+    subst (λ (m : SystemModel). AsksForChanges m c.args.model c.args.steps.now c.find_chain-found.new.steps) (ap (λ (s : SessionState). s.model) c.self.view_is)
+    (asks_for_chain c.self.inside.model c.args.model c.chains-chain.result c.args.steps.now c.find_chain-found.new.steps within c.find_chain-found.ensures.steps)
+
+pub returns-in_err-put_new_chain-clause-steps : goal.returns-in_err-put_new_chain-clause-steps
+returns-in_err-put_new_chain-clause-steps g c =
+    let within : c.chains-chain.result < length c.args.model.chains = omega (arith, c.chains-chain.ensures.count, ap (λ (s : SessionState). length s.model.chains) c.self.view_is, c.requires.adds.count) in
+    subst (λ (m : SystemModel). AsksForChanges m c.args.model c.args.steps.now c.find_chain-found.new.steps) (ap (λ (s : SessionState). s.model) c.self.view_is)
+    (asks_for_chain c.self.inside.model c.args.model c.chains-chain.result c.args.steps.now c.find_chain-found.new.steps within c.find_chain-found.ensures.steps)

@@ -1,0 +1,89 @@
+use Rattle.std.proofs.Common.{◌≡◌, ℕ, ◌<◌, ◌⊎◌, inl, inr, List, length, refl, sym, ap, ◌∙◌, subst, arith, Ok}
+use Rattle.std.specs.Prelude.{All, Contains, IfSome}
+use Rattle.cl_model.specs.declared.model.SystemModel.{SystemModel}
+use Rattle.cl_model.specs.Validity.{IsValid}
+use Rattle.cl_runs.specs.SystemOf.{system_of}
+use Rattle.cl_bound.specs.declared.answer.TaskAnswer.{TaskAnswer}
+use Rattle.cl_bound.specs.declared.answer.TaskAnswer.TheVariants.{Late}
+use Rattle.cl_bound.specs.Answers.{answer_at, answers_of}
+use Rattle.cl_edit.specs.Edited.{with_edit, edited}
+use Rattle.cl_analyse.specs.Findings.{AreFindings}
+use Rattle.cl_incr.specs.declared.news.News.{News}
+use Rattle.cl_incr.specs.SessionState.{SessionState}
+use Rattle.cl_incr.specs.Touched.{KeepsChains, AreAnswersBut}
+use Rattle.cl_incr.specs.Inner.IsTwin.{IsTwinOf, IsEditedTwin}
+use Rattle.cl_incr.specs.Inner.Passes.{ArePassesOf}
+use Rattle.cl_incr.specs.Inner.News.{AreNewsOf}
+use Rattle.cl_incr.specs.Inner.Reach.{moved, MovesTasks}
+use Rattle.cl_incr.proofs.CheckedEdits.{made_as_meant, twin_again}
+use Rattle.cl_incr.proofs.KeptAnswers.{answer_count}
+use Rattle.cl_incr.proofs.MovedAnswers.{moved_count_is}
+use Rattle.cl_incr.proofs.session.Session.take_moved.Goals as goal
+
+-- the answers for the tasks of the old model, moved, differ from those for the new one only where a task was asked
+module _ (core gone : ℕ) (old new : SystemModel) (moves : MovesTasks core gone old new) (news : News) (are_below : All (λ task. task < length new.tasks) news.asked.items)
+    (are_asked : AreAnswersBut news.asked.items (moved gone Late (answers_of (system_of old))) new) (tasks answers : List TaskAnswer) (asked : List ℕ)
+    (were : tasks ≡ answers_of (system_of old)) (is : answers ≡ answers_of (system_of new)) (those : asked ≡ news.asked.items) where
+  same_count : length (moved gone Late tasks) ≡ length answers
+  same_count = moved_count_is core gone old new moves tasks (moved gone Late tasks) were refl ∙ sym (answer_count new answers is)
+
+  all_below : All (λ task. task < length answers) asked
+  all_below =
+      subst (λ (l : List ℕ). All (λ task. task < length answers) l) (sym those)
+      (λ k d within. omega (arith, are_below k d within, answer_count new answers is))
+
+  others_same : (task : ℕ) → task < length answers → (answer_at (moved gone Late tasks) task ≡ answer_at answers task) ⊎ Contains asked task
+  others_same task within = elim (are_asked task (omega (arith, within, answer_count new answers is))) [
+    | inl same ↦ inl (ap (λ (l : List TaskAnswer). answer_at (moved gone Late l) task) were ∙ same ∙ sym (ap (λ (l : List TaskAnswer). answer_at l task) is))
+    | inr among ↦ inr (subst (λ (l : List ℕ). Contains l task) (sym those) among)
+  ]
+
+pub put_news-requires : goal.put_news-requires
+put_news-requires c = (
+  c.args.self.now.model,
+  subst (λ (m : SystemModel). AreFindings m c.self.inside.findings) (ap (λ (s : SessionState). s.model) c.self.view_is) c.self.invariant.found,
+  subst (KeepsChains c.args.self.now.model) (sym c.replace-old.ensures.after) c.requires.moves.keeps,
+  subst (λ (m : SystemModel). AreNewsOf c.args.self.now.model m c.args.news) (sym c.replace-old.ensures.after) c.requires.news,
+)
+
+pub caught_up_at-requires : goal.caught_up_at-requires
+caught_up_at-requires c =
+    let old = c.args.self.now.model in
+    let new = c.args.model in
+    let core = c.args.site.core in
+    let gone = c.args.site.gone in
+    let model_is : c.self.inside.model ≡ old = ap (λ (s : SessionState). s.model) c.self.view_is in
+    let tasks = c.put_news.new.news.tasks in
+    let answers = c.put_news.new.findings.tasks in
+    let asked = c.as_slice.result.now in
+    let were : tasks ≡ answers_of (system_of old)
+    = c.put_news.ensures.old_tasks ∙ c.self.invariant.found.tasks ∙ ap (λ (m : SystemModel). answers_of (system_of m)) model_is in
+    let is : answers ≡ answers_of (system_of new) = c.put_news.ensures.tasks ∙ c.requires.news.tasks in
+    let those : asked ≡ c.args.news.asked.items = c.as_slice.ensures.value ∙ ap (λ v. v.items) c.put_news.ensures.asked in
+    record {
+      in_range = c.requires.in_range;
+      passes =
+          subst (λ (m : SystemModel). edited m c.args.edit.now ≡ Ok (with_edit m c.args.edit.now)) (sym (c.replace-old.ensures.value ∙ model_is))
+          (made_as_meant old c.args.edit.now new c.requires.made);
+      count = same_count core gone old new c.requires.moves c.args.news c.requires.asked_below c.requires.asked tasks answers asked were is those;
+      below = all_below core gone old new c.requires.moves c.args.news c.requires.asked_below c.requires.asked tasks answers asked were is those;
+      others = others_same core gone old new c.requires.moves c.args.news c.requires.asked_below c.requires.asked tasks answers asked were is those;
+    }
+
+-- the findings are those of the model that is put, its twin holds the same, and the chains that pass each task are its own
+pub invariant_of-self : goal.invariant_of-self
+invariant_of-self c =
+    let old = c.args.self.now.model in
+    let answers = c.put_news.new.findings.tasks in
+    let twin = c.caught_up_at.result in
+    let old_is = c.replace-old.ensures.value ∙ ap (λ (s : SessionState). s.model) c.self.view_is in
+    record {
+      found = c.put_news.ensures.found;
+      twin =
+          subst (λ (m : SystemModel). IfSome twin (IsTwinOf m answers)) (sym c.replace-old.ensures.after)
+          (twin_again old c.args.edit.now c.args.model answers twin c.requires.made
+          (subst (λ (m : SystemModel). IfSome twin (IsEditedTwin m c.args.edit.now answers)) old_is c.caught_up_at.ensures));
+      passing = subst (λ (m : SystemModel). IfSome c.moved_passing.result (ArePassesOf m)) (sym c.replace-old.ensures.after)
+          (c.moved_passing.ensures c.args.site.core old c.args.model
+          (subst IsValid (ap (λ (s : SessionState). s.model) c.self.view_is) c.plain-valid.ensures.valid) c.requires.moves c.requires.passing);
+    }

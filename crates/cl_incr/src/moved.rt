@@ -1,0 +1,185 @@
+//! What is found anew where an edit adds or drops a task: only tasks of its core are asked, and only chains past one of
+//! them, or past a task that is late, are visited. Times are in ticks.
+ghost use Rattle.std.specs.Prelude.{◌≡◌, ℕ, ◌<◌, ◌⊎◌, ◌↔◌, [], length, IsTrue, IfOk, IfSome, OnOk, Ok, All, Contains};
+ghost use Rattle.std.specs.List.Sorted.{IsStrictlyIncreasing};
+ghost use Rattle.cl_model.specs.declared.model.SystemModel.{SystemModel};
+ghost use Rattle.cl_model.specs.Validity.{IsValid};
+ghost use Rattle.cl_runs.specs.SystemOf.{system_of};
+ghost use Rattle.cl_bound.specs.declared.answer.TaskAnswer.TheVariants.{Late};
+ghost use Rattle.cl_bound.specs.Answers.{answer_at, answers_of};
+ghost use Rattle.cl_edit.specs.Edited.{with_edit, edited};
+ghost use Rattle.cl_edit.specs.Ranges.{IsEditInRange};
+ghost use Rattle.cl_analyse.specs.Findings.{AreFindings};
+ghost use Rattle.cl_incr.specs.Changed.{AsksForChanges};
+ghost use Rattle.cl_incr.specs.Touched.{AreAnswersBut};
+ghost use Rattle.cl_incr.specs.Inner.IsTwin.{IsEditedTwin};
+ghost use Rattle.cl_incr.specs.Inner.News.{StaysFound, StayFoundBut, AreNewsOf};
+ghost use Rattle.cl_incr.specs.Inner.Passes.{ArePassesOf};
+ghost use Rattle.cl_incr.specs.Inner.Reach.{moved, AvoidsCore, MovesTasks};
+
+use crate::mend::{find_these, mend_tasks};
+use crate::news::News;
+use crate::numbers::listed_under;
+use crate::passing::Passing;
+use crate::reach::Site;
+use crate::touch::{push_unless, tasks_of_cores};
+use crate::twin::{Twin, caught_up};
+use cl_analyse::{ChainAnswer, Findings};
+use cl_bound::TaskAnswer;
+use cl_edit::Edit;
+use cl_model::{List, ValidModel};
+use cl_time::{NoMemory, Steps};
+use std::alloc::Global;
+use std::sync::ledger::Ledger;
+
+/// Moves the answers for tasks to the numbers that the tasks get. A task that is added has no answer yet.
+fn move_answers(answers: &mut List<TaskAnswer>, gone: u32) -> Result<(), NoMemory>
+    ensures { OnOk result (answers.new ≡ moved gone Late answers.old) }
+{
+    let gone = gone as usize;
+    if gone < answers.len() {
+        answers.remove(gone);
+        Ok(())
+    } else {
+        answers.push(TaskAnswer::Late)
+    }
+}
+
+/// Moves what is listed under tasks to the numbers that the tasks get. Nothing is listed under a task that is added.
+fn move_lists(alloc: Global, lists: &mut Vec<List<u32>>, gone: u32) -> Result<(), NoMemory>
+    ensures { OnOk result (lists.new.items ≡ moved gone [] lists.old.items) }
+{
+    let gone = gone as usize;
+    if gone < lists.len() {
+        lists.remove(gone);
+    } else {
+        lists.push(List::new(alloc))?;
+    }
+    Ok(())
+}
+
+/// The chains that pass each task, and the requirements that name each chain, where tasks get other numbers.
+pub(crate) fn moved_passing(alloc: Global, mut passing: Passing, gone: u32) -> Option<Passing>
+    ensures { (core : ℕ) (old new : SystemModel) → IsValid old → MovesTasks core gone old new → ArePassesOf old passing
+        → IfSome result (ArePassesOf new) }
+{
+    move_lists(alloc, &mut passing.chains, gone).ok()?;
+    Some(passing)
+}
+
+/// Whether no group of a chain is of a task of this core.
+fn avoids_core(model: &ValidModel, core: u32, chain: u32) -> bool
+    requires { chain < length model.now.chains }
+    ensures { IsTrue result ↔ AvoidsCore core model.now chain }
+{
+    for group in model.groups(chain) {
+        if model.core_of(group.task) == core {
+            return false;
+        }
+    }
+    true
+}
+
+/// Whether what was found of a chain stands where a task of this core is added or dropped: it passes none of that core,
+/// and none that is late, since what is found of a late chain names the task.
+fn stands(findings: &Findings, new: &ValidModel, site: Site, chain: u32) -> bool
+    requires known { chain < length new.now.chains }
+    requires count { length findings.now.chains ≡ length new.now.chains }
+    ensures { (old : SystemModel) → IsValid old → IsValid new.now → AreFindings old findings.now
+        → MovesTasks site.core site.gone old new.now → IsTrue result → StaysFound old new.now chain }
+{
+    match findings.chains.as_slice()[chain as usize] {
+        ChainAnswer::Late { .. } => false,
+        ChainAnswer::Bounds(_) => avoids_core(new, site.core, chain),
+    }
+}
+
+/// The chains of which something may be found anew, in rising order: what was found of the others stands.
+fn chains_at(
+    alloc: Global,
+    old: &ValidModel,
+    findings: &Findings,
+    new: &ValidModel,
+    site: Site,
+) -> Result<List<u32>, NoMemory>
+    requires findings { AreFindings old.now findings.now }
+    requires moves { MovesTasks site.core site.gone old.now new.now }
+    ensures rising { IfOk result (λ chains. IsStrictlyIncreasing chains) }
+    ensures below { IfOk result (λ chains. All (λ chain. chain < length new.now.chains) chains) }
+    ensures others { IfOk result (λ chains. StayFoundBut chains old.now new.now) }
+{
+    // the old model was valid
+    let _valid = old.plain();
+    let mut chains = List::new(alloc);
+    for chain in 0..new.chains() {
+        let is_kept = stands(findings, new, site, chain);
+        push_unless(&mut chains, is_kept, chain)?;
+    }
+    Ok(chains)
+}
+
+/// What is found anew of a model in which a task is added or dropped. `tasks` are the answers for the tasks before once
+/// more.
+pub(crate) fn news_at<L: Ledger>(
+    alloc: Global,
+    old: &ValidModel,
+    findings: &Findings,
+    passing: &Passing,
+    new: &ValidModel,
+    mut tasks: List<TaskAnswer>,
+    site: Site,
+    steps: &mut Steps<L>,
+) -> Result<News, NoMemory>
+    requires findings { AreFindings old.now findings.now }
+    requires passing { ArePassesOf old.now passing.now }
+    requires tasks { tasks ≡ findings.now.tasks }
+    requires moves { MovesTasks site.core site.gone old.now new.now }
+    ensures news { IfOk result (AreNewsOf old.now new.now) }
+    ensures asked_below { IfOk result (λ news. All (λ task. task < length new.now.tasks) news.asked.items) }
+    ensures asked { IfOk result (λ news. AreAnswersBut news.asked.items (moved site.gone Late (answers_of (system_of old.now))) new.now) }
+    ensures steps { AsksForChanges old.now new.now steps.old steps.new }
+{
+    move_answers(&mut tasks, site.gone)?;
+    let asked = tasks_of_cores(alloc, new, &[site.core])?;
+    let answers = &findings.tasks;
+    mend_tasks(
+        alloc,
+        old,
+        answers,
+        new,
+        asked.as_slice(),
+        &mut tasks,
+        steps,
+    )?;
+    let chains = chains_at(alloc, old, findings, new, site)?;
+    let found = find_these(alloc, old, findings, new, &tasks, chains.as_slice(), steps)?;
+    let requirements = listed_under(alloc, passing.requirements.as_slice(), chains.as_slice())?;
+    Ok(News {
+        tasks,
+        asked,
+        chains: found,
+        requirements,
+    })
+}
+
+/// The twin of a model in which a task is added or dropped. `tasks` are the answers for the tasks before, which are moved
+/// and brought up to the new ones where there is memory for that.
+pub(crate) fn caught_up_at(
+    alloc: Global,
+    old: ValidModel,
+    edit: &Edit,
+    mut tasks: List<TaskAnswer>,
+    gone: u32,
+    asked: &[u32],
+    answers: &List<TaskAnswer>,
+) -> Option<Twin>
+    requires in_range { IsEditInRange edit.now }
+    requires passes { edited old edit.now ≡ Ok (with_edit old edit.now) }
+    requires count { length (moved gone Late tasks) ≡ length answers.now }
+    requires below { All (λ task. task < length answers.now) asked.now }
+    requires others { (task : ℕ) → task < length answers.now → (answer_at (moved gone Late tasks) task ≡ answer_at answers.now task) ⊎ Contains asked.now task }
+    ensures { IfSome result (IsEditedTwin old edit.now answers.now) }
+{
+    move_answers(&mut tasks, gone).ok()?;
+    caught_up(alloc, old, edit, tasks, asked, answers)
+}
