@@ -16,13 +16,11 @@ use Rattle.cl_runs.specs.Moments.{Starts, Finishes, JobFinishes, WritesAtDeadlin
 use Rattle.cl_runs.proofs.ModelSystem.{timing_is, range_count_is}
 use Rattle.cl_runs.proofs.StartsFinishes.{starts_once, finishes_once}
 use Rattle.cl_runs.proofs.MomentFacts.{writes_once}
-use Rattle.cl_check.specs.declared.job_moments.Moment.{Moment}
-use Rattle.cl_check.specs.JobMoments.{IsMomentOf, no_moment, AreMoments}
+use Rattle.cl_check.specs.declared.job_ends.End.{End}
+use Rattle.cl_check.specs.declared.job_ends.End.TheVariants.{Start, Finish}
+use Rattle.cl_check.specs.JobMoments.{IsMomentOf, EndsAt, AreEndsOfJobs}
 use Rattle.cl_check.proofs.MomentsFound.{each_pushed}
 use Rattle.cl_chain.specs.declared.group_moments.GroupMoments.{GroupMoments}
-use Rattle.cl_chain.specs.declared.group_moments.End.{End}
-use Rattle.cl_chain.specs.declared.group_moments.End.TheVariants.{Start, Finish}
-use Rattle.cl_chain.specs.Inner.Ends.{end_of, EndsAt}
 use Rattle.cl_chain.specs.Inner.GroupTables.{moment_at, AreMomentsAt, no_table, reads_in, writes_in, HasFinishedBy, IsTimedWrite, AreTimedWrites}
 use Rattle.cl_chain.proofs.MomentLists.{all_moments, same_moments}
 
@@ -37,21 +35,13 @@ mapped_moments IsAt f xs d once each within = all_moments IsAt (map f xs) once
     (λ job t here. omega (arith, within job t here, length-map xs f))
 
 module _ (system : System) (run : Run) (task place : ℕ) where
-  starts_listed : (found : List Moment) → AreMoments system run task place found
-      → AreMomentsAt (λ job t. Starts system run task job place t) (map (λ (m : Moment). m.start) found)
-  starts_listed found are = mapped_moments (λ job t. Starts system run task job place t) (λ (m : Moment). m.start) found no_moment
-      (λ job s t. starts_once system run task job place s t) are.starts (λ job t starts. omega (arith, starts.in_table, are.one_a_job))
-
-  finishes_listed : (found : List Moment) → AreMoments system run task place found
-      → AreMomentsAt (λ job t. Finishes system run task job place t) (map (λ (m : Moment). m.finish) found)
-  finishes_listed found are = mapped_moments (λ job t. Finishes system run task job place t) (λ (m : Moment). m.finish) found no_moment
-      (λ job s t. finishes_once system run task job place s t) are.finishes (λ job t finishes. omega (arith, finishes.in_table, are.one_a_job))
-
-  -- either
-  pub ends_listed : (end : End) (found : List Moment) → AreMoments system run task place found
-      → AreMomentsAt (λ job t. EndsAt end system run task job place t) (map (end_of end) found)
-  ends_listed Start found are = starts_listed found are
-  ends_listed Finish found are = finishes_listed found are
+  -- a list of one end of a runnable, job by job, holds all of them
+  pub ends_listed : (end : End) (ends : List (Option ℕ)) → AreEndsOfJobs end system run task place ends
+      → AreMomentsAt (λ job t. EndsAt end system run task job place t) ends
+  ends_listed Start ends are = all_moments (λ job t. Starts system run task job place t) ends
+      (λ job s t. starts_once system run task job place s t) are.each (λ job t starts. omega (arith, starts.in_table, are.one_a_job))
+  ends_listed Finish ends are = all_moments (λ job t. Finishes system run task job place t) ends
+      (λ job s t. finishes_once system run task job place s t) are.each (λ job t finishes. omega (arith, finishes.in_table, are.one_a_job))
 
   module _ (is_runnable : place < length (timing_at system task).ranges) where
     pub explicit_reads : (timing_at system task).access ≡ Explicit → (moments : List (Option ℕ))

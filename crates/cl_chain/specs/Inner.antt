@@ -1,5 +1,4 @@
 -- What only private clauses cite.
-pub mod Ends
 pub mod GroupTables
 pub mod Hops
 pub mod ChainsOver

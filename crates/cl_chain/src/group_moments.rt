@@ -7,12 +7,11 @@ ghost use Rattle.cl_runs.specs.SystemOf.{system_of};
 ghost use Rattle.cl_runs.specs.Legal.{IsLegal};
 ghost use Rattle.cl_runs.specs.Moments.{Reads, Writes};
 ghost use Rattle.cl_check.specs.Apart.{StandApart};
-ghost use Rattle.cl_check.specs.JobMoments.{IsMomentOf};
-ghost use Rattle.cl_chain.specs.Inner.Ends.{end_of, EndsAt};
+ghost use Rattle.cl_check.specs.JobMoments.{IsMomentOf, EndsAt};
 ghost use Rattle.cl_chain.specs.Inner.GroupTables.{AreMomentsAt, AreTables, IsTimedWrite, AreTimedWrites};
 
 use crate::hops::moment_at;
-use cl_check::{Moment, moments_apart, tasks_apart};
+use cl_check::{End, ends_apart, tasks_apart};
 use cl_model::{AccessKind, List, ValidModel};
 use cl_run_data::RunData;
 use cl_runs::Job;
@@ -24,23 +23,6 @@ use std::alloc::Global;
 pub(crate) struct GroupMoments {
     pub(crate) reads: List<Option<u64>>,
     pub(crate) writes: List<Option<u64>>,
-}
-
-/// One end of the execution of a runnable.
-#[derive(Clone, Copy)]
-pub(crate) enum End {
-    Start,
-    Finish,
-}
-
-/// The moment of one end.
-fn end_of(end: End, moment: Moment) -> Option<u64>
-    ensures { result ≡ end_of end moment }
-{
-    match end {
-        End::Start => moment.start,
-        End::Finish => moment.finish,
-    }
 }
 
 /// When a runnable of each job starts, or finishes.
@@ -60,19 +42,14 @@ fn ends_of(
     ensures { IfOk result (λ ends.
         AreMomentsAt (λ job t. EndsAt end (system_of model.now) run.now task job place t) ends) }
 {
-    let found = moments_apart(alloc, model, run, apart, task, place)?;
-    let mut ends = List::new(alloc);
-    for moment in found.as_slice() {
-        ends.push(end_of(end, *moment))?;
-    }
-    Ok(ends)
+    ends_apart(alloc, model, run, apart, task, place, end)
 }
 
 /// When each job arrives.
 fn arrivals_of(alloc: Global, jobs: &[Job]) -> Result<List<Option<u64>>, NoMemory>
     ensures { IfOk result (λ arrivals. arrivals ≡ map (λ job. Some job.arrival) jobs.now) }
 {
-    let mut arrivals = List::new(alloc);
+    let mut arrivals = List::with_room(alloc, jobs.len())?;
     for job in jobs {
         arrivals.push(Some(job.arrival))?;
     }
@@ -102,7 +79,7 @@ fn timed_writes(
 ) -> Result<List<Option<u64>>, NoMemory>
     ensures { IfOk result (λ writes. AreTimedWrites jobs.now deadline ticks finishes.now writes) }
 {
-    let mut writes = List::new(alloc);
+    let mut writes = List::with_room(alloc, jobs.len())?;
     for place in 0..jobs.len() {
         let finish = moment_at(finishes, place);
         writes.push(timed_write(&jobs[place], deadline, ticks, finish))?;

@@ -42,7 +42,7 @@ fn heads_after(
     requires reads { NeverFall reads.now }
     ensures { IfOk result (AreMomentsAt (GoesOnFrom writes.now reads.now heads.now)) }
 {
-    let mut found = List::new(alloc);
+    let mut found = List::with_room(alloc, reads.len())?;
     let mut writers = Writers::new();
     for job in 0..reads.len() {
         let head = head_of(writes, reads, heads, job, &mut writers);
@@ -55,7 +55,7 @@ fn heads_after(
 fn first_heads(alloc: Global, reads: &[Option<u64>]) -> Result<List<Option<u64>>, NoMemory>
     ensures { IfOk result (λ heads. heads ≡ reads.now) }
 {
-    let mut heads = List::new(alloc);
+    let mut heads = List::with_room(alloc, reads.len())?;
     for read in reads {
         heads.push(*read)?;
     }

@@ -31,7 +31,7 @@ use std::alloc::Global;
 fn earlier_reads(alloc: Global, reads: &[Option<u64>]) -> Result<List<Option<u64>>, NoMemory>
     ensures { IfOk result (λ earlier. earlier ≡ None ∷ reads.now) }
 {
-    let mut earlier = List::new(alloc);
+    let mut earlier = List::with_room(alloc, reads.len() + 1)?;
     earlier.push(None)?;
     for read in reads {
         earlier.push(*read)?;
@@ -59,7 +59,7 @@ fn replaced_write(writes: &[Option<u64>], job: usize) -> Option<u64>
 fn later_writes(alloc: Global, writes: &[Option<u64>]) -> Result<List<Option<u64>>, NoMemory>
     ensures { IfOk result (AreMomentsAt (IsOfNext writes.now)) }
 {
-    let mut later = List::new(alloc);
+    let mut later = List::with_room(alloc, writes.len())?;
     for job in 0..writes.len() {
         later.push(later_write(writes, job))?;
     }
@@ -70,7 +70,7 @@ fn later_writes(alloc: Global, writes: &[Option<u64>]) -> Result<List<Option<u64
 fn replaced_writes(alloc: Global, writes: &[Option<u64>]) -> Result<List<Option<u64>>, NoMemory>
     ensures { IfOk result (AreMomentsAt (IsBeforeNext writes.now)) }
 {
-    let mut replaced = List::new(alloc);
+    let mut replaced = List::with_room(alloc, writes.len())?;
     for job in 0..writes.len() {
         replaced.push(replaced_write(writes, job))?;
     }

@@ -47,9 +47,9 @@ pub(crate) fn rows_of(
     ensures { IfOk result (AreRows starts.now ends.now) }
 {
     let mut rows = Rows {
-        jobs: List::new(alloc),
-        starts: List::new(alloc),
-        ends: List::new(alloc),
+        jobs: List::with_room(alloc, ends.len())?,
+        starts: List::with_room(alloc, ends.len())?,
+        ends: List::with_room(alloc, ends.len())?,
     };
     for job in 0..ends.len() {
         add_row(&mut rows, starts, ends, job)?;

@@ -15,7 +15,7 @@ use std::alloc::Global;
 fn last_tails(alloc: Global, writes: &[Option<u64>]) -> Result<List<Option<u64>>, NoMemory>
     ensures { IfOk result (AreMomentsAt (IsWrite writes.now)) }
 {
-    let mut tails = List::new(alloc);
+    let mut tails = List::with_room(alloc, writes.len())?;
     for job in 0..writes.len() {
         tails.push(write_of(writes, job))?;
     }
@@ -59,7 +59,7 @@ fn tails_before(
     requires { NeverFall writes.now }
     ensures { IfOk result (AreMomentsAt (GoesOnTo writes.now reads.now tails.now)) }
 {
-    let mut found = List::new(alloc);
+    let mut found = List::with_room(alloc, writes.len())?;
     let mut next = 0;
     for job in 0..writes.len() {
         let tail = tail_of(writes, reads, tails, job, &mut next);

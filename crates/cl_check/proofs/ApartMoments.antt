@@ -7,10 +7,11 @@ use Rattle.std.proofs.lemmas.List.{get_or_past, take_all}
 use Rattle.cl_runs.specs.declared.job.Job.{Job}
 use Rattle.cl_runs.specs.Run.{is_task}
 use Rattle.cl_runs.specs.Work.{work_before, work_through}
-use Rattle.cl_check.specs.declared.job_moments.Moment.{Moment}
+use Rattle.cl_check.specs.declared.job_ends.End.{End}
+use Rattle.cl_check.specs.declared.job_ends.End.TheVariants.{Start, Finish}
 use Rattle.cl_check.specs.Apart.{RunsAlike}
-use Rattle.cl_check.specs.JobMoments.{IsMomentOf, no_moment}
-use Rattle.cl_check.specs.Inner.Walks.{executed_in, RunsAfter, EndsAfter, AreMomentsIn}
+use Rattle.cl_check.specs.JobMoments.{IsMomentOf}
+use Rattle.cl_check.specs.Inner.Walks.{executed_in, RunsAfter, EndsAfter, EndsIn, AreEndsIn}
 use Rattle.cl_check.proofs.WalkFacts.{is_that_task, one_more}
 
 -- a further tick counts where the task runs in it
@@ -63,8 +64,13 @@ module _ (task : ℕ) (one other : List (Option ℕ)) (alike : RunsAlike task on
   finish_alike work None none = λ t ends. none t (ends_alike task other one back work t ends)
   finish_alike work (Some t) ends = ends_alike task one other alike work t ends
 
-  pub moments_alike : (jobs : List Job) (place : ℕ) (moments : List Moment) → AreMomentsIn one jobs task place moments → AreMomentsIn other jobs task place moments
-  moments_alike jobs place moments found = record {
-    starts = λ job h. start_alike (work_before jobs job place) (get_or moments job no_moment).start (found.starts job h);
-    finishes = λ job h. finish_alike (work_through jobs job place - 1) (get_or moments job no_moment).finish (found.finishes job h);
+  end_alike : (end : End) (jobs : List Job) (job place : ℕ) (found : Option ℕ) → IsMomentOf (EndsIn end one jobs task job place) found
+      → IsMomentOf (EndsIn end other jobs task job place) found
+  end_alike Start jobs job place = start_alike (work_before jobs job place)
+  end_alike Finish jobs job place = finish_alike (work_through jobs job place - 1)
+
+  pub ends_alike_in : (end : End) (jobs : List Job) (place : ℕ) (ends : List (Option ℕ)) → AreEndsIn end one jobs task place ends
+      → AreEndsIn end other jobs task place ends
+  ends_alike_in end jobs place ends found = record {
+    each = λ job h. end_alike end jobs job place (get_or ends job None) (found.each job h);
   }

@@ -8,8 +8,10 @@ use Rattle.cl_runs.specs.declared.job.Job.{Job}
 use Rattle.cl_runs.specs.Table.{no_job, job_at}
 use Rattle.cl_runs.specs.Work.{work_before, work_through}
 use Rattle.cl_check.specs.declared.job_moments.Moment.{Moment}
+use Rattle.cl_check.specs.declared.job_ends.End.{End}
+use Rattle.cl_check.specs.declared.job_ends.End.TheVariants.{Start, Finish}
 use Rattle.cl_check.specs.JobMoments.{IsMomentOf, no_moment}
-use Rattle.cl_check.specs.Inner.Walks.{RunsAfter, EndsAfter, AreMomentsIn}
+use Rattle.cl_check.specs.Inner.Walks.{RunsAfter, EndsAfter, AreMomentsIn, IsEndAfter, EndsIn, AreEndsIn}
 use Rattle.cl_check.proofs.WalkFacts.{executed_within}
 
 -- ---- work past 64 bits is never reached
@@ -80,4 +82,18 @@ module _ (jobs : List Job) (place i : ℕ) (here : i < length jobs) (times : Lis
       finishes = each_pushed (λ k (x : Moment). IsMomentOf (EndsAfter entries task (work_through jobs k place - 1)) x.finish) moments m no_moment so_far.finishes
           (subst (λ k. IsMomentOf (EndsAfter entries task (work_through jobs k place - 1)) m.finish) (sym count)
           (finish_whole entries fits task _ _ (last_whole some) m.finish finish));
+    }
+
+    -- one end of a job more
+    end_whole : (end : End) (found : Option ℕ) → 1 ≤ slice_index times place
+        → IsMomentOf (IsEndAfter end entries task before (slice_index times place)) found → IsMomentOf (EndsIn end entries jobs task i place) found
+    end_whole Start found some is = start_whole entries fits task _ _ before_whole found is
+    end_whole Finish found some is = finish_whole entries fits task _ _ (last_whole some) found is
+
+    pub ends_pushed : (end : End) (ends : List (Option ℕ)) (found : Option ℕ) → length ends ≡ i → AreEndsIn end entries jobs task place ends
+        → 1 ≤ slice_index times place → IsMomentOf (IsEndAfter end entries task before (slice_index times place)) found
+        → AreEndsIn end entries jobs task place (ends ++ found ∷ [])
+    ends_pushed end ends found count so_far some is = record {
+      each = each_pushed (λ k (o : Option ℕ). IsMomentOf (EndsIn end entries jobs task k place) o) ends found None so_far.each
+          (subst (λ k. IsMomentOf (EndsIn end entries jobs task k place) found) (sym count) (end_whole end found some is));
     }

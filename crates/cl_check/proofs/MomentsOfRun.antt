@@ -21,11 +21,13 @@ use Rattle.cl_runs.proofs.ModelSystem.{timing_is, count_is, range_count_is, syst
 use Rattle.cl_run_data.specs.declared.stretches.Stretch.{Stretch}
 use Rattle.cl_run_data.specs.Stretches.{entries_from, AreStretchesOf}
 use Rattle.cl_check.specs.declared.job_moments.Moment.{Moment}
-use Rattle.cl_check.specs.JobMoments.{IsMomentOf, AreMoments}
-use Rattle.cl_check.specs.Inner.Walks.{executed_in, RunsAfter, EndsAfter, AreMomentsIn}
+use Rattle.cl_check.specs.declared.job_ends.End.{End}
+use Rattle.cl_check.specs.declared.job_ends.End.TheVariants.{Start, Finish}
+use Rattle.cl_check.specs.JobMoments.{IsMomentOf, AreMoments, EndsAt, AreEndsOfJobs}
+use Rattle.cl_check.specs.Inner.Walks.{executed_in, RunsAfter, EndsAfter, AreMomentsIn, EndsIn, AreEndsIn}
 use Rattle.cl_check.specs.Apart.{StandApart}
 use Rattle.cl_check.proofs.WalkFacts.{executed_more, executed_grows}
-use Rattle.cl_check.proofs.ApartMoments.{moments_alike}
+use Rattle.cl_check.proofs.ApartMoments.{ends_alike_in}
 
 -- ---- a task of a legal run, and the entries of its core
 
@@ -111,6 +113,11 @@ module _ (system : System) (sound : IsSound system) (run : Run) (legal : IsLegal
     is_finish None none = λ t finishes. none t (ends_there t finishes)
     is_finish (Some t) ends = finishes_there t ends
 
+    pub is_end : (end : End) (found : Option ℕ) → IsMomentOf (EndsIn end entries (jobs_of run task) task job place) found
+        → IsMomentOf (EndsAt end system run task job place) found
+    is_end Start = is_start
+    is_end Finish = is_finish
+
 -- ---- a task of a valid model
 
 module _ (model : SystemModel) (valid : IsValid model) (run : Run) (legal : IsLegal (system_of model) run) (task : ℕ) (is : task < length model.tasks)
@@ -174,19 +181,18 @@ module _ (model : SystemModel) (valid : IsValid model) (run : Run) (legal : IsLe
       moments_are jobs same moments found = found_are moments
           (subst (λ (js : List Job). (length moments ≡ length js) × AreMomentsIn (entries_from 0 ss) js task place moments) same found)
 
-    -- and so are those over the task's own list, where the tasks stand apart
-    pub moments_are_apart : (apart : Run) → StandApart (system_of model) run apart → (ss : List Stretch) → AreStretchesOf (core_entries apart task) ss
-        → (jobs : List Job) → jobs ≡ jobs_of run task → (moments : List Moment)
-        → (length moments ≡ length jobs) × AreMomentsIn (entries_from 0 ss) jobs task place moments
-        → AreMoments (system_of model) run task place moments
-    moments_are_apart apart is_apart ss stretches jobs same moments found =
+    -- and so is one end over the task's own list, where the tasks stand apart
+    pub ends_are_apart : (end : End) (apart : Run) → StandApart (system_of model) run apart → (ss : List Stretch) → AreStretchesOf (core_entries apart task) ss
+        → (jobs : List Job) → jobs ≡ jobs_of run task → (ends : List (Option ℕ))
+        → (length ends ≡ length jobs) × AreEndsIn end (entries_from 0 ss) jobs task place ends
+        → AreEndsOfJobs end (system_of model) run task place ends
+    ends_are_apart end apart is_apart ss stretches jobs same ends found =
         let alike = is_apart.alike task is_task in
-        let own = subst (λ es. AreMomentsIn es jobs task place moments) stretches.entries_are found.1 in
-        let on_its_core = moments_alike task (core_entries apart task) (core_entries run (timing_at (system_of model) task).core) alike jobs place moments own in
-        let as_jobs = subst (λ (js : List Job). (length moments ≡ length js) × AreMomentsIn (core_entries run (timing_at (system_of model) task).core) js task place moments)
+        let own = subst (λ es. AreEndsIn end es jobs task place ends) stretches.entries_are found.1 in
+        let on_its_core = ends_alike_in task (core_entries apart task) (core_entries run (timing_at (system_of model) task).core) alike end jobs place ends own in
+        let as_jobs = subst (λ (js : List Job). (length ends ≡ length js) × AreEndsIn end (core_entries run (timing_at (system_of model) task).core) js task place ends)
         same (found.0, on_its_core) in
         record {
           one_a_job = as_jobs.0;
-          starts = λ job h. is_start (system_of model) sound run legal task is_task _ refl job place (omega (arith, h, as_jobs.0)) place_is _ (as_jobs.1.starts job h);
-          finishes = λ job h. is_finish (system_of model) sound run legal task is_task _ refl job place (omega (arith, h, as_jobs.0)) place_is _ (as_jobs.1.finishes job h);
+          each = λ job h. is_end (system_of model) sound run legal task is_task _ refl job place (omega (arith, h, as_jobs.0)) place_is end _ (as_jobs.1.each job h);
         }

@@ -4,6 +4,8 @@ use Rattle.cl_runs.specs.TaskTiming.{System}
 use Rattle.cl_runs.specs.Run.{Run, jobs_of}
 use Rattle.cl_runs.specs.Moments.{Starts, Finishes}
 use Rattle.cl_check.specs.declared.job_moments.Moment.{Moment}
+use Rattle.cl_check.specs.declared.job_ends.End.{End}
+use Rattle.cl_check.specs.declared.job_ends.End.TheVariants.{Start, Finish}
 
 -- the moment at which something is so, and none where there is no such moment
 abbrev pub IsMomentOf : (IsAt : ℕ → Type 0) → Option ℕ → Type 0
@@ -21,3 +23,13 @@ pub record AreMoments (system : System) (run : Run) (task place : ℕ) (moments 
       → IsMomentOf (Starts system run task job place) (slice_index_or moments job no_moment).start
   pub finishes : (job : ℕ) → job < length moments
       → IsMomentOf (Finishes system run task job place) (slice_index_or moments job no_moment).finish
+
+-- a runnable of a job starts, or has finished, at a tick
+abbrev pub EndsAt : End → System → Run → (task job place : ℕ) → (tick : ℕ) → Type 0
+EndsAt Start system run task job place = Starts system run task job place
+EndsAt Finish system run task job place = Finishes system run task job place
+
+-- when a runnable starts, or finishes: an entry for each job of its task, in order
+pub record AreEndsOfJobs (end : End) (system : System) (run : Run) (task place : ℕ) (ends : List (Option ℕ)) : Type 0 where
+  pub one_a_job : length ends ≡ length (jobs_of run task)
+  pub each : (job : ℕ) → job < length ends → IsMomentOf (EndsAt end system run task job place) (slice_index_or ends job None)

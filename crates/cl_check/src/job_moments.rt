@@ -5,7 +5,6 @@ ghost use Rattle.cl_runs.specs.declared.job.Job.{Job};
 ghost use Rattle.cl_runs.specs.SystemOf.{system_of};
 ghost use Rattle.cl_runs.specs.Legal.{IsLegal};
 ghost use Rattle.cl_run_data.specs.Stretches.{entries_from, AreLongest};
-ghost use Rattle.cl_check.specs.Apart.{StandApart};
 ghost use Rattle.cl_check.specs.JobMoments.{IsMomentOf, AreMoments};
 ghost use Rattle.cl_check.specs.Inner.Walks.{RunsAfter, EndsAfter, StandsIn, AreMomentsIn};
 
@@ -26,7 +25,7 @@ pub struct Moment {
 }
 
 /// The sum of a time and further times, or the greatest number of 64 bits where the sum is greater.
-fn time_after(done: u64, times: &[u64]) -> u64
+pub(crate) fn time_after(done: u64, times: &[u64]) -> u64
     ensures { result ≡ min (done + sum times.now) (2 ^ 64 - 1) }
 {
     let mut total = done;
@@ -72,7 +71,7 @@ fn moments_in(
     ensures { IfOk result (λ moments.
         (length moments ≡ length jobs.now) × AreMomentsIn (entries_from 0 stretches.now) jobs.now task place moments) }
 {
-    let mut moments = List::new(alloc);
+    let mut moments = List::with_room(alloc, jobs.len())?;
     let mut walk = Walk::new();
     let mut done = 0;
     for job in jobs {
@@ -107,30 +106,5 @@ pub fn moments(
     // read for its range: the core's entries are as many as the ticks
     let _ticks = table.ticks;
     let stretches = run.stretches(model.core_of(task));
-    moments_in(alloc, stretches, table.jobs_of(task), task, place as usize)
-}
-
-/// When a runnable of a task starts and finishes, as `moments` says, by the task's own list where the tasks of the run
-/// stand apart. It takes a time proportional to the stretches of that list and the jobs of the task.
-pub fn moments_apart(
-    alloc: Global,
-    model: &ValidModel,
-    run: &RunData,
-    apart: &RunData,
-    task: u32,
-    place: u32,
-) -> Result<List<Moment>, NoMemory>
-    requires is_task { task < length model.now.tasks }
-    requires is_runnable { place < length (task_at model.now task).runnables }
-    requires legal { IsLegal (system_of model.now) run.now }
-    requires apart { StandApart (system_of model.now) run.now apart.now }
-    ensures { IfOk result (AreMoments (system_of model.now) run.now task place) }
-{
-    let runnables = model.task(task).runnables.len();
-    prove!((place as usize) < runnables);
-    let table = run.table();
-    // read for its range: the task's entries are at most as many as the ticks
-    let _ticks = table.ticks;
-    let stretches = apart.stretches(task);
     moments_in(alloc, stretches, table.jobs_of(task), task, place as usize)
 }

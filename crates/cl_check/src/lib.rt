@@ -4,6 +4,7 @@
 mod apart;
 mod checking;
 mod interval;
+mod job_ends;
 mod job_moments;
 mod run_fault;
 mod schedule_check;
@@ -12,5 +13,6 @@ mod walk;
 
 pub use apart::tasks_apart;
 pub use checking::check_run;
-pub use job_moments::{Moment, moments, moments_apart};
+pub use job_ends::{End, ends_apart};
+pub use job_moments::{Moment, moments};
 pub use run_fault::{Rule, RunFault};

@@ -12,7 +12,7 @@ ghost use Rattle.cl_gen.specs.Inner.Arriving.{job_arriving};
 use crate::draws::Draws;
 use crate::limits::MOST_RUN_TICKS;
 use cl_model::{List, MOST_RUNNABLES, RunnableDef, StimulusKind, ValidModel};
-use cl_runs::Job;
+use cl_runs::{Job, Times};
 use cl_time::NoMemory;
 use std::alloc::Global;
 
@@ -72,14 +72,14 @@ fn draw_times(
     alloc: Global,
     draws: &mut Draws,
     runnables: &[RunnableDef],
-) -> Result<List<u64>, NoMemory>
+) -> Result<Times, NoMemory>
     requires range { All IsRunnableInRange runnables.now }
     requires ordered { All (λ (runnable : RunnableDef). runnable.least ≤ runnable.greatest) runnables.now }
     requires few { draws.old.words + length runnables.now < 2 ^ 63 }
     ensures drawn { IfOk result (λ times. times ≡ drawn_times (word_of draws.old.seed) draws.old.words (map range_of runnables.now)) }
     ensures taken { OnOk result (draws.new ≡ record draws.old { words = draws.old.words + length runnables.now }) }
 {
-    let mut times = List::new(alloc);
+    let mut times = Times::new(alloc);
     for runnable in runnables {
         times.push(draws.draw(runnable.least, runnable.greatest))?;
     }

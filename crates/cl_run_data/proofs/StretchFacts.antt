@@ -151,6 +151,24 @@ entry_of_stretch ss tick k d longest is =
     ap (λ n. get_or (entries_from 0 ss) n None) whole
     ∙ entry_in ss 0 k tick d longest is.within (omega arith) (λ i below. is.first i d below) (is.ends_after d)
 
+-- the last stretch is that of the last tick
+last_stretch : (ss : List Stretch) (n tick : ℕ) → AreLongest 0 ss → suc n ≡ length ss → tick + 1 ≡ end_from 0 ss → IsStretchOf ss tick n
+last_stretch ss n tick longest is last = record {
+  within = omega (arith, is);
+  ends_after = λ e. omega (arith, last, end_at_last ss 0 n e is);
+  first = λ i e below. omega (arith, last, end_at_last ss 0 n e is, ends_rise ss 0 i n e longest below (omega (arith, is)));
+}
+
+-- and has the last entry
+pub last_entry : (ss : List Stretch) (d : Stretch) → AreLongest 0 ss → 0 < length (entries_from 0 ss)
+    → (get_or ss (length ss - 1) d).who ≡ get_or (entries_from 0 ss) (length (entries_from 0 ss) - 1) None
+last_entry [] d longest some = absurd (omega (arith, some))
+last_entry (s ∷ ss) d longest some =
+    let all = s ∷ ss in
+    let tick = length (entries_from 0 all) - 1 in
+    sym (entry_of_stretch all tick (length all - 1) d longest
+    (last_stretch all (length all - 1) tick longest (omega arith) (omega (arith, some, length-entries all 0 longest))))
+
 later_in : (ss : List Stretch) (tick k t : ℕ) → IsStretchOf ss tick k → tick ≤ t → ((d : Stretch) → t < (get_or ss k d).end) → IsStretchOf ss t k
 later_in ss tick k t is after before = record {
   within = is.within;

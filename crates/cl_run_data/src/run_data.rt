@@ -1,5 +1,5 @@
 //! Runs as data: a job table, and the entries of each core. Times are in ticks.
-ghost use Rattle.std.specs.Prelude.{◌≡◌, ◌+◌, ◌<◌, ◌≤◌, [], ◌++◌, length, replicate, slice_set, IfOk, OnOk, OnErr};
+ghost use Rattle.std.specs.Prelude.{◌≡◌, ◌+◌, ◌-◌, ◌<◌, ◌≤◌, [], ◌++◌, length, replicate, slice_set, IfOk, OnOk, OnErr};
 ghost use Rattle.cl_runs.specs.Run.{core_entries, entry_at};
 ghost use Rattle.cl_run_data.specs.Stretches.{AreStretchesOf, IsStretchEnd};
 
@@ -42,6 +42,7 @@ impl RunData {
 
     /// Appends an entry for so many ticks to the list of a core. Where there is no memory for it, the run stays as it
     /// was.
+    #[inline(always)]
     pub fn push(&mut self, core: u32, who: Option<u32>, ticks: u64) -> Result<(), NoMemory>
         requires is_core { core < length self.old.entries }
         requires within { length (core_entries self.old core) + ticks ≤ self.old.table.ticks }
@@ -81,6 +82,15 @@ impl RunData {
         ensures { result ≡ entry_at self.now core tick }
     {
         self.cores[core as usize].entry(tick)
+    }
+
+    /// The last entry of a core. It takes a constant time.
+    pub fn last_entry(&self, core: u32) -> Option<u32>
+        requires is_core { core < length self.now.entries }
+        requires some { 0 < length (core_entries self.now core) }
+        ensures { result ≡ entry_at self.now core (length (core_entries self.now core) - 1) }
+    {
+        self.cores[core as usize].last()
     }
 
     /// The end of the longest stretch of one entry of a core that begins at a tick. It takes a time logarithmic in

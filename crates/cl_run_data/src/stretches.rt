@@ -54,6 +54,7 @@ fn stretch_of(stretches: &[Stretch], tick: u64) -> usize
 }
 
 /// Appends entries up to `end`: a longer last stretch where it has that entry, and a further stretch otherwise.
+#[inline(always)]
 fn append(stretches: &mut Vec<Stretch>, who: Option<u32>, end: u64) -> Result<(), NoMemory>
     requires longest { AreLongest 0 stretches.old.items }
     requires after { end_from 0 stretches.old.items < end }
@@ -90,6 +91,7 @@ impl Stretches {
     }
 
     /// Appends so many entries. Where there is no memory for them, the list stays as it was.
+    #[inline(always)]
     pub fn push(&mut self, who: Option<u32>, ticks: u64) -> Result<(), NoMemory>
         requires { length self.old + ticks < 2 ^ 64 }
         ensures ok { OnOk result (self.new ≡ self.old ++ replicate ticks who) }
@@ -109,6 +111,15 @@ impl Stretches {
     {
         let stretches = self.stretches.as_slice();
         stretches[stretch_of(stretches, tick)].who
+    }
+
+    /// The last entry.
+    pub fn last(&self) -> Option<u32>
+        requires { 0 < length self.now }
+        ensures { result ≡ slice_index_or self.now (length self.now - 1) None }
+    {
+        let stretches = self.stretches.as_slice();
+        stretches[stretches.len() - 1].who
     }
 
     /// The end of the longest stretch of one entry that begins at a tick.

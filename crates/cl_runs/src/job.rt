@@ -1,4 +1,5 @@
 //! Jobs of tasks, and tables of them. Times are in ticks.
+use crate::times::Times;
 use cl_model::List;
 
 /// One job of a task.
@@ -9,7 +10,7 @@ pub struct Job {
     /// When it is released, at or after its arrival.
     pub release: u64,
     /// Its execution time of each runnable of its task, in order.
-    pub times: List<u64>,
+    pub times: Times,
 }
 
 /// The jobs of each task that arrive in the first `ticks` ticks.

@@ -3,5 +3,7 @@
 
 mod job;
 pub mod laws;
+mod times;
 
 pub use job::{Job, JobTable};
+pub use times::Times;

@@ -1,5 +1,5 @@
 -- How far the tasks of a core have come after further entries.
-use Rattle.std.proofs.Common.{◌≡◌, ◌≢◌, ℕ, ◌+◌, ◌<◌, inl, inr, Option, Some, None, List, ◌++◌, replicate, length, refl, sym, ap, ◌∙◌, subst, arith, length-append}
+use Rattle.std.proofs.Common.{◌≡◌, ◌≢◌, ℕ, ◌+◌, ◌<◌, ◌≤◌, inl, inr, Option, Some, None, List, ◌++◌, replicate, length, refl, sym, ap, ◌∙◌, subst, arith, length-append}
 use Rattle.std.specs.Option.{option_map}
 use Rattle.std.proofs.lemmas.Bool.{cases_eq}
 use Rattle.std.proofs.lemmas.List.{length-replicate}
@@ -9,8 +9,9 @@ use Rattle.cl_runs.specs.Table.{table_jobs}
 use Rattle.cl_sched.specs.declared.progress.Progress.{Progress}
 use Rattle.cl_sched.specs.declared.core_progress.CoreProgress.{CoreProgress}
 use Rattle.cl_sched.specs.declared.core_progress.Next.{Next}
+use Rattle.cl_sched.specs.declared.core_progress.Waiting.{Waiting}
 use Rattle.cl_sched.specs.Progress.{IsAtRunnable, HasComeTo}
-use Rattle.cl_sched.specs.CoreProgress.{ticks_of, progress_at, IsOfCore, StandsAmong, AreOfCore, Holds, IsBestOf, IsChoice, IsReached, IsNext}
+use Rattle.cl_sched.specs.CoreProgress.{ticks_of, progress_at, IsOfCore, StandsAmong, AreOfCore, Holds, AreWaiting, IsBestOf, IsChoice, IsReached, IsNext}
 use Rattle.cl_sched.specs.Inner.Executing.{HasExecuted}
 use Rattle.cl_sched.proofs.Standing.{some_job_released, some_job_holds}
 use Rattle.cl_sched.proofs.Steady.{own_ticks, others_ticks, idle_ticks}
@@ -31,8 +32,9 @@ longer entries n tick who is = omega (arith, length-append entries (replicate n 
 
 module _ (system : System) (table : JobTable) (core : ℕ) (entries : List (Option ℕ)) (old : CoreProgress) (at : IsReached system table core entries old) where
   -- where the core idles, no task comes further
-  pub reached_idle : (n until : ℕ) → until ≡ old.tick + n → IsReached system table core (entries ++ replicate n None) (record old { tick = until })
-  reached_idle n until is = record {
+  pub reached_idle : (n until : ℕ) (waiting : Waiting) → until ≡ old.tick + n → AreWaiting old.tasks.items waiting
+      → IsReached system table core (entries ++ replicate n None) (record old { tick = until; waiting = waiting })
+  reached_idle n until waiting is wait = record {
     tick = is ∙ longer entries n old.tick None at.tick;
     tasks = record {
       each = λ index h. of_core_along system table core entries (entries ++ replicate n None) (progress_at old.tasks.items index)
@@ -41,6 +43,8 @@ module _ (system : System) (table : JobTable) (core : ℕ) (entries : List (Opti
       once = at.tasks.once;
     };
     held = at.held;
+    falling = at.falling;
+    waiting = wait;
   }
 
   module _ (index n : ℕ) (new : CoreProgress) (executed : HasExecuted system table index n old new) (within : index < length old.tasks.items)
@@ -104,6 +108,13 @@ module _ (system : System) (table : JobTable) (core : ℕ) (entries : List (Opti
           (sym (same_task one) ∙ same ∙ same_task other);
     }
 
+    -- and the priority
+    same_priority : (k : ℕ) → (after k).priority ≡ (before k).priority
+    same_priority k = elim (cases_eq k index) [
+      | inl is ↦ ap (λ i. (after i).priority) is ∙ executed.priority ∙ sym (ap (λ i. (before i).priority) is)
+      | inr other ↦ ap (λ (p : Progress). p.priority) (executed.others k other)
+    ]
+
     held_one : (k : ℕ) → k < length new.tasks.items → Holds system table (after k) → new.held ≡ Some k
     held_one k h holds = elim (cases_eq k index) [
       | inl is ↦ (executed.held k).1 (is, subst (λ i. Holds system table (after i)) is holds)
@@ -112,8 +123,9 @@ module _ (system : System) (table : JobTable) (core : ℕ) (entries : List (Opti
     ]
 
     -- where the task at an index goes on, it comes further
-    pub reached_further : (until : ℕ) → until ≡ old.tick + n → IsReached system table core further (record new { tick = until })
-    reached_further until is = record {
+    pub reached_further : (until : ℕ) (waiting : Waiting) → until ≡ old.tick + n → AreWaiting old.tasks.items waiting → waiting.count ≤ index
+        → IsReached system table core further (record new { tick = until; waiting = waiting })
+    reached_further until waiting is wait behind = record {
       tick = is ∙ longer entries n old.tick (Some (before index).task) at.tick;
       tasks = all_of_core;
       held = record {
@@ -122,6 +134,13 @@ module _ (system : System) (table : JobTable) (core : ℕ) (entries : List (Opti
             let both = (executed.held k).0 some in
             subst (λ i. Holds system table (after i)) (sym both.0) both.1;
         alone = held_one;
+      };
+      falling = λ one other h within.
+          omega (arith, same_priority one, same_priority other, at.falling one other h (omega (arith, within, executed.as_many)));
+      waiting = record {
+        within = omega (arith, wait.within, executed.as_many);
+        each = λ k h.
+            omega (arith, wait.each k h, ap (λ (p : Progress). p.release) (executed.others k (λ is. omega (arith, h, behind, is))));
       };
     }
 
@@ -165,12 +184,12 @@ module _ (system : System) (table : JobTable) (core : ℕ) (entries : List (Opti
 
 -- the same said of equal entries and an equal state
 pub reached_along : (system : System) (table : JobTable) (core : ℕ) (entries : List (Option ℕ)) (n : ℕ) (one who : Option ℕ) (until : ℕ)
-    (old new : CoreProgress) → who ≡ one → old ≡ new
-    → IsReached system table core (entries ++ replicate n one) (record old { tick = until })
-    → IsReached system table core (entries ++ replicate n who) (record new { tick = until })
-reached_along system table core entries n one who until old new same is at =
-    subst (λ (state : CoreProgress). IsReached system table core (entries ++ replicate n who) (record state { tick = until })) is
-    (subst (λ e. IsReached system table core (entries ++ replicate n e) (record old { tick = until })) (sym same) at)
+    (waiting : Waiting) (old new : CoreProgress) → who ≡ one → old ≡ new
+    → IsReached system table core (entries ++ replicate n one) (record old { tick = until; waiting = waiting })
+    → IsReached system table core (entries ++ replicate n who) (record new { tick = until; waiting = waiting })
+reached_along system table core entries n one who until waiting old new same is at =
+    subst (λ (state : CoreProgress). IsReached system table core (entries ++ replicate n who) (record state { tick = until; waiting = waiting })) is
+    (subst (λ e. IsReached system table core (entries ++ replicate n e) (record old { tick = until; waiting = waiting })) (sym same) at)
 
 -- where no task is chosen, the core idles
 pub idles : (old : CoreProgress) (next : Next) → IsNext old next → next.chosen ≡ None → next.who ≡ None

@@ -4,6 +4,7 @@ pub mod CoreLists
 pub mod Steady
 pub mod ModelJobs
 pub mod Begun
+pub mod FromTheTop
 pub mod Advanced
 pub mod Executing
 pub mod Filled

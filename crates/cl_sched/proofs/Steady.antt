@@ -11,7 +11,7 @@ use Rattle.cl_runs.proofs.HeldTasks.{held_or_not, held_moved}
 use Rattle.cl_sched.specs.declared.progress.Progress.{Progress}
 use Rattle.cl_sched.specs.declared.core_progress.CoreProgress.{CoreProgress}
 use Rattle.cl_sched.specs.declared.core_progress.Next.{Next}
-use Rattle.cl_sched.specs.CoreProgress.{ticks_of, progress_at, Holds, IsBestOf, AreSteadyOf, IsChoice, IsReached, IsNext}
+use Rattle.cl_sched.specs.CoreProgress.{ticks_of, progress_at, Holds, IsBestOf, AreSteadyOf, AreSteadyAbove, IsChoice, IsReached, IsNext}
 use Rattle.cl_sched.proofs.LawfulTables.{places, in_order}
 use Rattle.cl_sched.proofs.Standing.{later, pending, holding_held, not_yet_pending, is_held, some_job_released, some_job_holds}
 
@@ -150,7 +150,7 @@ module _ (system : System) (sound : IsSound system) (table : JobTable) (lawful :
     module _ (none : reached.held ≡ None) (left : n < (progress index).left) (until : ℕ) (fits : reached.tick < 2 ^ 64 - 1)
         (first : reached.tick ≤ t) (before : t < until)
         (best : IsBestOf reached.tasks.items (length reached.tasks.items) reached.tick (Some index))
-        (steady : AreSteadyOf reached.tasks.items (length reached.tasks.items) reached.tick until) where
+        (steady : AreSteadyAbove reached.tasks.items (Some index) reached.tick until) where
       none_alone : (other : ℕ) → reached.held ≡ Some other → index ≡ other
       none_alone other held = let e : None ≡ Some other = sym none ∙ held in cc
 
@@ -180,9 +180,12 @@ module _ (system : System) (sound : IsSound system) (table : JobTable) (lawful :
           elim (cases_eq index listed.index) [
             | inl same ↦ omega (arith, priority, of.priority, ap (λ k. (progress k).priority) same)
             | inr apart ↦ elim (cases_lt reached.tick (progress listed.index).release) [
-              | inl unreleased ↦ absurd (kept_pending listed.index listed.within t (done (task listed.index))
-                  (others (task listed.index) (other_task listed.index listed.within apart))
-                  (omega (arith, before, steady listed.index listed.within unreleased)) there)
+              | inl unreleased ↦ elim (cases_lt (progress index).priority (progress listed.index).priority) [
+                | inl higher ↦ absurd (kept_pending listed.index listed.within t (done (task listed.index))
+                    (others (task listed.index) (other_task listed.index listed.within apart))
+                    (omega (arith, before, steady listed.index listed.within unreleased higher)) there)
+                | inr lower ↦ omega (arith, priority, of.priority, lower)
+              ]
               | inr there ↦ omega (arith, priority, of.priority, best.2 listed.index listed.within there)
             ]
           ]

@@ -9,6 +9,7 @@ use Rattle.cl_runs.specs.Legal.{IsScheduled}
 use Rattle.cl_sched.specs.declared.progress.Progress.{Progress}
 use Rattle.cl_sched.specs.declared.core_progress.CoreProgress.{CoreProgress}
 use Rattle.cl_sched.specs.declared.core_progress.Next.{Next}
+use Rattle.cl_sched.specs.declared.core_progress.Waiting.{Waiting}
 use Rattle.cl_sched.specs.Progress.{HasComeTo, IsHolding}
 
 -- the ticks of a task among entries of its core
@@ -59,12 +60,24 @@ pub record IsHeldIndex (system : System) (table : JobTable) (tasks : List Progre
   pub holds : (index : ℕ) → held ≡ Some index → Holds system table (progress_at tasks index)
   pub alone : (index : ℕ) → index < length tasks → Holds system table (progress_at tasks index) → held ≡ Some index
 
+-- no task of a list has a higher priority than one in front of it
+abbrev pub AreFalling : List Progress → Type 0
+AreFalling tasks = (one other : ℕ) → one ≤ other → other < length tasks
+    → (progress_at tasks other).priority ≤ (progress_at tasks one).priority
+
+-- the first tasks of a list wait
+pub record AreWaiting (tasks : List Progress) (waiting : Waiting) : Type 0 where
+  pub within : waiting.count ≤ length tasks
+  pub each : (index : ℕ) → index < waiting.count → waiting.until ≤ (progress_at tasks index).release
+
 -- how far the tasks of a core have come where these are the entries so far
 pub record IsReached (system : System) (table : JobTable) (core : ℕ) (entries : List (Option ℕ)) (reached : CoreProgress)
     : Type 0 where
   pub tick : reached.tick ≡ length entries
   pub tasks : AreOfCore system table core entries reached.tasks.items
   pub held : IsHeldIndex system table reached.tasks.items reached.held
+  pub falling : AreFalling reached.tasks.items
+  pub waiting : AreWaiting reached.tasks.items reached.waiting
 
 -- of the first n tasks that are released at a tick, the one of highest priority, or none where none is released
 abbrev pub IsBestOf : List Progress → (n tick : ℕ) → Option ℕ → Type 0
@@ -78,12 +91,19 @@ abbrev pub AreSteadyOf : List Progress → (n tick event : ℕ) → Type 0
 AreSteadyOf tasks n tick event = (index : ℕ) → index < n → tick < (progress_at tasks index).release
     → event ≤ (progress_at tasks index).release
 
+-- no task that would run in place of the chosen one is released after a tick and before an event: where none is chosen,
+-- no task at all
+abbrev pub AreSteadyAbove : List Progress → (chosen : Option ℕ) → (tick event : ℕ) → Type 0
+AreSteadyAbove tasks None tick event = AreSteadyOf tasks (length tasks) tick event
+AreSteadyAbove tasks (Some best) tick event = (index : ℕ) → index < length tasks → tick < (progress_at tasks index).release
+    → (progress_at tasks best).priority < (progress_at tasks index).priority → event ≤ (progress_at tasks index).release
+
 -- what a core does from a tick on, and until when: the held task goes on, and where none is held, the released one of
--- highest priority does, until a further task is released
+-- highest priority does, until one of a higher priority is released
 abbrev pub IsChoice : List Progress → (held : Option ℕ) → (tick : ℕ) → (chosen : Option ℕ) → (until : ℕ) → Type 0
 IsChoice tasks (Some held) tick chosen until = chosen ≡ Some held
 IsChoice tasks None tick chosen until = IsBestOf tasks (length tasks) tick chosen
-    × AreSteadyOf tasks (length tasks) tick until
+    × AreSteadyAbove tasks chosen tick until
 
 -- what a core does next, as long as no event comes and the runnable isn't finished
 pub record IsNext (reached : CoreProgress) (next : Next) : Type 0 where
@@ -92,6 +112,8 @@ pub record IsNext (reached : CoreProgress) (next : Next) : Type 0 where
   pub some : reached.tick < next.until
   pub fits : next.until < 2 ^ 64
   pub in_list : (index : ℕ) → next.chosen ≡ Some index → index < length reached.tasks.items
+  pub waiting : AreWaiting reached.tasks.items next.waiting
+  pub behind : (index : ℕ) → next.chosen ≡ Some index → next.waiting.count ≤ index
   pub within_left : (index : ℕ) → next.chosen ≡ Some index
       → next.until ≤ reached.tick + (progress_at reached.tasks.items index).left
 

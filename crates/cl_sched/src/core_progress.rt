@@ -1,13 +1,15 @@
 //! How far the tasks of a core have come, and what the core does next. Times are in ticks.
-ghost use Rattle.std.specs.Prelude.{◌≡◌, ℕ, ◌+◌, ◌-◌, ◌<◌, ◌≤◌, ◌↔◌, ◌++◌, [], List, Option, Some, IsTrue, IfOk, length, map, replicate};
+ghost use Rattle.std.specs.Prelude.{◌≡◌, ℕ, ◌+◌, ◌-◌, ◌^◌, ◌<◌, ◌≤◌, ◌↔◌, ◌++◌, [], List, Option, Some, IsTrue, IfOk, length, map, replicate};
+ghost use Rattle.std.specs.List.Sorted.{IsPermutation};
 ghost use Rattle.cl_runs.specs.TaskTiming.{System, Timing, IsSound};
 ghost use Rattle.cl_runs.specs.SystemOf.{range_of, system_of};
 ghost use Rattle.cl_runs.specs.declared.job.JobTable.{JobTable as Table};
 ghost use Rattle.cl_runs.specs.Table.{IsLawful};
+ghost use Rattle.cl_sched.specs.declared.progress.Progress.{Progress};
 ghost use Rattle.cl_sched.specs.Progress.{IsHolding};
 ghost use Rattle.cl_sched.specs.CoreProgress.{AreOfCore, IsReached, IsScheduledUntil, IsUnderwayIn, IsUnderway};
-ghost use Rattle.cl_sched.specs.CoreProgress.{progress_at, IsBestOf, AreSteadyOf, IsChoice, IsNext};
-ghost use Rattle.cl_sched.specs.Inner.Executing.{IsInLists, IsUnbegun, IsBetter, HasJobLeft, HasExecuted};
+ghost use Rattle.cl_sched.specs.CoreProgress.{progress_at, AreFalling, AreWaiting, IsBestOf, AreSteadyAbove, IsChoice, IsNext};
+ghost use Rattle.cl_sched.specs.Inner.Executing.{IsInLists, IsUnbegun, HasJobLeft, HasExecuted};
 
 use crate::progress::Progress;
 use cl_model::{RunnableDef, ValidModel};
@@ -15,14 +17,23 @@ use cl_runs::{Job, JobTable};
 use cl_time::NoMemory;
 use std::alloc::Global;
 
+/// The first tasks of a core, so many, of which none is released before a tick.
+#[derive(Clone, Copy, Debug, PartialEq, Eq)]
+pub struct Waiting {
+    pub count: usize,
+    pub until: u64,
+}
+
 /// How far the tasks of a core have come at a tick.
 #[derive(Drop)]
 pub struct CoreProgress {
     pub tick: u64,
     /// Where the task stands that has begun a whole runnable and not finished it.
     pub held: Option<usize>,
-    /// The tasks of the core, in file order.
+    /// The tasks of the core, by falling priority.
     pub tasks: Vec<Progress>,
+    /// The first of them need not be asked again before a tick.
+    pub waiting: Waiting,
 }
 
 /// What a core does next: a task of it runs, or none where the core idles, until a tick.
@@ -32,6 +43,8 @@ pub struct Next {
     pub until: u64,
     /// Where the task stands among those of the core.
     pub chosen: Option<usize>,
+    /// Which of the tasks in front of it need not be asked again.
+    pub waiting: Waiting,
 }
 
 /// Which task goes on, and the next event that may change that.
@@ -39,6 +52,7 @@ pub struct Next {
 struct Choice {
     chosen: Option<usize>,
     event: u64,
+    waiting: Waiting,
 }
 
 /// How far a task has come at tick 0.
@@ -51,7 +65,15 @@ fn unbegun(model: &ValidModel, table: &JobTable, task: u32) -> Progress
     Progress::before(table.jobs_of(task), task, priority, 0)
 }
 
-/// How far each task of a core has come at tick 0.
+/// Puts tasks in order by falling priority.
+fn put_from_the_top(tasks: &mut Vec<Progress>)
+    ensures same { IsPermutation tasks.old.items tasks.new.items }
+    ensures falling { AreFalling tasks.new.items }
+{
+    tasks.sort_unstable_by(|one, other| other.priority.cmp(&one.priority));
+}
+
+/// How far each task of a core has come at tick 0, by falling priority.
 fn all_unbegun(
     alloc: Global,
     model: &ValidModel,
@@ -60,12 +82,14 @@ fn all_unbegun(
 ) -> Result<Vec<Progress>, NoMemory>
     requires lawful { IsLawful (system_of model.now) table.now }
     requires core { core < length model.now.cores }
-    ensures { IfOk result (λ tasks. AreOfCore (system_of model.now) table.now core [] tasks.items) }
+    ensures of_core { IfOk result (λ tasks. AreOfCore (system_of model.now) table.now core [] tasks.items) }
+    ensures falling { IfOk result (λ tasks. AreFalling tasks.items) }
 {
     let mut tasks = Vec::new(alloc);
     for task in model.tasks_of_core(core) {
         tasks.push(unbegun(model, table, *task))?;
     }
+    put_from_the_top(&mut tasks);
     Ok(tasks)
 }
 
@@ -90,36 +114,63 @@ fn index_if(index: usize, holds: bool) -> Option<usize>
     if holds { Some(index) } else { None }
 }
 
-/// Whether a task has a higher priority than the best so far, if there is one.
-fn is_better(tasks: &[Progress], index: usize, best: Option<usize>) -> bool
-    requires index { index < length tasks.now }
-    requires best { (other : ℕ) → best ≡ Some other → other < length tasks.now }
-    ensures { IsTrue result ↔ IsBetter tasks.now best index }
+/// No task at all.
+fn none_waiting() -> Waiting
+    ensures { result ≡ record { count = 0; until = 2 ^ 64 - 1 } }
 {
-    match best {
-        Some(other) => tasks[other].priority < tasks[index].priority,
-        None => true,
+    Waiting {
+        count: 0,
+        until: u64::MAX,
     }
 }
 
-/// The released task of highest priority, and when a further task is released, at most until `end`.
-fn highest(tasks: &[Progress], tick: u64, end: u64) -> Choice
-    requires { tick < end }
+/// Which of the first tasks still wait at a tick: all of them, or none where one of them may be released.
+fn waiting_at(waiting: Waiting, tick: u64) -> Waiting
+    requires { tick < 2 ^ 64 - 1 }
+    ensures still { tick < result.until }
+    ensures same { (tasks : List Progress) → AreWaiting tasks waiting → AreWaiting tasks result }
+{
+    if tick < waiting.until {
+        waiting
+    } else {
+        none_waiting()
+    }
+}
+
+/// The released task of highest priority, and when one of a higher priority is released, at most until `end`. The tasks
+/// stand by falling priority.
+fn highest(tasks: &[Progress], waiting: Waiting, tick: u64, end: u64) -> Choice
+    requires before { tick < end }
+    requires falling { AreFalling tasks.now }
+    requires waiting { AreWaiting tasks.now waiting }
+    requires still { tick < waiting.until }
     ensures best { IsBestOf tasks.now (length tasks.now) tick result.chosen }
-    ensures steady { AreSteadyOf tasks.now (length tasks.now) tick result.event }
+    ensures steady { AreSteadyAbove tasks.now result.chosen tick result.event }
+    ensures waiting { AreWaiting tasks.now result.waiting }
+    ensures behind { (index : ℕ) → result.chosen ≡ Some index → result.waiting.count ≤ index }
     ensures after { tick < result.event }
     ensures within { result.event ≤ end }
 {
-    let mut chosen = None;
-    let mut event = end;
-    for (index, task) in tasks.iter().enumerate() {
-        if task.release > tick {
-            event = event.min(task.release);
-        } else if is_better(tasks, index, chosen) {
-            chosen = Some(index);
+    let mut until = waiting.until;
+    for count in waiting.count..tasks.len() {
+        let release = tasks[count].release;
+        if release <= tick {
+            return Choice {
+                chosen: Some(count),
+                event: until.min(end),
+                waiting: Waiting { count, until },
+            };
         }
+        until = until.min(release);
     }
-    Choice { chosen, event }
+    Choice {
+        chosen: None,
+        event: until.min(end),
+        waiting: Waiting {
+            count: tasks.len(),
+            until,
+        },
+    }
 }
 
 impl CoreProgress {
@@ -138,13 +189,18 @@ impl CoreProgress {
             tick: 0,
             held: None,
             tasks: all_unbegun(alloc, model, table, core)?,
+            waiting: none_waiting(),
         })
     }
 
     /// Which task goes on, and the next event that may change that, at most until `end`.
     fn choose(&self, end: u64) -> Choice
         requires before { self.now.tick < end }
+        requires falling { AreFalling self.now.tasks.items }
+        requires waiting { AreWaiting self.now.tasks.items self.now.waiting }
         ensures choice { IsChoice self.now.tasks.items self.now.held self.now.tick result.chosen result.event }
+        ensures waiting { AreWaiting self.now.tasks.items result.waiting }
+        ensures behind { (index : ℕ) → result.chosen ≡ Some index → result.waiting.count ≤ index }
         ensures after { self.now.tick < result.event }
         ensures within { result.event ≤ end }
     {
@@ -152,8 +208,12 @@ impl CoreProgress {
             Some(held) => Choice {
                 chosen: Some(held),
                 event: end,
+                waiting: none_waiting(),
             },
-            None => highest(self.tasks.as_slice(), self.tick, end),
+            None => {
+                let waiting = waiting_at(self.waiting, self.tick);
+                highest(self.tasks.as_slice(), waiting, self.tick, end)
+            }
         }
     }
 
@@ -170,6 +230,7 @@ impl CoreProgress {
                 who: None,
                 until: choice.event,
                 chosen: None,
+                waiting: choice.waiting,
             };
         };
         let task = self.tasks[index];
@@ -177,6 +238,7 @@ impl CoreProgress {
             who: Some(task.task),
             until: self.tick + task.left.min(choice.event - self.tick),
             chosen: Some(index),
+            waiting: choice.waiting,
         }
     }
 
@@ -212,6 +274,7 @@ impl CoreProgress {
     }
 
     /// Goes on to a tick, with what the core does until then.
+    #[inline(always)]
     pub fn advance(&mut self, model: &ValidModel, table: &JobTable, next: Next, until: u64)
         requires lawful { IsLawful (system_of model.now) table.now }
         requires underway { IsUnderwayIn (system_of model.now) table.now self.old }
@@ -227,6 +290,7 @@ impl CoreProgress {
         if let Some(index) = next.chosen {
             self.execute(model, table, index, until - self.tick);
         }
+        self.waiting = next.waiting;
         self.tick = until;
     }
 }

@@ -5,6 +5,6 @@ mod core_progress;
 mod progress;
 mod simulating;
 
-pub use core_progress::{CoreProgress, Next};
+pub use core_progress::{CoreProgress, Next, Waiting};
 pub use progress::Progress;
 pub use simulating::simulate;

@@ -1,12 +1,14 @@
 -- The digits that a text begins with, and the printed number that they are.
-use Rattle.std.proofs.Common.{◌≡◌, ◌≢◌, ℕ, ◌+◌, ◌-◌, ◌*◌, ◌^◌, ◌<◌, ◌≤◌, inl, inr, false, List, [], ◌∷◌, ◌++◌, length, get_or, take, drop, refl, sym, ap, subst, ◌∙◌, arith}
+use Rattle.std.proofs.Common.{◌≡◌, ℕ, ◌+◌, ◌-◌, ◌*◌, ◌^◌, ◌<◌, ◌≤◌, inl, inr, false, List, ◌∷◌, ◌++◌, length, get_or, take, drop, refl, sym, ap, subst, ◌∙◌, arith}
 use Rattle.std.specs.Prelude.{decimal}
 use Rattle.std.specs.Char.{IsAsciiDigit}
 use Rattle.std.specs.Str.Parse.{AllDigits, IsNumeral, digits_value}
 use Rattle.std.proofs.Math.Seq.{get_or-append_seam, take-append_seam, drop-append_seam}
 use Rattle.std.proofs.lemmas.Bool.{cases_lt}
 use Rattle.std.proofs.lemmas.Bool.Decides.{nat_tests}
-use Rattle.std.proofs.lemmas.List.{get_or_append_left, get_or-take, length-append, length-take-le, take-append-drop, take-append-le}
+use Rattle.std.proofs.lemmas.List.{get_or_append_left, get_or-take, length-append, length-take, length-take-le, take-append-drop, take-append-le}
+use Rattle.std.proofs.Math.Nat.{pow-le-pow_right}
+use Rattle.std.proofs.lemmas.Int.Digits.{digits_value-lt}
 use Rattle.std.proofs.lemmas.Str.Parse.{digit_at}
 use Rattle.cl_text.specs.Line.{is_graphic}
 use Rattle.cl_text.proofs.DecimalLemmas.{numeral_of_decimal, lone_zero_of_decimal, decimal_of_numeral, one_more_digit_le}
@@ -96,3 +98,10 @@ module _ (text rest : List ℕ) (n byte : ℕ) (small : n < 2 ^ 64) (other : is_
         numeral.1,
         one_more_digit_le (decimal n) count inside_it (subst IsAsciiDigit here digit),
       )
+
+-- at most 18 digits write a number below 10 ^ 18
+pub few_digits_bound : (text : List ℕ) (count number : ℕ) → count < 19 → AllDigits 10 (take count text) → digits_value 10 (take count text) ≡ number
+    → number < 1000000000000000000
+few_digits_bound text count number few digits value =
+    let most : length (take count text) ≤ 18 = omega (arith, few, length-take count text) in
+    omega (arith, value, digits_value-lt 10 (take count text) digits, pow-le-pow_right {n = 10} (omega arith) most)

@@ -1,6 +1,7 @@
 //! Traces: runs as text.
 #![tactic(auto)]
 
+mod ending;
 mod guesses;
 mod job_lines;
 pub mod laws;

@@ -13,8 +13,8 @@ ghost use Rattle.cl_trace.specs.Inner.Pieces.{AreRead, AreTimes, AreTasksNamed};
 use crate::guesses::Guesses;
 use crate::limits::{MOST_TRACE_NUMBER, MOST_TRACE_TICKS};
 use crate::pieces::{after, byte_after, number_after, task_after};
-use cl_model::{List, ValidModel};
-use cl_runs::Job;
+use cl_model::ValidModel;
+use cl_runs::{Job, Times};
 use cl_time::NoMemory;
 use std::alloc::Global;
 
@@ -39,6 +39,7 @@ pub(crate) fn ticks_after(text: &[u8]) -> Option<(u64, &[u8])>
 }
 
 /// The two numbers that the text begins with, of at most `most`, and what follows them.
+#[inline(always)]
 pub(crate) fn two_after(text: &[u8], most: u64) -> Option<(u64, u64, &[u8])>
     ensures some { IfSome result (λ read. text.now ≡ numbers (read.0 ∷ read.1 ∷ []) ++ read.2.now) }
     ensures within { IfSome result (λ read. (read.0 ≤ most) × (read.1 ≤ most)) }
@@ -51,17 +52,13 @@ pub(crate) fn two_after(text: &[u8], most: u64) -> Option<(u64, u64, &[u8])>
 }
 
 /// So many numbers that the text begins with, and what follows them.
-fn times_after(
-    alloc: Global,
-    text: &[u8],
-    count: usize,
-) -> Result<Option<(List<u64>, &[u8])>, NoMemory>
+fn times_after(alloc: Global, text: &[u8], count: usize) -> Result<Option<(Times, &[u8])>, NoMemory>
     ensures some { IfOk result (λ found. IfSome found (λ read. AreTimes count text.now read.0 read.1.now)) }
     ensures none { IfOk result (λ found. IfNone found ((times rest : List ℕ) → ¬ AreTimes count text.now times (0x0A ∷ rest))) }
     ensures only { IfOk result (λ found. IfSome found (λ read. (times rest : List ℕ) → AreTimes count text.now times (0x0A ∷ rest)
         → (read.0 ≡ times) × (read.1.now ≡ 0x0A ∷ rest))) }
 {
-    let mut times = List::new(alloc);
+    let mut times = Times::new(alloc);
     let mut left = text;
     for _ in 0..count {
         let Some((time, rest)) = number_after(left, MOST_TRACE_NUMBER) else {

@@ -38,9 +38,27 @@ pub(crate) fn byte_after(text: &[u8], byte: u8) -> Option<&[u8]>
     if *first == byte { Some(rest) } else { None }
 }
 
-/// The number that the digits which the text begins with write, as many as stand there, and how many they are. There is
+/// The number that the digits which the text begins with write, and how many they are, where they are at most 18 and
+/// the text goes on that far. A fixed count of steps is laid out without a loop.
+fn few_digits_of(text: &[u8]) -> Option<(u64, usize)>
+    ensures { IfSome result (λ read. AreDigitsOf text.now read.1 read.0) }
+{
+    if text.len() < 19 {
+        return None;
+    }
+    let mut number: u64 = 0;
+    for (count, byte) in text[..19].iter().enumerate() {
+        if !byte.is_ascii_digit() {
+            return Some((number, count));
+        }
+        number = number * 10 + u64::from(*byte - b'0');
+    }
+    None
+}
+
+/// The number that the digits which the text begins with write, however many stand there, and how many they are. There is
 /// none where it is past 64 bits.
-fn digits_of(text: &[u8]) -> Option<(u64, usize)>
+fn many_digits_of(text: &[u8]) -> Option<(u64, usize)>
     ensures some { IfSome result (λ read. AreDigitsOf text.now read.1 read.0) }
     ensures none { IfNone result ((n byte : ℕ) (rest : List ℕ) → n < 2 ^ 64 → is_graphic byte ≡ false → text.now ≢ decimal n ++ byte ∷ rest) }
 {
@@ -56,6 +74,18 @@ fn digits_of(text: &[u8]) -> Option<(u64, usize)>
     Some((number, text.len()))
 }
 
+/// The number that the digits which the text begins with write, as many as stand there, and how many they are. There is
+/// none where it is past 64 bits.
+fn digits_of(text: &[u8]) -> Option<(u64, usize)>
+    ensures some { IfSome result (λ read. AreDigitsOf text.now read.1 read.0) }
+    ensures none { IfNone result ((n byte : ℕ) (rest : List ℕ) → n < 2 ^ 64 → is_graphic byte ≡ false → text.now ≢ decimal n ++ byte ∷ rest) }
+{
+    match few_digits_of(text) {
+        Some(read) => Some(read),
+        None => many_digits_of(text),
+    }
+}
+
 /// Whether so many digits that the text begins with are printed: one at least, and no further one behind a zero.
 fn are_printed(text: &[u8], count: usize) -> bool
     requires { count ≤ length text.now }
@@ -65,6 +95,7 @@ fn are_printed(text: &[u8], count: usize) -> bool
 }
 
 /// The number of at most `most` after a blank that the text begins with, and what follows it.
+#[inline(always)]
 pub(crate) fn number_after(text: &[u8], most: u64) -> Option<(u64, &[u8])>
     ensures some { IfSome result (λ read. (text.now ≡ number_text read.0 ++ read.1.now) × (read.0 ≤ most)) }
     ensures only { (n byte : ℕ) (rest : List ℕ) → n ≤ most → is_graphic byte ≡ false → text.now ≡ number_text n ++ byte ∷ rest

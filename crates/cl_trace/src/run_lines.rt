@@ -23,7 +23,7 @@ fn fits_core(model: &ValidModel, run: &RunData, core: u32, line: RunLine) -> boo
     let filled = run.filled(core);
     model.core_of(line.task) == core
         && filled <= line.from
-        && (filled < line.from || filled == 0 || run.entry(core, filled - 1) != Some(line.task))
+        && (filled < line.from || filled == 0 || run.last_entry(core) != Some(line.task))
 }
 
 /// The stretch of a core that the text begins with a line of, where it may be appended to the entries so far, and what

@@ -1,5 +1,5 @@
 //! The trace of a run, as text.
-ghost use Rattle.std.specs.Prelude.{◌≡◌, ◌<◌, ◌++◌, length, map, All, OnOk, IfOk};
+ghost use Rattle.std.specs.Prelude.{◌≡◌, ◌<◌, ◌≤◌, [], ◌∷◌, ◌++◌, length, codes, map, All, OnOk, IfOk};
 ghost use Rattle.cl_text.specs.Line.{line};
 ghost use Rattle.cl_model.specs.ByNumber.{task_at};
 ghost use Rattle.cl_runs.specs.Run.{IsInForm};
@@ -7,12 +7,16 @@ ghost use Rattle.cl_runs.specs.SystemOf.{system_of};
 ghost use Rattle.cl_trace.specs.Trace.{JobOf, number_text, numbers, job_line_words, run_words, text_of, job_items, run_items, core_items, stretch_item, stretch_items, spelled};
 ghost use Rattle.cl_trace.specs.Inner.TaskStretches.{IsOfTask};
 
+use crate::ending::Ending;
 use cl_model::ValidModel;
 use cl_run_data::{RunData, Stretch};
 use cl_runs::Job;
 use cl_text::Text;
 use cl_time::NoMemory;
 use std::alloc::Global;
+
+/// The most execution times of a job whose line is put at once.
+const MOST_AT_ONCE: usize = 6;
 
 /// The trace of a run: a title, the number of its ticks, a line for each job, task by task, a line for each longest
 /// stretch of a task, core by core, and an end. Times are in ticks; a core that idles has no line.
@@ -54,20 +58,81 @@ fn put_task(text: &mut Text, model: &ValidModel, task: u32, jobs: &[Job]) -> Res
     ensures { OnOk result (text.new ≡ text.old ++ text_of model.now (map (JobOf task) jobs.now)) }
 {
     let name = name_of(model, task);
+    let mut ending = Ending::new();
     for job in jobs {
-        put_job(text, name, job)?;
+        put_job(text, &mut ending, name, job)?;
     }
     Ok(())
 }
 
-/// Puts a job of a task of that name.
-fn put_job(text: &mut Text, name: &[u8], job: &Job) -> Result<(), NoMemory>
+/// Puts a job of a task of that name. What the ending holds is lost: it is lent, since to make one for each line takes
+/// time.
+fn put_job(text: &mut Text, ending: &mut Ending, name: &[u8], job: &Job) -> Result<(), NoMemory>
+    requires { length name.now ≤ 64 }
     ensures { OnOk result (text.new ≡ text.old ++ line (job_line_words name.now job.now)) }
 {
-    text.put(b"job ")?;
-    text.put(name)?;
-    put_number(text, job.arrival)?;
-    put_number(text, job.release)?;
+    if job.times.as_slice().len() <= MOST_AT_ONCE {
+        put_short_job(text, ending, name, job)
+    } else {
+        put_long_job(text, name, job)
+    }
+}
+
+/// Puts a job of few execution times, at once, by the ending that is lent.
+fn put_short_job(
+    text: &mut Text,
+    ending: &mut Ending,
+    name: &[u8],
+    job: &Job,
+) -> Result<(), NoMemory>
+    requires name { length name.now ≤ 64 }
+    requires few { length job.now.times ≤ 6 }
+    ensures { OnOk result (text.new ≡ text.old ++ line (job_line_words name.now job.now)) }
+{
+    ending.clear();
+    ending.put_byte(b'\n');
+    line_numbers(ending, job.times.as_slice());
+    line_head(ending, name, job);
+    text.put(ending.as_slice())
+}
+
+/// Puts numbers before the text, each after a blank.
+fn line_numbers(line: &mut Ending, list: &[u64])
+    requires few { length list.now ≤ 6 }
+    requires room { length line.old ≤ 1 }
+    ensures text { line.new ≡ numbers list.now ++ line.old }
+    ensures short { length line.new ≤ 127 }
+{
+    let mut left = list.len();
+    while left > 0 {
+        left -= 1;
+        line.put_number(list[left]);
+        line.put_byte(b' ');
+    }
+}
+
+/// Puts the words of a job before the text, up to its release.
+fn line_head(line: &mut Ending, name: &[u8], job: &Job)
+    requires name { length name.now ≤ 64 }
+    requires room { length line.old ≤ 127 }
+    ensures { line.new ≡ (codes "job " ++ (name.now ++ numbers (job.now.arrival ∷ job.now.release ∷ []))) ++ line.old }
+{
+    line.put_number(job.release);
+    line.put_byte(b' ');
+    line.put_number(job.arrival);
+    line.put_byte(b' ');
+    line.put(name);
+    line.put(b"job ");
+}
+
+/// Puts a job of many execution times, piece by piece.
+fn put_long_job(text: &mut Text, name: &[u8], job: &Job) -> Result<(), NoMemory>
+    requires { length name.now ≤ 64 }
+    ensures { OnOk result (text.new ≡ text.old ++ line (job_line_words name.now job.now)) }
+{
+    let mut head = Ending::new();
+    line_head(&mut head, name, job);
+    text.put(head.as_slice())?;
     put_numbers(text, job.times.as_slice())?;
     text.put_byte(b'\n')
 }
@@ -86,8 +151,10 @@ fn put_numbers(text: &mut Text, list: &[u64]) -> Result<(), NoMemory>
 fn put_number(text: &mut Text, number: u64) -> Result<(), NoMemory>
     ensures { OnOk result (text.new ≡ text.old ++ number_text number) }
 {
-    text.put_byte(b' ')?;
-    text.put_number(number)
+    let mut word = Ending::new();
+    word.put_number(number);
+    word.put_byte(b' ');
+    text.put(word.as_slice())
 }
 
 /// Puts the stretches of all cores.
@@ -115,17 +182,20 @@ fn put_stretches(text: &mut Text, model: &ValidModel, stretches: &[Stretch]) -> 
     requires { All (IsOfTask model.now) stretches.now }
     ensures { OnOk result (text.new ≡ text.old ++ text_of model.now (stretch_items 0 stretches.now)) }
 {
+    let mut ending = Ending::new();
     let mut from = 0;
     for stretch in stretches {
-        put_stretch(text, model, from, stretch)?;
+        put_stretch(text, &mut ending, model, from, stretch)?;
         from = stretch.end;
     }
     Ok(())
 }
 
-/// Puts a stretch that begins at a tick: a line where a task runs, and nothing where the core idles.
+/// Puts a stretch that begins at a tick: a line where a task runs, by the ending that is lent, and nothing where the
+/// core idles.
 fn put_stretch(
     text: &mut Text,
+    ending: &mut Ending,
     model: &ValidModel,
     from: u64,
     stretch: &Stretch,
@@ -135,25 +205,37 @@ fn put_stretch(
 {
     match stretch.who {
         None => Ok(()),
-        Some(task) => put_run(text, name_of(model, task), from, stretch.end),
+        Some(task) => put_run(text, ending, name_of(model, task), from, stretch.end),
     }
 }
 
-/// Puts that a task of that name runs from a tick to another.
-fn put_run(text: &mut Text, name: &[u8], from: u64, to: u64) -> Result<(), NoMemory>
+/// Puts that a task of that name runs from a tick to another, by the ending that is lent.
+fn put_run(
+    text: &mut Text,
+    ending: &mut Ending,
+    name: &[u8],
+    from: u64,
+    to: u64,
+) -> Result<(), NoMemory>
+    requires { length name.now ≤ 64 }
     ensures { OnOk result (text.new ≡ text.old ++ line (run_words name.now from to)) }
 {
-    text.put(b"run ")?;
-    text.put(name)?;
-    put_number(text, from)?;
-    put_number(text, to)?;
-    text.put_byte(b'\n')
+    ending.clear();
+    ending.put_byte(b'\n');
+    ending.put_number(to);
+    ending.put_byte(b' ');
+    ending.put_number(from);
+    ending.put_byte(b' ');
+    ending.put(name);
+    ending.put(b"run ");
+    text.put(ending.as_slice())
 }
 
 /// The name of a task.
 fn name_of(model: &ValidModel, task: u32) -> &[u8]
     requires { task < length model.now.tasks }
-    ensures { result.now ≡ (task_at model.now task).name }
+    ensures name { result.now ≡ (task_at model.now task).name }
+    ensures short { length result.now ≤ 64 }
 {
     model.task(task).name.as_slice()
 }

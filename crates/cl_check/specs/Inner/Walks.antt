@@ -1,11 +1,13 @@
 -- Where a walk over the stretches of a core stands, and what it finds.
-use Rattle.std.specs.Prelude.{◌≡◌, ℕ, suc, ◌-◌, Option, Some, None, ◌<◌, ◌≤◌, List, length, take, count_by, slice_index_or}
+use Rattle.std.specs.Prelude.{◌≡◌, ℕ, suc, ◌+◌, ◌-◌, ◌^◌, Option, Some, None, ◌<◌, ◌≤◌, min, List, length, take, count_by, slice_index_or}
 use Rattle.cl_runs.specs.declared.job.Job.{Job}
 use Rattle.cl_runs.specs.Run.{is_task}
 use Rattle.cl_runs.specs.Work.{work_before, work_through}
 use Rattle.cl_run_data.specs.declared.stretches.Stretch.{Stretch}
 use Rattle.cl_run_data.specs.Stretches.{entries_from}
 use Rattle.cl_check.specs.declared.job_moments.Moment.{Moment}
+use Rattle.cl_check.specs.declared.job_ends.End.{End}
+use Rattle.cl_check.specs.declared.job_ends.End.TheVariants.{Start, Finish}
 use Rattle.cl_check.specs.declared.walk.Walk.{Walk}
 use Rattle.cl_check.specs.JobMoments.{IsMomentOf, no_moment}
 
@@ -38,3 +40,17 @@ pub record AreMomentsIn (entries : List (Option ℕ)) (jobs : List Job) (task pl
       → IsMomentOf (RunsAfter entries task (work_before jobs job place)) (slice_index_or moments job no_moment).start
   pub finishes : (job : ℕ) → job < length moments
       → IsMomentOf (EndsAfter entries task (work_through jobs job place - 1)) (slice_index_or moments job no_moment).finish
+
+-- one end of a runnable that takes `own` ticks, after so much work of its task, as far as it fits
+abbrev pub IsEndAfter : End → List (Option ℕ) → (task before own : ℕ) → (tick : ℕ) → Type 0
+IsEndAfter Start entries task before own = RunsAfter entries task before
+IsEndAfter Finish entries task before own = EndsAfter entries task (min (before + (own - 1)) (2 ^ 64 - 1))
+
+-- one end of a runnable of a job, by the work before it or up to it
+abbrev pub EndsIn : End → List (Option ℕ) → List Job → (task job place : ℕ) → (tick : ℕ) → Type 0
+EndsIn Start entries jobs task job place = RunsAfter entries task (work_before jobs job place)
+EndsIn Finish entries jobs task job place = EndsAfter entries task (work_through jobs job place - 1)
+
+-- one end of a runnable over the entries of a core, job by job
+pub record AreEndsIn (end : End) (entries : List (Option ℕ)) (jobs : List Job) (task place : ℕ) (ends : List (Option ℕ)) : Type 0 where
+  pub each : (job : ℕ) → job < length ends → IsMomentOf (EndsIn end entries jobs task job place) (slice_index_or ends job None)

@@ -1,5 +1,5 @@
 -- How the progress of a core begins, and what a task's executing changes. Times are in ticks.
-use Rattle.std.specs.Prelude.{◌≡◌, ◌≢◌, ◌↔◌, ℕ, Option, Some, ◌+◌, ◌<◌, List, length}
+use Rattle.std.specs.Prelude.{◌≡◌, ◌≢◌, ◌↔◌, ℕ, Some, ◌+◌, ◌<◌, List, length}
 use Rattle.cl_model.specs.declared.model.SystemModel.{SystemModel}
 use Rattle.cl_model.specs.declared.task.RunnableDef.{RunnableDef}
 use Rattle.cl_model.specs.ByNumber.{task_at}
@@ -17,11 +17,6 @@ pub record IsUnbegun (model : SystemModel) (table : JobTable) (task : ℕ) (prog
   pub task_is : progress.task ≡ task
   pub priority : progress.priority ≡ (task_at model task).priority
   pub has_come : HasComeTo (table_jobs table task) 0 progress
-
--- a task has a higher priority than the best so far, if there is one
-abbrev pub IsBetter : List Progress → (best : Option ℕ) → (index : ℕ) → Type 0
-IsBetter tasks best index = (other : ℕ) → best ≡ Some other
-    → (progress_at tasks other).priority < (progress_at tasks index).priority
 
 -- a job of a task is left, and a runnable of it that isn't finished
 abbrev pub HasJobLeft : JobTable → Progress → Type 0

@@ -1,9 +1,9 @@
-use Rattle.std.proofs.Common.{◌≡◌, ◌-◌, ◌^◌, ◌<◌, ◌∷◌, ◌++◌, length, take, drop, ap, sym, ◌∙◌, refl, arith}
+use Rattle.std.proofs.Common.{◌-◌, ◌^◌, ◌<◌, ◌∷◌, ◌++◌, length, drop, ap, sym, ◌∙◌, refl, arith}
 use Rattle.std.specs.Prelude.{decimal}
 use Rattle.std.proofs.lemmas.Bool.{false≢true}
 use Rattle.std.proofs.lemmas.List.{length-drop, take_all}
 use Rattle.cl_trace.proofs.PieceFacts.{behind_blank}
-use Rattle.cl_trace.proofs.LeadingDigits.{digits_are_printed, count_of_printed, number_of_printed, rest_of_printed, printed_passes}
+use Rattle.cl_trace.proofs.LeadingDigits.{digits_are_printed, number_of_printed, rest_of_printed, printed_passes}
 use Rattle.cl_trace.proofs.pieces.number_after.Goals as goal
 use Rattle.cl_trace.proofs.pieces.number_after.Goals.{else-number-most-via-then-number-most+else-are_printed, else-number-most-via-else-number-most}
 

@@ -10,4 +10,4 @@ unfolding item_text
 loop-job-preserved c =
     put_job_more c.args.model.now c.args.task c.args.text.now c.loop-job.text c.put_job.new.text c.args.jobs.now c.loop-job.job-index c.job-item.result
     c.loop-job-test.true c.loop-job.invariant
-    ((rw c.name_of-name.ensures at c.in_ok-put_job.ensures) ∙ ap (λ j. c.loop-job.text ++ line (job_line_words (task_at c.args.model.now c.args.task).name j)) c.job-item.is)
+    ((rw c.name_of-name.ensures.name at c.in_ok-put_job.ensures) ∙ ap (λ j. c.loop-job.text ++ line (job_line_words (task_at c.args.model.now c.args.task).name j)) c.job-item.is)

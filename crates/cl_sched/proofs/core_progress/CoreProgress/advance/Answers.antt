@@ -20,12 +20,13 @@ returns-clause-reached c = λ core entries at.
     elim c.match-next.branch [
       | in-Some w ↦
           let standing = standing_there system table core entries old at c.args.next c.requires.next w.in-Some.index w.in-Some.is in
-          reached_along system table core entries n _ c.args.next.who c.args.until _ c.match-next.self
+          reached_along system table core entries n _ c.args.next.who c.args.until c.args.next.waiting _ c.match-next.self
           (runs system table core entries old at c.args.next c.requires.next w.in-Some.index w.in-Some.is) (sym w.self-is)
           (reached_further system table core entries old at w.in-Some.index n w.execute.new.self w.execute.ensures
           (is_within system table core entries old at c.args.next c.requires.next w.in-Some.index w.in-Some.is) standing
-          (held_alone system table core entries old at c.args.next c.requires.next w.in-Some.index w.in-Some.is) c.args.until until)
-      | in_default w ↦ reached_along system table core entries n None c.args.next.who c.args.until old c.match-next.self
+          (held_alone system table core entries old at c.args.next c.requires.next w.in-Some.index w.in-Some.is) c.args.until c.args.next.waiting until
+          c.requires.next.waiting (c.requires.next.behind w.in-Some.index w.in-Some.is))
+      | in_default w ↦ reached_along system table core entries n None c.args.next.who c.args.until c.args.next.waiting old c.match-next.self
           (idles old c.args.next c.requires.next w.in_default.is) (sym w.self-is)
-          (reached_idle system table core entries old at n c.args.until until)
+          (reached_idle system table core entries old at n c.args.until c.args.next.waiting until c.requires.next.waiting)
     ]

@@ -1,8 +1,8 @@
-use Rattle.std.proofs.Common.{sym, arith}
+use Rattle.std.proofs.Common.{arith}
 use Rattle.std.proofs.lemmas.Int.Digits.{digits_more}
 use Rattle.cl_text.proofs.DecimalLemmas.{one_more_digit}
 use Rattle.cl_trace.proofs.LeadingDigits.{printed_bounds}
-use Rattle.cl_trace.proofs.pieces.digits_of.Goals as goal
+use Rattle.cl_trace.proofs.pieces.many_digits_of.Goals as goal
 
 pub returns-in_err-checked_mul-clause-none : goal.returns-in_err-checked_mul-clause-none
 returns-in_err-checked_mul-clause-none c = rw c.from_residual.ensures (λ n byte rest small other is.
