@@ -46,7 +46,8 @@ fn is_same_group(one: GroupQuestion, other: GroupQuestion) -> bool
     one == other
 }
 
-/// Whether two chains, which have as many groups, pass tasks with other responses. Few other questions have the same.
+/// Whether two chains, which have as many groups, pass tasks with other responses. Then they ask something else, and most
+/// chains that do are told apart by this, which needs no question to be made.
 fn have_other_responses(
     old: &ValidModel,
     old_answers: &List<TaskAnswer>,

@@ -43,7 +43,7 @@ pub struct Session {
     findings: Findings,
     /// The model once more: the next edit changes it in place, so that the questions of both can be compared.
     twin: Option<Twin>,
-    /// The chains that pass each task. They are forgotten where numbers change.
+    /// The chains that pass each task. They are forgotten where a chain is added or dropped.
     passing: Option<Passing>,
 }
 

@@ -2,7 +2,7 @@
 use Rattle.std.proofs.Common.{◌≡◌, ℕ, suc, ◌+◌, ◌-◌, ◌<◌, Bool, true, false, cond, not, ◌||◌, inl, inr, List, [], ◌∷◌, ◌++◌, length, get_or, take, map, refl, sym, ap, ◌∙◌, arith}
 use Rattle.std.specs.Prelude.{unwrap_or, nat_lt, Option, Some, None, is_some, Contains}
 use Rattle.std.specs.Cmp.Lexicographic.{bytes_decides}
-use Rattle.std.specs.List.{list_any, position_or_len, prefix_len}
+use Rattle.std.specs.List.{list_any, position_or_len, prefix_len, IsDistinct}
 use Rattle.std.proofs.lemmas.Bool.{cases_lt, cond-true, false_from_ne_true, false≢true, lt-ltb}
 use Rattle.std.proofs.lemmas.Cmp.{nat_list_eq_equiv}
 use Rattle.std.proofs.lemmas.Grind.{common_steps}
@@ -10,6 +10,7 @@ use Rattle.std.proofs.lemmas.List.{take_more, take-append-le, get_or-map, get_or
 use Rattle.std.proofs.lemmas.List.Folds.{list_any_at}
 use Rattle.std.proofs.lemmas.List.Quantifiers.{position-Some}
 use Rattle.std.proofs.lemmas.List.Sums.{position_or_len_is}
+use Rattle.std.proofs.lemmas.Map.Made.{AllPairs-from_IsDistinct}
 use Rattle.std.proofs.lemmas.Map.Views.{Contains-from_any, list_any-from_Contains}
 use Rattle.std.proofs.Math.ListN.{length-map}
 use Rattle.std.proofs.Math.Seq.{take-append-add}
@@ -73,13 +74,26 @@ earlier_differs names apart k within j before =
     let in_front : j < length (take k names) = omega (arith, before, length-take-le k names (omega arith)) in
     false≢true (sym (apart k within) ∙ list_any_at (same_name (get_or names k [])) (take k names) j [] in_front here))
 
+-- a name that stands at a place and not before it is found there
+first_place : (name : List ℕ) (names : List (List ℕ)) (k : ℕ) → k < length names → same_name name (get_or names k []) ≡ true → ((j : ℕ) → j < k → same_name name (get_or names j []) ≡ false) → index_of name names ≡ Some k
+first_place name names k within here before =
+    let at : position_or_len (same_name name) names ≡ k
+    = position_or_len_is (same_name name) names k [] (omega arith) before (λ _. here) in
+    ap (λ n. cond (nat_lt n (length names)) (Some n) None) at ∙ cond-true (nat_lt k (length names)) (Some k) None (lt-ltb _ _ within)
+
 -- each is found at its own place
 pub own_place : (names : List (List ℕ)) → AreDistinctNames names → (k : ℕ) → k < length names → index_of (get_or names k []) names ≡ Some k
 own_place names apart k within =
     let name = get_or names k [] in
-    let at : position_or_len (same_name name) names ≡ k
-    = position_or_len_is (same_name name) names k [] (omega arith) (earlier_differs names apart k within) (λ _. (bytes_decides name name).1 refl) in
-    ap (λ n. cond (nat_lt n (length names)) (Some n) None) at ∙ cond-true (nat_lt k (length names)) (Some k) None (lt-ltb _ _ within)
+    first_place name names k within ((bytes_decides name name).1 refl) (earlier_differs names apart k within)
+
+-- a name that is the one at a place of a list without equal ones is found there
+pub distinct_place : (name known : List ℕ) (names : List (List ℕ)) (k : ℕ) → IsDistinct same_name names → k < length names → known ≡ get_or names k [] → same_name known name ≡ true → index_of name names ≡ Some k
+distinct_place name known names k distinct within at same =
+    let one : get_or names k [] ≡ name = sym at ∙ (bytes_decides known name).0 same in
+    let others_before : (j : ℕ) → j < k → same_name name (get_or names j []) ≡ false
+    = λ j before. false_from_ne_true _ (λ equal. AllPairs-from_IsDistinct bytes_decides names distinct j k [] before within (sym ((bytes_decides name (get_or names j [])).0 equal) ∙ sym one)) in
+    first_place name names k within ((bytes_decides name (get_or names k [])).1 (sym one)) others_before
 
 pub names_found : (names : List (List ℕ)) → AreDistinctNames names → AreFound names
 names_found names apart = record { named = λ name k. found_named name names k; own = own_place names apart }

@@ -95,17 +95,20 @@ impl StepTable {
     }
 }
 
+/// The steps of these names. Most often a step is the runnable behind the one before.
 fn steps_named(alloc: Global, table: &StepTable, names: &[Name]) -> Result<Vec<Step>, NoMemory>
     requires known { All (λ name. has_name name table.now.names ≡ true) names.now }
     requires paired { length table.now.steps.items ≡ length table.now.names }
     ensures { IfOk result (λ steps. steps.items ≡ map (step_in table.now) names.now) }
 {
     let mut steps = Vec::with_capacity(alloc, names.len())?;
+    let mut guess = 0;
     for name in names {
-        let Some(number) = table.names.number_of(name) else {
+        let Some(number) = table.names.number_guessed(name, guess) else {
             unreachable!();
         };
         steps.push(table.steps[number])?;
+        guess = number.saturating_add(1);
     }
     Ok(steps)
 }

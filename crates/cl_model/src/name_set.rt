@@ -96,4 +96,17 @@ impl NameSet {
     {
         self.names.get_index_of(name)
     }
+
+    /// The number of a name, counted from 0, as `number_of` says it. A right guess makes it cheap: of names in their order
+    /// each comes behind the one before.
+    pub fn number_guessed(&self, name: &Name, guess: usize) -> Option<usize>
+        ensures number { result ≡ index_of name.now self.now }
+        ensures found { is_some result ≡ has_name name.now self.now }
+        ensures within { IfSome result (λ number. number < length self.now) }
+    {
+        match self.names.as_slice().get(guess) {
+            Some(known) if known == name => Some(guess),
+            _ => self.names.get_index_of(name),
+        }
+    }
 }

@@ -21,7 +21,11 @@ use cl_model::{
 use std::alloc::Global;
 
 /// What step k of a chain reads and writes, where the steps have these numbers.
-fn step_of<'a>(uses: &'a [LabelUse], numbers: &[usize], k: usize) -> Option<&'a LabelUse>
+fn step_of<'a, 'b>(
+    uses: &'a [LabelUse<'b>],
+    numbers: &[usize],
+    k: usize,
+) -> Option<&'a LabelUse<'b>>
     ensures { option_copied result ≡ use_of_number uses.now numbers.now k }
 {
     let number = numbers.get(k)?;
@@ -29,7 +33,7 @@ fn step_of<'a>(uses: &'a [LabelUse], numbers: &[usize], k: usize) -> Option<&'a 
 }
 
 /// Whether a step is known and doesn't write a label.
-fn misses_write(step: Option<&LabelUse>, label: &Name) -> bool
+fn misses_write(step: Option<&LabelUse<'_>>, label: &Name) -> bool
     ensures { result ≡ is_some_and (option_copied step.entry) (λ writer. not (has_name label.now writer.writes)) }
 {
     match step {
@@ -39,7 +43,7 @@ fn misses_write(step: Option<&LabelUse>, label: &Name) -> bool
 }
 
 /// Whether a step is known and doesn't read a label.
-fn misses_read(step: Option<&LabelUse>, label: &Name) -> bool
+fn misses_read(step: Option<&LabelUse<'_>>, label: &Name) -> bool
     ensures { result ≡ is_some_and (option_copied step.entry) (λ reader. not (has_name label.now reader.reads)) }
 {
     match step {
@@ -49,24 +53,25 @@ fn misses_read(step: Option<&LabelUse>, label: &Name) -> bool
 }
 
 /// Whether a label isn't handed over from a step to the next one.
-fn misses_label(writer: Option<&LabelUse>, reader: Option<&LabelUse>, label: &Name) -> bool
+fn misses_label(writer: Option<&LabelUse<'_>>, reader: Option<&LabelUse<'_>>, label: &Name) -> bool
     ensures { result ≡ misses_use (option_copied writer.entry) (option_copied reader.entry) label.now }
 {
     misses_write(writer, label) || misses_read(reader, label)
 }
 
-/// Checks M44 for step k: its number.
+/// Checks M44 for step k: its number, which may be guessed.
 fn step_number(
     runnables: &NameSet,
     place: Place,
     k: usize,
     name: &Name,
+    guess: usize,
 ) -> Result<usize, ModelFault>
     requires { k < 2 ^ 32 }
     ensures checked { Passes result (known_step_check runnables.now place k name.now) }
     ensures number { IfOk result (λ number. index_of name.now runnables.now ≡ Some number) }
 {
-    match runnables.number_of(name) {
+    match runnables.number_guessed(name, guess) {
         Some(number) => Ok(number),
         None => Err(ModelFault::refused(Code::M44, at_spot(place, k))),
     }
@@ -75,8 +80,8 @@ fn step_number(
 /// Checks that a label is handed over from step k, the writer, to the next one, the reader.
 #[tactic(auto, unfolding(crate::specs::Inner::ChainsByTable::number_hop_check))]
 fn check_hop(
-    writer: Option<&LabelUse>,
-    reader: Option<&LabelUse>,
+    writer: Option<&LabelUse<'_>>,
+    reader: Option<&LabelUse<'_>>,
     place: Place,
     k: usize,
     label: &Name,
@@ -91,7 +96,7 @@ fn check_hop(
     refuse_when(is_missed, Code::M45, at_spot(place, k))
 }
 
-/// Checks M44, and adds the number of each step.
+/// Checks M44, and adds the number of each step. Most often a step is the runnable behind the one before.
 fn add_numbers(
     numbers: &mut Vec<usize>,
     runnables: &NameSet,
@@ -103,9 +108,11 @@ fn add_numbers(
     ensures checked { Answers result (each (known_step_check runnables.now place) steps.now) tt }
     ensures numbers { OnOk result (AreNumbersOf runnables.now steps.now numbers.new.items) }
 {
+    let mut guess = 0;
     for (k, name) in steps.iter().enumerate() {
-        let number = step_number(runnables, place, k, name)?;
+        let number = step_number(runnables, place, k, name, guess)?;
         numbers.push(number)?;
+        guess = number.saturating_add(1);
     }
     Ok(())
 }
@@ -113,7 +120,7 @@ fn add_numbers(
 /// Checks M45.
 #[tactic(auto, using(cl_model::proofs::FirstRefusals::loop_faults))]
 fn check_hops(
-    uses: &[LabelUse],
+    uses: &[LabelUse<'_>],
     numbers: &[usize],
     place: Place,
     labels: &[Name],
@@ -159,7 +166,7 @@ fn step_numbers(
 }
 
 fn check_all_hops(
-    uses: &[LabelUse],
+    uses: &[LabelUse<'_>],
     numbers: &[usize],
     i: usize,
     chain: &ChainDef,
@@ -178,7 +185,7 @@ fn check_all_hops(
 fn check_chain(
     alloc: Global,
     runnables: &NameSet,
-    uses: &[LabelUse],
+    uses: &[LabelUse<'_>],
     i: usize,
     chain: &ChainDef,
 ) -> Result<(), ModelFault>
@@ -197,7 +204,7 @@ fn check_chain(
 fn check_all_chains(
     alloc: Global,
     runnables: &NameSet,
-    uses: &[LabelUse],
+    uses: &[LabelUse<'_>],
     chains: &[ChainDef],
 ) -> Result<(), ModelFault>
     requires count { length chains.now < 2 ^ 32 }
@@ -215,7 +222,7 @@ pub fn check_chains(
     alloc: Global,
     model: &SystemModel,
     names: &Names,
-    uses: &[LabelUse],
+    uses: &[LabelUse<'_>],
 ) -> Result<(), ModelFault>
     requires in_range { IsInRange model.now }
     requires names { names.now ≡ names_of model.now }

@@ -2,24 +2,24 @@
 ghost use Rattle.std.specs.Prelude.{◌≡◌};
 ghost use Rattle.cl_model.specs.Named.{has_name};
 
-use cl_model::{List, Name, NameSet};
+use cl_model::{Name, NameSet};
 use std::alloc::Global;
 use std::marker::Model;
 
-/// Labels in order. Few of them are kept in a list, since making a set takes longer than going through the list, and
-/// many in a set. One of the two is empty.
+/// Labels in order. Few of them stay in the list that they stand in, since making a set takes longer than going through
+/// the list, and many are put into a set. One of the two is empty.
 #[derive(Drop)]
-pub struct Labels {
-    few: List<Name>,
+pub struct Labels<'a> {
+    few: &'a [Name],
     many: NameSet,
 }
 
-impl Model for Labels {
+impl<'a> Model for Labels<'a> {
     ghost use Rattle.std.specs.Prelude.{List, ℕ, ◌++◌};
 
     ghost Value = { List (List ℕ) };
 
-    ghost view = { λ labels. labels.few ++ labels.many };
+    ghost view = { λ labels. labels.few.now ++ labels.many };
 }
 
 /// Whether a label is in a list.
@@ -29,21 +29,20 @@ fn is_in_list(labels: &[Name], label: &Name) -> bool
     labels.contains(label)
 }
 
-impl Labels {
+impl<'a> Labels<'a> {
     /// Few labels.
-    pub fn few(alloc: Global, few: List<Name>) -> Labels
-        ensures { result ≡ few }
+    pub fn few(alloc: Global, few: &'a [Name]) -> Labels<'a>
+        ensures { result ≡ few.now }
     {
         let many = NameSet::new(alloc);
         Labels { few, many }
     }
 
     /// Many labels.
-    pub fn many(alloc: Global, many: NameSet) -> Labels
+    pub fn many(many: NameSet) -> Labels<'a>
         ensures { result ≡ many }
     {
-        let few = List::new(alloc);
-        Labels { few, many }
+        Labels { few: &[], many }
     }
 
     /// Whether a label is there.
@@ -51,6 +50,6 @@ impl Labels {
     pub fn contains(&self, label: &Name) -> bool
         ensures { result ≡ has_name label.now self.now }
     {
-        is_in_list(self.few.as_slice(), label) || self.many.contains(label)
+        is_in_list(self.few, label) || self.many.contains(label)
     }
 }

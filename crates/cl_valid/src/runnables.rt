@@ -15,7 +15,7 @@ ghost use Rattle.cl_valid.specs.Inner.Tables.{use_of, uses_of};
 use crate::labels::Labels;
 use crate::places::{at_spot, at_sub};
 use cl_model::{
-    Code, Key, List, ModelFault, Name, NameSet, Place, RunnableDef, TaskDef, TryCopy, add_new,
+    Code, Key, List, ModelFault, Name, NameSet, Place, RunnableDef, TaskDef, add_new,
     refuse_unless, refuse_when,
 };
 use cl_time::NoMemory;
@@ -26,18 +26,18 @@ const FEW_LABELS: usize = 8;
 
 /// What one runnable reads and writes.
 #[derive(Drop)]
-pub struct LabelUse {
-    pub reads: Labels,
-    pub writes: Labels,
+pub struct LabelUse<'a> {
+    pub reads: Labels<'a>,
+    pub writes: Labels<'a>,
 }
 
 /// What the runnables so far read and write.
 #[derive(Drop)]
-pub struct LabelUses {
+pub struct LabelUses<'a> {
     /// The labels that they write.
     pub written: NameSet,
     /// Each of them, in order.
-    pub each: List<LabelUse>,
+    pub each: List<LabelUse<'a>>,
 }
 
 fn check_label(
@@ -106,26 +106,17 @@ fn distinct_many(alloc: Global, place: Place, labels: &[Name]) -> Result<NameSet
     Ok(set)
 }
 
-/// Checks M39 pair by pair: a list of the labels.
-fn distinct_few(alloc: Global, place: Place, labels: &List<Name>) -> Result<List<Name>, ModelFault>
-    requires { length labels.now < 2 ^ 32 }
-    ensures { Answers result (twice_check place labels.now) labels.now }
-{
-    check_few(place, labels.as_slice())?;
-    Ok(labels.try_copy(alloc)?)
-}
-
 /// Checks M39: the labels of a list, each of which stands there once.
-fn distinct(alloc: Global, place: Place, labels: &List<Name>) -> Result<Labels, ModelFault>
+fn distinct<'a>(alloc: Global, place: Place, labels: &'a [Name]) -> Result<Labels<'a>, ModelFault>
     requires { length labels.now < 2 ^ 32 }
     ensures { Answers result (twice_check place labels.now) labels.now }
 {
     if labels.len() <= FEW_LABELS {
-        let few = distinct_few(alloc, place, labels)?;
-        Ok(Labels::few(alloc, few))
+        check_few(place, labels)?;
+        Ok(Labels::few(alloc, labels))
     } else {
-        let many = distinct_many(alloc, place, labels.as_slice())?;
-        Ok(Labels::many(alloc, many))
+        let many = distinct_many(alloc, place, labels)?;
+        Ok(Labels::many(many))
     }
 }
 
@@ -175,22 +166,26 @@ fn check_writes(known: &NameSet, place: Place, runnable: &RunnableDef) -> Result
     check_known(known, Code::M38, place, runnable.writes.as_slice())
 }
 
-fn distinct_reads(alloc: Global, place: Place, runnable: &RunnableDef) -> Result<Labels, ModelFault>
+fn distinct_reads<'a>(
+    alloc: Global,
+    place: Place,
+    runnable: &'a RunnableDef,
+) -> Result<Labels<'a>, ModelFault>
     requires { IsRunnableInRange runnable.now }
     ensures { Answers result (twice_check (at_key keys.Reads place) runnable.now.reads) runnable.now.reads }
 {
-    distinct(alloc, place.at_key(Key::Reads), &runnable.reads)
+    distinct(alloc, place.at_key(Key::Reads), runnable.reads.as_slice())
 }
 
-fn distinct_writes(
+fn distinct_writes<'a>(
     alloc: Global,
     place: Place,
-    runnable: &RunnableDef,
-) -> Result<Labels, ModelFault>
+    runnable: &'a RunnableDef,
+) -> Result<Labels<'a>, ModelFault>
     requires { IsRunnableInRange runnable.now }
     ensures { Answers result (twice_check (at_key keys.Writes place) runnable.now.writes) runnable.now.writes }
 {
-    distinct(alloc, place.at_key(Key::Writes), &runnable.writes)
+    distinct(alloc, place.at_key(Key::Writes), runnable.writes.as_slice())
 }
 
 fn check_contest(written: &NameSet, place: Place, runnable: &RunnableDef) -> Result<(), ModelFault>
@@ -203,13 +198,13 @@ fn check_contest(written: &NameSet, place: Place, runnable: &RunnableDef) -> Res
 
 /// Checks M36 to M40 for the runnable at a place: what it reads and writes.
 #[tactic(auto, using(cl_model::proofs::FirstRefusals::faults), unfolding(cl_model::specs::ValidTasks::runnable_checks))]
-fn checked_use(
+fn checked_use<'a>(
     alloc: Global,
     known: &NameSet,
     written: &NameSet,
     place: Place,
-    runnable: &RunnableDef,
-) -> Result<LabelUse, ModelFault>
+    runnable: &'a RunnableDef,
+) -> Result<LabelUse<'a>, ModelFault>
     requires { IsRunnableInRange runnable.now }
     ensures checked { Answers result (runnable_checks known.now written.now place runnable.now) (use_of runnable.now) }
     ensures new { OnOk result (AreNew written.now runnable.now.writes) }
@@ -224,12 +219,12 @@ fn checked_use(
 }
 
 /// Checks M36 to M40 for each runnable of the task at a place.
-pub fn check_body(
+pub fn check_body<'a>(
     alloc: Global,
     known: &NameSet,
-    uses: &mut LabelUses,
+    uses: &mut LabelUses<'a>,
     place: Place,
-    task: &TaskDef,
+    task: &'a TaskDef,
 ) -> Result<(), ModelFault>
     requires { IsTaskInRange task.now }
     ensures checked { Answers result (body_checks known.now uses.old.written place task.now) tt }

@@ -21,9 +21,9 @@ use std::alloc::Global;
 
 /// What is kept of the tasks so far.
 #[derive(Drop)]
-pub struct TasksSoFar {
+pub struct TasksSoFar<'a> {
     pub shares: SharesByCore,
-    pub uses: LabelUses,
+    pub uses: LabelUses<'a>,
 }
 
 /// A key of task i.
@@ -163,13 +163,13 @@ fn share_for(
 }
 
 /// Checks M29 to M41 for task i.
-fn check_task(
+fn check_task<'a>(
     alloc: Global,
     model: &SystemModel,
     names: &Names,
-    kept: &mut TasksSoFar,
+    kept: &mut TasksSoFar<'a>,
     i: usize,
-    task: &TaskDef,
+    task: &'a TaskDef,
 ) -> Result<(), ModelFault>
     requires in_range { IsInRange model.now }
     requires task { slice_get model.now.tasks i ≡ Some task.now }
@@ -189,22 +189,24 @@ fn check_task(
 }
 
 /// Checks M29 to M41 for each task.
-pub fn kept_tasks(
+pub fn kept_tasks<'a>(
     alloc: Global,
-    model: &SystemModel,
+    model: &'a SystemModel,
     names: &Names,
-) -> Result<TasksSoFar, ModelFault>
+) -> Result<TasksSoFar<'a>, ModelFault>
     requires in_range { IsInRange model.now }
     requires names { names.now ≡ names_of model.now }
     requires apart { AreDistinctNames (core_names model.now) }
     ensures { Answers result (task_checks model.now) (kept_of model.now model.now.tasks) }
 {
+    // each label is written at most once
+    let mut written = NameSet::new(alloc);
+    written.reserve(names.labels.len())?;
+    let each = List::with_room(alloc, names.runnables.len())?;
+    let shares = SharesByCore::new(alloc, model.cores.len())?;
     let mut kept = TasksSoFar {
-        shares: SharesByCore::new(alloc, model.cores.len())?,
-        uses: LabelUses {
-            written: NameSet::new(alloc),
-            each: List::new(alloc),
-        },
+        shares,
+        uses: LabelUses { written, each },
     };
     let tasks = model.tasks.as_slice();
     for (i, task) in tasks.iter().enumerate() {

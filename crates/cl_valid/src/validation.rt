@@ -23,7 +23,7 @@ fn check_links(
     alloc: Global,
     model: &SystemModel,
     names: &Names,
-    kept: &TasksSoFar,
+    kept: &TasksSoFar<'_>,
 ) -> Result<(), ModelFault>
     requires in_range { IsInRange model.now }
     requires passed { task_checks model.now ≡ [] }

@@ -13,7 +13,7 @@ use Rattle.cl_valid.proofs.tasks.kept_tasks.Goals as goal
 pub loop-i-init : goal.loop-i-init
 loop-i-init c = record {
   kept =
-      kept_is c.args.model.now [] _ _ _ (c.in_ok-new.ensures ∙ no_shares c.args.model.now c.len.result (c.len.ensures ∙ sym (length-map c.args.model.now.cores (λ core. core.name)))) c.new-2.ensures c.new-3.ensures;
+      kept_is c.args.model.now [] _ _ _ (c.in_ok-shares.ensures ∙ no_shares c.args.model.now c.len-3.result (c.len-3.ensures ∙ sym (length-map c.args.model.now.cores (λ core. core.name)))) (c.reserve.ensures ∙ c.new-written.ensures) c.in_ok-each.ensures;
   rest = refl;
 }
 
