@@ -15,9 +15,12 @@ pub mod ReorderedModels
 pub mod ReorderedPriorities
 pub mod ReorderedValid
 pub mod ScaledValid
+pub mod ScaledTimes
+pub mod ScaledQuestions
 pub mod ScaledAnswers
 pub mod ScaledBounds
 pub mod KeptBelow
 pub mod KeptFindings
+pub mod KeptTimes
 pub mod OneOrder
 pub mod OneHeadroom

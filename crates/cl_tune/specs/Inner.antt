@@ -1,2 +1,3 @@
 -- What only private clauses cite: a reader of the public contracts needs none of it.
 pub mod Filling
+pub mod Times

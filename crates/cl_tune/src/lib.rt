@@ -4,11 +4,13 @@
 mod answer;
 mod filling;
 mod fitting;
+mod in_time;
 pub mod laws;
 mod ordering;
 mod percent;
 mod room;
 mod scaling;
+mod times;
 
 pub use answer::OrderAnswer;
 pub use ordering::order;

@@ -1,16 +1,19 @@
 //! How far the greatest execution times of a model may be scaled.
 ghost use Rattle.std.specs.Prelude.{◌≡◌, ◌≤◌, ◌↔◌, true, false, IsTrue, IsNone, IfOk, All, MatchBool};
+ghost use Rattle.cl_model.specs.Ranges.{IsInRange};
 ghost use Rattle.cl_model.specs.Validity.{IsValid};
 ghost use Rattle.cl_bound.specs.Answers.{is_late};
 ghost use Rattle.cl_tune.specs.Headroom.{is_met, Keeps, IsHeadroom, SmallerKeep};
+ghost use Rattle.cl_tune.specs.Scaled.{scaled};
 
+use crate::in_time::tasks_in_time;
 use crate::percent::MOST_PERCENT;
 use crate::scaling::scaled;
+use crate::times::{all_times, are_within};
 use cl_analyse::{Findings, Verdict, analyse};
 use cl_bound::TaskAnswer;
 use cl_model::{SystemModel, ValidModel};
 use cl_time::{NoMemory, Steps};
-use cl_valid::in_range;
 use std::alloc::Global;
 use std::sync::ledger::Ledger;
 
@@ -54,9 +57,8 @@ fn adopted(alloc: Global, model: SystemModel) -> Result<ValidModel, NoMemory>
     }
 }
 
-/// Whether a percentage keeps: the model that it scales is in range, none of its tasks is late, and each requirement is
-/// met.
-fn keeps<L: Ledger>(
+/// Whether a percentage keeps, by the findings of the model that it scales, which is in range.
+fn keeps_by_findings<L: Ledger>(
     alloc: Global,
     model: &SystemModel,
     percent: u64,
@@ -64,21 +66,46 @@ fn keeps<L: Ledger>(
 ) -> Result<bool, NoMemory>
     requires valid { IsValid model.now }
     requires percent { percent ≤ MOST_PERCENT }
+    requires in_range { IsInRange (scaled model.now percent) }
     ensures { IfOk result (λ kept. MatchBool kept (Keeps model.now percent) (Keeps model.now percent → ⊥)) }
 {
     let scaled = scaled(alloc, model, percent)?;
-    if !in_range(&scaled) {
-        return Ok(false);
-    }
     let scaled = adopted(alloc, scaled)?;
     let findings = analyse(alloc, &scaled, steps)?;
     Ok(is_kept(&findings))
 }
 
+/// Whether a percentage keeps: the model that it scales is in range, none of its tasks is late, and each requirement is
+/// met. Tasks are asked first and without that model, and chains only where there are requirements.
+fn keeps<L: Ledger>(
+    alloc: Global,
+    model: &ValidModel,
+    percent: u64,
+    steps: &mut Steps<L>,
+) -> Result<bool, NoMemory>
+    requires { percent ≤ MOST_PERCENT }
+    ensures { IfOk result (λ kept. MatchBool kept (Keeps model.now percent) (Keeps model.now percent → ⊥)) }
+{
+    let plain = model.plain();
+    let tasks = plain.tasks.as_slice();
+    if !are_within(tasks, percent) {
+        return Ok(false);
+    }
+    let times = all_times(alloc, tasks, percent)?;
+    let timely = tasks_in_time(alloc, model, times.as_slice(), steps)?;
+    if !timely {
+        return Ok(false);
+    }
+    if plain.requirements.is_empty() {
+        return Ok(true);
+    }
+    keeps_by_findings(alloc, plain, percent, steps)
+}
+
 /// The greatest percentage that keeps, found by halving what is left. There is none exactly where 1 percent doesn't keep.
 fn greatest_kept<L: Ledger>(
     alloc: Global,
-    model: &SystemModel,
+    model: &ValidModel,
     steps: &mut Steps<L>,
 ) -> Result<Option<u64>, NoMemory>
     requires { IsValid model.now }
@@ -106,7 +133,8 @@ fn greatest_kept<L: Ledger>(
 /// each requirement is met. Each smaller percentage keeps that too, and there is no headroom exactly where 1 percent
 /// doesn't.
 ///
-/// The only error is `NoMemory`, where memory ran out; it leaves nothing. It analyses ten copies of the model or so.
+/// The only error is `NoMemory`, where memory ran out; it leaves nothing. It asks the tasks for ten percentages or so,
+/// and where there are requirements it analyses a copy of the model for each of those that leaves no task late.
 pub fn headroom<L: Ledger>(
     alloc: Global,
     model: &ValidModel,
@@ -116,5 +144,6 @@ pub fn headroom<L: Ledger>(
     ensures smaller { IfOk result (SmallerKeep model.now) }
     ensures none { IfOk result (λ percent. IsNone percent ↔ (Keeps model.now 1 → ⊥)) }
 {
-    greatest_kept(alloc, model.plain(), steps)
+    let _valid = model.plain();
+    greatest_kept(alloc, model, steps)
 }

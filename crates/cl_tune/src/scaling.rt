@@ -9,7 +9,7 @@ use cl_time::NoMemory;
 use std::alloc::Global;
 
 /// A greatest time by so many percent, rounded down, but no less than the least time.
-fn scaled_time(percent: u64, least: u64, greatest: u64) -> u64
+pub(crate) fn scaled_time(percent: u64, least: u64, greatest: u64) -> u64
     requires percent { percent ≤ MOST_PERCENT }
     requires greatest { greatest ≤ MOST_TICKS }
     ensures { result ≡ scaled_time percent least greatest }

@@ -1,37 +1,76 @@
-use Rattle.std.proofs.Common.{◌≡◌, ℕ, Bool, true, false, sym, ◌∙◌, subst}
-use Rattle.std.specs.Prelude.{MatchBool}
-use Rattle.std.proofs.lemmas.Bool.{cases_from_iff}
+use Rattle.std.proofs.Common.{sym, ap, ◌∙◌, subst}
+use Rattle.std.specs.Prelude.{IfOk, MatchBool}
+use Rattle.std.proofs.lemmas.Bool.{MatchBool-at_true, MatchBool-at_false}
 use Rattle.cl_model.specs.declared.model.SystemModel.{SystemModel}
 use Rattle.cl_model.specs.Ranges.{IsInRange}
 use Rattle.cl_model.specs.Validity.{IsValid}
-use Rattle.cl_analyse.specs.declared.findings.Findings.{Findings}
-use Rattle.cl_analyse.specs.Findings.{AreFindings}
 use Rattle.cl_tune.specs.Headroom.{Keeps}
+use Rattle.cl_tune.specs.Inner.Times.{AreTimely}
 use Rattle.cl_tune.specs.Scaled.{scaled}
-use Rattle.cl_tune.proofs.KeptFindings.{IsKept, keeping, kept_of}
-use Rattle.cl_tune.proofs.ScaledValid.{scaled_valid}
+use Rattle.cl_tune.proofs.KeptTimes.{tasks_in_range, past_range, in_range, one_a_task, questions_in_range, late_fails, timely_passes}
 use Rattle.cl_tune.proofs.room.keeps.Goals as goal
 
-module _ (model : SystemModel) (percent : ℕ) (in_range : IsInRange (scaled model percent)) (findings : Findings)
-    (found : AreFindings (scaled model percent) findings) where
-  either : (kept : Bool) → MatchBool kept (IsKept findings) (IsKept findings → ⊥) → MatchBool kept (Keeps model percent) (Keeps model percent → ⊥)
-  either true is = keeping model percent findings found in_range is
-  either false is = λ keeps. is (kept_of model percent findings found keeps)
+pub are_within-requires-clause-in_range : goal.are_within-requires-clause-in_range
+are_within-requires-clause-in_range g c =
+    tasks_in_range c.args.model.now c.args.percent c.plain-plain.ensures.valid c.as_slice-tasks.result.now
+    (c.as_slice-tasks.ensures ∙ ap (λ (m : SystemModel). m.tasks) c.plain-plain.ensures.plain)
 
-pub scaled-requires-clause-in_range : goal.scaled-requires-clause-in_range
-scaled-requires-clause-in_range g c = c.requires.valid.in_range
+pub returns-then-not-are_within : goal.returns-then-not-are_within
+returns-then-not-are_within g c =
+    past_range c.args.model.now c.args.percent c.plain-plain.ensures.valid c.as_slice-tasks.result.now
+    (c.as_slice-tasks.ensures ∙ ap (λ (m : SystemModel). m.tasks) c.plain-plain.ensures.plain)
+    (sym c.are_within.ensures ∙ c.if-not-are_within.true)
 
-pub adopted-requires : goal.adopted-requires
-adopted-requires g c =
-    let copy : c.in_ok-scaled.scaled ≡ scaled c.args.model.now c.args.percent = c.in_ok-scaled.ensures in
-    subst (λ (m : SystemModel). IsValid m) (sym copy)
-    (scaled_valid c.args.model.now c.args.percent c.requires.valid
-    (subst (λ (m : SystemModel). IsInRange m) copy (c.in_range.ensures.0 c.if-not-in_range.false)))
+pub all_times-requires-clause-in_range : goal.all_times-requires-clause-in_range
+all_times-requires-clause-in_range g c =
+    tasks_in_range c.args.model.now c.args.percent c.plain-plain.ensures.valid c.as_slice-tasks.result.now
+    (c.as_slice-tasks.ensures ∙ ap (λ (m : SystemModel). m.tasks) c.plain-plain.ensures.plain)
+
+pub all_times-requires-clause-within : goal.all_times-requires-clause-within
+all_times-requires-clause-within g c =
+    sym c.are_within.ensures ∙ c.if-not-are_within.false
+
+pub tasks_in_time-requires-clause-times : goal.tasks_in_time-requires-clause-times
+tasks_in_time-requires-clause-times g c =
+    one_a_task c.args.model.now c.args.percent c.plain-plain.ensures.valid c.as_slice-tasks.result.now
+    (c.as_slice-tasks.ensures ∙ ap (λ (m : SystemModel). m.tasks) c.plain-plain.ensures.plain)
+    (sym c.are_within.ensures ∙ c.if-not-are_within.false) c.as_slice.result.now (c.as_slice.ensures ∙ c.in_ok-times.ensures)
+
+pub tasks_in_time-requires-clause-in_range : goal.tasks_in_time-requires-clause-in_range
+tasks_in_time-requires-clause-in_range g c =
+    questions_in_range c.args.model.now c.args.percent c.plain-plain.ensures.valid c.as_slice-tasks.result.now
+    (c.as_slice-tasks.ensures ∙ ap (λ (m : SystemModel). m.tasks) c.plain-plain.ensures.plain)
+    (sym c.are_within.ensures ∙ c.if-not-are_within.false) c.as_slice.result.now (c.as_slice.ensures ∙ c.in_ok-times.ensures)
+
+pub returns-then-not-timely : goal.returns-then-not-timely
+returns-then-not-timely g c =
+    late_fails c.args.model.now c.args.percent c.plain-plain.ensures.valid c.as_slice-tasks.result.now
+    (c.as_slice-tasks.ensures ∙ ap (λ (m : SystemModel). m.tasks) c.plain-plain.ensures.plain)
+    (sym c.are_within.ensures ∙ c.if-not-are_within.false) c.as_slice.result.now (c.as_slice.ensures ∙ c.in_ok-times.ensures)
+    (MatchBool-at_false (AreTimely c.args.model.now c.as_slice.result.now) (AreTimely c.args.model.now c.as_slice.result.now → ⊥)
+    c.if-not-timely.true c.in_ok-timely.ensures)
+
+pub returns-then-is_empty : goal.returns-then-is_empty
+returns-then-is_empty g c =
+    timely_passes c.args.model.now c.args.percent c.plain-plain.ensures.valid c.as_slice-tasks.result.now
+    (c.as_slice-tasks.ensures ∙ ap (λ (m : SystemModel). m.tasks) c.plain-plain.ensures.plain)
+    (sym c.are_within.ensures ∙ c.if-not-are_within.false) c.as_slice.result.now (c.as_slice.ensures ∙ c.in_ok-times.ensures)
+    (ap (λ (m : SystemModel). m.requirements) (sym c.plain-plain.ensures.plain) ∙ c.is_empty.ensures.0 c.if-is_empty.true)
+    (MatchBool-at_true (AreTimely c.args.model.now c.as_slice.result.now) (AreTimely c.args.model.now c.as_slice.result.now → ⊥)
+    c.if-not-timely.false c.in_ok-timely.ensures)
+
+pub keeps_by_findings-requires-clause-valid : goal.keeps_by_findings-requires-clause-valid
+keeps_by_findings-requires-clause-valid g c =
+    subst (λ (m : SystemModel). IsValid m) (sym c.plain-plain.ensures.plain) c.plain-plain.ensures.valid
+
+pub keeps_by_findings-requires-clause-in_range : goal.keeps_by_findings-requires-clause-in_range
+keeps_by_findings-requires-clause-in_range g c =
+    subst (λ (m : SystemModel). IsInRange (scaled m c.args.percent)) (sym c.plain-plain.ensures.plain)
+    (in_range c.args.model.now c.args.percent c.plain-plain.ensures.valid c.as_slice-tasks.result.now
+    (c.as_slice-tasks.ensures ∙ ap (λ (m : SystemModel). m.tasks) c.plain-plain.ensures.plain)
+    (sym c.are_within.ensures ∙ c.if-not-are_within.false))
 
 pub returns : goal.returns
 returns g c =
-    let copy : c.in_ok-scaled.scaled ≡ scaled c.args.model.now c.args.percent = c.in_ok-scaled.ensures in
-    let in_range = subst (λ (m : SystemModel). IsInRange m) copy (c.in_range.ensures.0 c.if-not-in_range.false) in
-    either c.args.model.now c.args.percent in_range c.in_ok-findings.findings
-    (subst (λ (m : SystemModel). AreFindings m c.in_ok-findings.findings) (c.in_ok-scaled-2.ensures ∙ copy) c.in_ok-findings.ensures.findings)
-    c.is_kept.result (cases_from_iff c.is_kept.ensures)
+    subst (λ (m : SystemModel). IfOk c.keeps_by_findings.result (λ kept. MatchBool kept (Keeps m c.args.percent) (Keeps m c.args.percent → ⊥)))
+    c.plain-plain.ensures.plain c.keeps_by_findings.ensures
