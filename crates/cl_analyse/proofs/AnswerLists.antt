@@ -12,6 +12,7 @@ use Rattle.cl_model.specs.ByNumber.{no_chain}
 use Rattle.cl_runs.specs.TaskTiming.{no_timing, timing_at}
 use Rattle.cl_runs.specs.SystemOf.{system_of}
 use Rattle.cl_runs.proofs.ModelSystem.{count_is}
+use Rattle.cl_runs.specs.Requirements.{no_requirement}
 use Rattle.cl_bound.specs.declared.answer.TaskAnswer.{TaskAnswer}
 use Rattle.cl_bound.specs.Answers.{answer_to, answers_of}
 use Rattle.cl_bound.specs.Bounds.{Lengths, bounds_of}
@@ -21,7 +22,7 @@ use Rattle.cl_analyse.specs.declared.findings.ExactAnswer.{ExactAnswer}
 use Rattle.cl_analyse.specs.declared.findings.ExactAnswer.TheVariants.{ChainLate}
 use Rattle.cl_analyse.specs.declared.findings.Verdict.{Verdict}
 use Rattle.cl_analyse.specs.ChainAnswers.{first_late, chain_answer, chain_answer_of, chain_answers_of, exact_answer_at, IsExactAnswer, AreExactAnswers}
-use Rattle.cl_analyse.specs.Verdicts.{verdict_of, verdicts_of, no_requirement}
+use Rattle.cl_analyse.specs.Verdicts.{verdict_of, verdicts_of}
 
 -- one more of a mapped list
 more_mapped : {X Y : Type 0} (f : X → Y) (xs : List X) (n : ℕ) (d : X) (old new : List Y) (next : Y) → n < length xs → old ≡ take n (map f xs)

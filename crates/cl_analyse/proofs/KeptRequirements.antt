@@ -10,6 +10,7 @@ use Rattle.cl_runs.specs.TaskTiming.{System}
 use Rattle.cl_runs.specs.Run.{Run}
 use Rattle.cl_runs.specs.Chains.{JobChain, chain_length, last_group}
 use Rattle.cl_runs.specs.RunChains.{run_moments}
+use Rattle.cl_runs.specs.Requirements.{IsChainOfKind}
 use Rattle.cl_bound.specs.Bounds.{Lengths}
 use Rattle.cl_bound.specs.Promises.{AreAtLeast}
 use Rattle.cl_exact.specs.Hyperperiod.{period_of}
@@ -21,7 +22,6 @@ use Rattle.cl_analyse.specs.declared.findings.ExactAnswer.{ExactAnswer}
 use Rattle.cl_analyse.specs.declared.findings.ExactAnswer.TheVariants.{Exact, Past, NotTimed, ChainLate}
 use Rattle.cl_analyse.specs.declared.findings.Verdict.TheVariants.{Met, Broken, Unshown}
 use Rattle.cl_analyse.specs.Verdicts.{bound_of_kind, witness_of_kind, bound_value, exact_value, verdict_on}
-use Rattle.cl_analyse.specs.Headline.{IsChainOfKind}
 
 -- ---- the value of what is met
 

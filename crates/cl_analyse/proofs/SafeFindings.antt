@@ -19,8 +19,9 @@ use Rattle.cl_runs.specs.SystemOf.{system_of}
 use Rattle.cl_runs.specs.Chains.{last_group}
 use Rattle.cl_runs.proofs.ModelSystem.{count_is, system_sound}
 use Rattle.cl_runs.proofs.Extension.{some_legal}
+use Rattle.cl_runs.specs.Requirements.{required_chain, no_requirement, requirement_at, IsKept, IsBroken}
+use Rattle.cl_runs.specs.Responses.{AlwaysFinishesWithin}
 use Rattle.cl_resp.specs.Response.{Response, IsSettled}
-use Rattle.cl_resp.specs.Promises.{AlwaysFinishesWithin}
 use Rattle.cl_resp.proofs.BusyWindowTask.{settled_finish}
 use Rattle.cl_resp.proofs.FirstFound.{first_found}
 use Rattle.cl_bound.specs.declared.answer.TaskAnswer.{TaskAnswer}
@@ -45,9 +46,9 @@ use Rattle.cl_analyse.specs.declared.findings.Verdict.{Verdict}
 use Rattle.cl_analyse.specs.declared.findings.Verdict.TheVariants.{Met, Broken, Unshown}
 use Rattle.cl_analyse.specs.declared.findings.Findings.{Findings}
 use Rattle.cl_analyse.specs.ChainAnswers.{first_late, chain_answer, chain_answer_of, chain_answers_of, chain_answer_at, exact_answer_at, IsTimelyAnswer, IsExactAnswer, AreExactAnswers}
-use Rattle.cl_analyse.specs.Verdicts.{bound_value, exact_value, required_chain, verdict_of, verdicts_of, no_requirement, requirement_at, verdict_at}
+use Rattle.cl_analyse.specs.Verdicts.{bound_value, exact_value, verdict_of, verdicts_of, verdict_at}
 use Rattle.cl_analyse.specs.Findings.{AreFindings}
-use Rattle.cl_analyse.specs.Headline.{task_of_step, IsFirstWithoutFixpoint, IsExactBecause, AreWithinBounds, IsKept, IsBroken, AreSafeFindings}
+use Rattle.cl_analyse.specs.Headline.{task_of_step, IsFirstWithoutFixpoint, IsExactBecause, AreWithinBounds, AreSafeFindings}
 use Rattle.cl_analyse.proofs.FirstLate.{settled_groups}
 use Rattle.cl_analyse.proofs.LateTasks.{late_without, timely_with}
 use Rattle.cl_analyse.proofs.ExactAnswers.{one_exacts, settled_have_responses}

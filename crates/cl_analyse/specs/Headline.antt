@@ -1,22 +1,15 @@
 -- What the findings of a model promise: the headline.
 use Rattle.std.specs.Prelude.{◌≡◌, ℕ, ◌<◌, ◌≤◌, false, List, length}
 use Rattle.cl_model.specs.declared.model.SystemModel.{SystemModel}
-use Rattle.cl_model.specs.declared.chain.LengthKind.{LengthKind}
-use Rattle.cl_model.specs.declared.chain.LengthKind.TheVariants.{Reaction, Age, Reduced}
-use Rattle.cl_model.specs.declared.chain.RequirementDef.{RequirementDef}
-use Rattle.cl_model.specs.declared.group.Group.{Group}
 use Rattle.cl_model.specs.ByNumber.{chain_at}
 use Rattle.cl_model.specs.Groups.{steps_of, step_at, groups_at}
 use Rattle.cl_runs.specs.TaskTiming.{timing_at}
 use Rattle.cl_runs.specs.SystemOf.{system_of}
-use Rattle.cl_runs.specs.Run.{Run}
-use Rattle.cl_runs.specs.Legal.{IsLegal}
-use Rattle.cl_runs.specs.Chains.{Moments, JobChain, chain_length, IsForwardChain, IsAgeChain, IsReducedChain}
-use Rattle.cl_runs.specs.RunChains.{run_moments}
+use Rattle.cl_runs.specs.Requirements.{requirement_at, IsKept}
+use Rattle.cl_runs.specs.Responses.{AlwaysFinishesWithin}
 use Rattle.cl_resp.specs.declared.question.Question.{Question}
 use Rattle.cl_resp.specs.Question.{question_of}
 use Rattle.cl_resp.specs.Response.{Response, HasNoFixpoint}
-use Rattle.cl_resp.specs.Promises.{AlwaysFinishesWithin}
 use Rattle.cl_bound.specs.declared.answer.TaskAnswer.TheVariants.{Settled}
 use Rattle.cl_bound.specs.Answers.{answer_at}
 use Rattle.cl_bound.specs.Bounds.{Lengths}
@@ -31,7 +24,7 @@ use Rattle.cl_analyse.specs.declared.findings.ExactAnswer.TheVariants.{Exact, Pa
 use Rattle.cl_analyse.specs.declared.findings.Verdict.TheVariants.{Met}
 use Rattle.cl_analyse.specs.declared.findings.Findings.{Findings}
 use Rattle.cl_analyse.specs.ChainAnswers.{chain_answer_at, exact_answer_at}
-use Rattle.cl_analyse.specs.Verdicts.{required_chain, requirement_at, verdict_at}
+use Rattle.cl_analyse.specs.Verdicts.{verdict_at}
 
 -- the question of a task of a model
 abbrev pub question_at : SystemModel → (task : ℕ) → Question
@@ -66,33 +59,6 @@ pub record AreWithinBounds (lengths : Witnesses) (bounds : Lengths) : Type 0 whe
   pub reaction : lengths.reaction.length ≤ bounds.reaction
   pub age : lengths.age.length ≤ bounds.age
   pub reduced : lengths.reduced.length ≤ bounds.reduced
-
--- ---- requirements
-
--- a complete chain of a kind
-abbrev pub IsChainOfKind : LengthKind → Moments → List Group → JobChain → Type 0
-IsChainOfKind Reaction = IsForwardChain
-IsChainOfKind Age = IsAgeChain
-IsChainOfKind Reduced = IsReducedChain
-
--- a complete chain of a run, of the chain and the kind that a requirement names
-abbrev pub IsRequiredChain : SystemModel → RequirementDef → Run → JobChain → Type 0
-IsRequiredChain model requirement run chain =
-    let groups = groups_at model (required_chain model requirement) in
-    IsChainOfKind requirement.kind (run_moments (system_of model) run) groups chain
-
--- a requirement is kept: in every legal run no complete chain of its chain and kind is longer than it says
-abbrev pub IsKept : SystemModel → RequirementDef → Type 0
-IsKept model requirement = (run : Run) → IsLegal (system_of model) run
-    → (chain : JobChain) → IsRequiredChain model requirement run chain → chain_length chain ≤ requirement.most
-
--- a requirement is broken: in some legal run a complete chain of its chain and kind is longer than it says
-pub record IsBroken (model : SystemModel) (requirement : RequirementDef) : Type 0 where
-  pub run : Run
-  pub legal : IsLegal (system_of model) run
-  pub chain : JobChain
-  pub complete : IsRequiredChain model requirement run chain
-  pub longer : requirement.most < chain_length chain
 
 -- ---- the findings
 

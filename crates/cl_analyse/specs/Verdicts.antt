@@ -1,10 +1,10 @@
 -- Requirements: the values that are found for them, and the verdicts.
-use Rattle.std.specs.Prelude.{ℕ, List, [], map, slice_index_or, Option, Some, None, unwrap_or, nat_le, if◌then◌else◌}
+use Rattle.std.specs.Prelude.{ℕ, List, map, slice_index_or, Option, Some, None, nat_le, if◌then◌else◌}
 use Rattle.cl_model.specs.declared.model.SystemModel.{SystemModel}
 use Rattle.cl_model.specs.declared.chain.LengthKind.{LengthKind}
 use Rattle.cl_model.specs.declared.chain.LengthKind.TheVariants.{Reaction, Age, Reduced}
 use Rattle.cl_model.specs.declared.chain.RequirementDef.{RequirementDef}
-use Rattle.cl_model.specs.ByNumber.{chain_named}
+use Rattle.cl_runs.specs.Requirements.{required_chain}
 use Rattle.cl_bound.specs.Bounds.{Lengths}
 use Rattle.cl_exact.specs.declared.witness.Witness.{Witness}
 use Rattle.cl_exact.specs.ExactLengths.{Witnesses}
@@ -53,10 +53,6 @@ verdict_on most (Some value) bound = if nat_le value most then Met value else Br
 verdict_on most None (Some value) = if nat_le value most then Met value else Unshown (Some value)
 verdict_on most None None = Unshown None
 
--- the number of the chain that a requirement names
-abbrev pub required_chain : SystemModel → RequirementDef → ℕ
-required_chain model requirement = unwrap_or (chain_named model requirement.chain) 0
-
 -- the verdict on a requirement, by what was found of the chains
 unfoldable pub verdict_of :
     SystemModel → (chains : List ChainAnswer) → (exacts : List ExactAnswer) → RequirementDef → Verdict
@@ -70,14 +66,6 @@ abbrev pub verdicts_of : SystemModel → (chains : List ChainAnswer) → (exacts
 verdicts_of model chains exacts = map (verdict_of model chains exacts) model.requirements
 
 -- ---- by number
-
--- stands for a requirement past the last one
-unfoldable pub no_requirement : RequirementDef
-no_requirement = record { name = []; chain = []; kind = Reaction; most = 0 }
-
--- the requirement of a number
-abbrev pub requirement_at : SystemModel → ℕ → RequirementDef
-requirement_at model i = slice_index_or model.requirements i no_requirement
 
 -- the verdict on the requirement of a number
 abbrev pub verdict_at : List Verdict → ℕ → Verdict

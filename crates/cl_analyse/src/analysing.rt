@@ -15,6 +15,7 @@ use crate::judging::judge_all;
 use crate::task_answers::answer_tasks;
 use cl_bound::{TaskAnswer, bound};
 use cl_model::{List, ValidModel};
+use cl_resp::Block;
 use cl_time::{NoMemory, Steps};
 use std::alloc::Global;
 use std::sync::ledger::Ledger;
@@ -60,8 +61,7 @@ fn answer_plainly<L: Ledger>(
     ensures steps { steps.new ≤ steps.old + length model.now.tasks }
     ensures valid { IsValid model.now }
 {
-    let with_own = true;
-    answer_tasks(alloc, model, with_own, steps)
+    answer_tasks(alloc, model, Block::WithOwn, steps)
 }
 
 /// The answers for all chains, from those for all tasks.

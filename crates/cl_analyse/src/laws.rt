@@ -4,6 +4,7 @@ ghost use Rattle.cl_model.specs.declared.model.SystemModel.{SystemModel};
 ghost use Rattle.cl_model.specs.Groups.{groups_at};
 ghost use Rattle.cl_model.specs.Validity.{IsValid};
 ghost use Rattle.cl_runs.specs.SystemOf.{system_of};
+ghost use Rattle.cl_runs.specs.Requirements.{requirement_at, IsKept, IsBroken};
 ghost use Rattle.cl_bound.specs.Bounds.{Lengths, AreBoundsOf, settled_timings};
 ghost use Rattle.cl_exact.specs.ExactLengths.{Witnesses};
 ghost use Rattle.cl_analyse.specs.declared.findings.ChainAnswer.TheVariants.{Bounds};
@@ -12,8 +13,8 @@ ghost use Rattle.cl_analyse.specs.declared.findings.Findings.{Findings};
 ghost use Rattle.cl_analyse.specs.declared.findings.Verdict.TheVariants.{Met, Broken};
 ghost use Rattle.cl_analyse.specs.ChainAnswers.{chain_answers_of, chain_answer_at, exact_answer_at};
 ghost use Rattle.cl_analyse.specs.Findings.{AreFindings};
-ghost use Rattle.cl_analyse.specs.Headline.{AreWithinBounds, IsKept, IsBroken, AreSafeFindings};
-ghost use Rattle.cl_analyse.specs.Verdicts.{requirement_at, verdict_at};
+ghost use Rattle.cl_analyse.specs.Headline.{AreWithinBounds, AreSafeFindings};
+ghost use Rattle.cl_analyse.specs.Verdicts.{verdict_at};
 
 /// In every legal run of a valid model, of any length, each job of a settled task finishes within its response, and no
 /// complete chain is longer than its bound or its exact length, which some chain of each run that is long enough

@@ -11,7 +11,7 @@ ghost use Rattle.cl_bound.specs.Answers.{answer_with};
 
 use cl_bound::TaskAnswer;
 use cl_model::{List, ValidModel};
-use cl_resp::{Late, Question, Reached, ask_either, from_the_top, respond, respond_below};
+use cl_resp::{Block, Late, Question, Reached, ask_either, from_the_top, respond, respond_below};
 use cl_time::{NoMemory, Steps};
 use std::alloc::Global;
 use std::sync::ledger::Ledger;
@@ -34,20 +34,20 @@ pub fn answer_question<L: Ledger>(question: &Question, steps: &mut Steps<L>) -> 
 pub fn answer_below<L: Ledger>(
     model: &ValidModel,
     task: u32,
-    own: bool,
+    blocking: Block,
     question: &Question,
     last: &mut Option<Reached>,
     steps: &mut Steps<L>,
 ) -> TaskAnswer
     requires task { task < length model.now.tasks }
-    requires question { question.now ≡ either_question own (system_of model.now) (timing_at (system_of model.now) task) }
+    requires question { question.now ≡ either_question blocking (system_of model.now) (timing_at (system_of model.now) task) }
     requires in_range { IsQuestionInRange question.now }
-    requires last { IfSome last.old (HasReached own (system_of model.now)) }
+    requires last { IfSome last.old (HasReached blocking (system_of model.now)) }
     ensures answer { result ≡ answer_with (response_to question.now) }
-    ensures last { IfSome last.new (HasReached own (system_of model.now)) }
+    ensures last { IfSome last.new (HasReached blocking (system_of model.now)) }
     ensures steps { steps.new ≡ steps.old + 1 }
 {
-    match respond_below(model, task, own, question, last, steps) {
+    match respond_below(model, task, blocking, question, last, steps) {
         Ok(settled) => TaskAnswer::Settled(settled),
         Err(Late) => TaskAnswer::Late,
     }
@@ -60,11 +60,11 @@ pub fn answer_below<L: Ledger>(
 pub fn answer_tasks<L: Ledger>(
     alloc: Global,
     model: &ValidModel,
-    own: bool,
+    blocking: Block,
     steps: &mut Steps<L>,
 ) -> Result<List<TaskAnswer>, NoMemory>
     ensures answers { IfOk result (λ answers. answers
-        ≡ map (λ timing. answer_with (response_to (either_question own (system_of model.now) timing))) (system_of model.now).tasks) }
+        ≡ map (λ timing. answer_with (response_to (either_question blocking (system_of model.now) timing))) (system_of model.now).tasks) }
     ensures steps { steps.new ≤ steps.old + length model.now.tasks }
     ensures valid { IsValid model.now }
 {
@@ -72,8 +72,8 @@ pub fn answer_tasks<L: Ledger>(
     let mut last = None;
     let order = from_the_top(alloc, model)?;
     for task in &order {
-        let question = ask_either(alloc, model, *task, own)?;
-        let answer = answer_below(model, *task, own, &question, &mut last, steps);
+        let question = ask_either(alloc, model, *task, blocking)?;
+        let answer = answer_below(model, *task, blocking, &question, &mut last, steps);
         *answers.item_mut(*task as usize) = answer;
     }
     Ok(answers)

@@ -12,12 +12,12 @@ use Rattle.cl_model.specs.Groups.{group_at}
 use Rattle.cl_runs.specs.Chains.{JobChain, chain_length, first_job, IsForwardChain, AreBackwardLinks, IsAgeChain, IsReducedChain}
 use Rattle.cl_runs.specs.RunChains.{run_moments}
 use Rattle.cl_runs.proofs.RunArrivals.{next_within}
+use Rattle.cl_runs.specs.Responses.{IsTimely}
 use Rattle.cl_comm.proofs.AccessTimes.{reads_come_late}
 use Rattle.cl_bound.specs.Hops.{group_timing, forward_hop, backward_hop, hops}
 use Rattle.cl_bound.specs.declared.group_timing.GroupTiming.{GroupTiming}
 use Rattle.cl_bound.specs.Bounds.{last_of, Lengths, AreBoundsOf}
 use Rattle.cl_bound.specs.Promises.{AreAtLeast}
-use Rattle.cl_resp.specs.Promises.{IsTimely}
 use Rattle.cl_bound.proofs.LaterRuns.{writes_in_time}
 use Rattle.cl_bound.proofs.HopBounds.{forward_arrival, backward_arrival}
 use Rattle.cl_bound.proofs.AlongChains.{telescope, last_timing, at_last, length_within, from_first, from_before, to_next}

@@ -13,7 +13,7 @@ use Rattle.cl_runs.specs.Chains.{HasWritten, IsEarliestReader, IsLatestWriter}
 use Rattle.cl_runs.specs.RunChains.{run_moments}
 use Rattle.cl_runs.proofs.RunArrivals.{arrivals_rise}
 use Rattle.cl_runs.proofs.MomentFacts.{earlier_read}
-use Rattle.cl_resp.specs.Promises.{IsTimely}
+use Rattle.cl_runs.specs.Responses.{IsTimely}
 use Rattle.cl_bound.specs.Hops.{group_timing, saves, delay}
 use Rattle.cl_bound.specs.declared.group_timing.GroupTiming.{GroupTiming}
 use Rattle.cl_bound.proofs.DelayTable.{delay_lines}

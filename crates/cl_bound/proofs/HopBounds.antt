@@ -13,7 +13,7 @@ use Rattle.cl_runs.specs.RunChains.{run_moments}
 use Rattle.cl_runs.proofs.RunArrivals.{next_within}
 use Rattle.cl_runs.proofs.MomentFacts.{reads_below}
 use Rattle.cl_runs.proofs.Agreement.{arrival_kept, reads_kept, write_returns}
-use Rattle.cl_resp.specs.Promises.{IsTimely}
+use Rattle.cl_runs.specs.Responses.{IsTimely}
 use Rattle.cl_bound.specs.Hops.{group_timing, delay, forward_hop, backward_hop}
 use Rattle.cl_bound.proofs.LaterRuns.{NextWrite, next_write}
 use Rattle.cl_bound.proofs.DelayBounds.{arrival_within_delay, forward_delay}

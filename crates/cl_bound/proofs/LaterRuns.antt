@@ -10,9 +10,9 @@ use Rattle.cl_runs.specs.GoesOn.{GoesOn}
 use Rattle.cl_runs.proofs.RunArrivals.{arrives_below, next_within, next_due}
 use Rattle.cl_runs.proofs.Extension.{extension}
 use Rattle.cl_runs.proofs.Agreement.{job_kept, arrival_kept, writes_kept}
+use Rattle.cl_runs.specs.Responses.{IsTimely}
 use Rattle.cl_comm.specs.Windows.{window_at}
 use Rattle.cl_comm.proofs.AccessTimes.{writes_come_in_time, finished_jobs_write}
-use Rattle.cl_resp.specs.Promises.{IsTimely}
 
 -- a legal run that goes on from a run, in which the job after job k has written
 pub record NextWrite (system : System) (run : Run) (i k p : ℕ) : Type 0 where

@@ -14,10 +14,10 @@ use Rattle.cl_runs.specs.Legal.{IsLegal}
 use Rattle.cl_runs.specs.Moments.{Reads, Writes}
 use Rattle.cl_runs.proofs.MomentFacts.{writes_once}
 use Rattle.cl_runs.proofs.RunArrivals.{released_within}
+use Rattle.cl_runs.specs.Responses.{IsTimely}
 use Rattle.cl_comm.proofs.AccessTimes.{reads_come_late, readers_run, readers_write_by_their_finish, writes_come_before_the_next_read}
 use Rattle.cl_bound.specs.Hops.{group_timing, saves}
 use Rattle.cl_bound.proofs.HigherFinished.{finished_before}
-use Rattle.cl_resp.specs.Promises.{IsTimely}
 use Rattle.cl_bound.proofs.LaterRuns.{writes_in_time}
 
 not_timed : (access : AccessKind) → not (is_timed access) ≡ true → access ≢ Timed

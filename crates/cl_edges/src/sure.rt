@@ -1,6 +1,6 @@
 //! Commands over a shelf and a sink of which no call fails.
 ghost use Rattle.std.specs.Prelude.{◌≢◌};
-ghost use Rattle.cl_top.specs.declared.status.TheConstants.{READ_FAULT, WRITE_FAULT};
+ghost use Rattle.cl_engine.specs.declared.status.TheConstants.{READ_FAULT, WRITE_FAULT};
 
 use cl_io::{SureShelf, SureSink, Words};
 use cl_time::Steps;

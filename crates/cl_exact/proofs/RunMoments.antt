@@ -20,7 +20,7 @@ use Rattle.cl_runs.specs.RunChains.{ArrivesAt, run_moments, ideal_moments}
 use Rattle.cl_runs.proofs.RunArrivals.{follow_pattern}
 use Rattle.cl_runs.proofs.PatternLaws.{pattern_period}
 use Rattle.cl_runs.proofs.MomentFacts.{reads_below, writes_within}
-use Rattle.cl_resp.specs.Promises.{IsTimely}
+use Rattle.cl_runs.specs.Responses.{IsTimely}
 use Rattle.cl_exact.specs.RunPromises.{IsIdealUntilTheEnd}
 
 -- ---- the numbers of a periodic task

@@ -14,7 +14,7 @@ use Rattle.cl_runs.specs.TaskTiming.{System, timing_at}
 use Rattle.cl_runs.specs.SystemOf.{system_of}
 use Rattle.cl_runs.specs.Chains.{JobChain, last_group, first_job, last_job, IsForwardChain, IsAgeChain, IsReducedChain}
 use Rattle.cl_runs.specs.RunChains.{ideal_moments}
-use Rattle.cl_resp.proofs.Greatest.{greatest_least, greatest_within}
+use Rattle.cl_model.proofs.Greatest.{greatest_least, greatest_within}
 use Rattle.cl_exact.specs.declared.beat.Beat.{Beat}
 use Rattle.cl_exact.specs.TimedPeriodic.{is_timed_periodic_chain}
 use Rattle.cl_exact.specs.Hyperperiod.{period_of}

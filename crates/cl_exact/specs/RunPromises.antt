@@ -6,7 +6,7 @@ use Rattle.cl_runs.specs.Run.{Run, jobs_of}
 use Rattle.cl_runs.specs.Legal.{IsLegal}
 use Rattle.cl_runs.specs.Chains.{Moments, JobChain, chain_length, last_group, IsForwardChain, IsAgeChain, IsReducedChain}
 use Rattle.cl_runs.specs.RunChains.{run_moments, ideal_moments}
-use Rattle.cl_resp.specs.Promises.{IsTimely}
+use Rattle.cl_runs.specs.Responses.{IsTimely}
 use Rattle.cl_exact.specs.TimedPeriodic.{are_timed_periodic}
 use Rattle.cl_exact.specs.Hyperperiod.{period_of}
 use Rattle.cl_exact.specs.ExactLengths.{chain_of, Witnesses}

@@ -15,8 +15,9 @@ use Rattle.cl_analyse.specs.declared.findings.Findings.{Findings}
 use Rattle.cl_analyse.specs.declared.findings.Verdict.{Verdict}
 use Rattle.cl_analyse.specs.declared.findings.Verdict.TheVariants.{Unshown}
 use Rattle.std.specs.Prelude.{None}
+use Rattle.cl_runs.specs.Requirements.{no_requirement, requirement_at, required_chain}
 use Rattle.cl_analyse.specs.ChainAnswers.{chain_answer_of, chain_answers_of, AreExactAnswers}
-use Rattle.cl_analyse.specs.Verdicts.{bound_value, exact_value, verdict_on, verdict_of, verdicts_of, verdict_at, no_requirement, requirement_at, required_chain}
+use Rattle.cl_analyse.specs.Verdicts.{bound_value, exact_value, verdict_on, verdict_of, verdicts_of, verdict_at}
 use Rattle.cl_analyse.specs.Findings.{AreFindings}
 use Rattle.cl_incr.specs.declared.chains.ChainFindings.{ChainFindings}
 use Rattle.cl_incr.specs.declared.news.FoundChain.{FoundChain}

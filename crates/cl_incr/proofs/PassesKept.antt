@@ -6,7 +6,7 @@ use Rattle.cl_model.specs.declared.chain.ChainDef.{ChainDef}
 use Rattle.cl_model.specs.declared.chain.RequirementDef.{RequirementDef}
 use Rattle.cl_model.specs.declared.group.Group.{Group}
 use Rattle.cl_model.specs.Named.{index_of}
-use Rattle.cl_analyse.specs.Verdicts.{no_requirement, requirement_at, required_chain}
+use Rattle.cl_runs.specs.Requirements.{no_requirement, requirement_at, required_chain}
 use Rattle.cl_incr.specs.declared.passing.Passing.{Passing}
 use Rattle.cl_incr.specs.Touched.{KeepsNumbers, KeepsChains}
 use Rattle.cl_incr.specs.Inner.Listed.{listed, AreListedBelow}

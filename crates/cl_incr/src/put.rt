@@ -1,7 +1,8 @@
 //! What is found anew is put in the place of what was found before. No call takes memory. Times are in ticks.
 ghost use Rattle.std.specs.Prelude.{◌≡◌, ℕ, ◌<◌, ◌⊎◌, length, All, Contains};
 ghost use Rattle.cl_model.specs.declared.model.SystemModel.{SystemModel};
-ghost use Rattle.cl_analyse.specs.Verdicts.{verdict_of, verdicts_of, verdict_at, requirement_at};
+ghost use Rattle.cl_runs.specs.Requirements.{requirement_at};
+ghost use Rattle.cl_analyse.specs.Verdicts.{verdict_of, verdicts_of, verdict_at};
 ghost use Rattle.cl_analyse.specs.Findings.{AreFindings};
 ghost use Rattle.cl_incr.specs.Touched.{KeepsChains};
 ghost use Rattle.cl_incr.specs.Inner.News.{chains_found, AreNewsOf};

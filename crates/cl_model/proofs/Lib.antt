@@ -1,5 +1,6 @@
 pub mod Names
 pub mod ListFacts
+pub mod Greatest
 pub mod Refused
 pub mod FirstRefusals
 pub mod NoRefusals

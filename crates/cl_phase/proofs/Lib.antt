@@ -19,13 +19,8 @@ pub mod CourseFacts
 pub mod BoundsByWalks
 pub mod ArrivalsMove
 pub mod EachPhase
-pub mod IdealChains
-pub mod IdealSteps
-pub mod IdealStops
-pub mod IdealWalks
 pub mod KeptFacts
 pub mod KeptWalks
-pub mod ModelTight
 pub mod NextJobs
 pub mod NoGreaterSums
 pub mod PhaseAnswers
@@ -35,7 +30,6 @@ pub mod SlowestFacts
 pub mod StartFacts
 pub mod StopFacts
 pub mod StopsOfGroups
-pub mod TightExact
 pub mod TightSafety
 pub mod TightTasks
 pub mod WalkStarts

@@ -15,9 +15,9 @@ use Rattle.cl_runs.specs.RunChains.{run_moments}
 use Rattle.cl_runs.proofs.RunArrivals.{arrives_below, next_within, next_due}
 use Rattle.cl_runs.proofs.Extension.{extension}
 use Rattle.cl_runs.proofs.Agreement.{job_kept, arrival_kept}
+use Rattle.cl_runs.specs.Responses.{IsTimely}
 use Rattle.cl_comm.specs.Windows.{window_at}
 use Rattle.cl_comm.proofs.AccessTimes.{finished_jobs_write}
-use Rattle.cl_resp.specs.Promises.{IsTimely}
 use Rattle.cl_bound.proofs.ChainBounds.{AreTimely}
 
 -- how long after a job has arrived the next one of its group has written

@@ -6,7 +6,7 @@ use Rattle.cl_model.specs.declared.group.Group.{Group}
 use Rattle.cl_model.specs.Groups.{group_at}
 use Rattle.cl_model.specs.Holds.{greatest_by}
 use Rattle.cl_runs.specs.TaskTiming.{System}
-use Rattle.cl_resp.proofs.Greatest.{greatest_within}
+use Rattle.cl_model.proofs.Greatest.{greatest_within}
 use Rattle.cl_bound.specs.declared.group_timing.GroupTiming.{GroupTiming}
 use Rattle.cl_bound.specs.Hops.{group_timing, forward_hop, backward_hop, hops}
 use Rattle.cl_bound.specs.Bounds.{Lengths, AreBoundsOf, greatest_reaction, greatest_reduced}

@@ -7,7 +7,7 @@ use Rattle.std.proofs.lemmas.Bool.{cases_lt, eqb-true, eq-eqb}
 use Rattle.std.proofs.lemmas.List.FromFn.{length-range_with_len, get_or-range_with_len}
 use Rattle.std.proofs.lemmas.List.Elements.{All-head, All-tail, All-cons, All-nil, All-from_get_or, All-weaker}
 use Rattle.cl_model.specs.Holds.{greatest_by}
-use Rattle.cl_resp.proofs.Greatest.{greatest_filtered, greatest_within}
+use Rattle.cl_model.proofs.Greatest.{greatest_filtered, greatest_within}
 use Rattle.cl_phase.specs.declared.pace.Phase.{Phase}
 use Rattle.cl_phase.specs.declared.pace.Pace.TheVariants.{Kept, Free}
 use Rattle.cl_phase.specs.Phase.{IsPhase, IsArrivalOf, since_turn, last_in_turn}

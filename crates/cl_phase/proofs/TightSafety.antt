@@ -4,8 +4,8 @@ use Rattle.std.specs.Prelude.{nat_abs, All}
 use Rattle.std.proofs.lemmas.List.Elements.{All-map}
 use Rattle.cl_model.specs.declared.group.Group.{Group}
 use Rattle.cl_runs.specs.TaskTiming.{System, IsSound}
+use Rattle.cl_runs.specs.Responses.{IsTimely}
 use Rattle.cl_model.specs.Groups.{no_group}
-use Rattle.cl_resp.specs.Promises.{IsTimely}
 use Rattle.cl_resp.proofs.SettledTasks.{execution_in_tight, tight_in_deadline}
 use Rattle.cl_bound.specs.Answers.{answers_of, answer_at, response_in, NoneIsLate}
 use Rattle.cl_bound.specs.Bounds.{Lengths, AreBoundsOf, greatest_reaction, greatest_age, greatest_reduced, settled_timing, bounds_of}

@@ -6,4 +6,3 @@ pub mod TightBounds
 pub mod Walked
 pub mod TightAnswers
 pub mod Inner
-pub mod ExactBounds

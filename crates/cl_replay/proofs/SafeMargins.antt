@@ -14,6 +14,7 @@ use Rattle.cl_runs.specs.RunChains.{run_moments}
 use Rattle.cl_runs.specs.Measured.{Measured, IsMeasuredBy, IsMeasured}
 use Rattle.cl_runs.proofs.ChainsOfRuns.{run_forward_ordered, run_age_ordered, run_reduced_ordered}
 use Rattle.cl_runs.proofs.ModelSystem.{system_sound}
+use Rattle.cl_runs.specs.Requirements.{IsChainOfKind}
 use Rattle.cl_bound.specs.Bounds.{Lengths}
 use Rattle.cl_bound.specs.Promises.{AreAtLeast}
 use Rattle.cl_analyse.specs.declared.findings.ChainAnswer.{ChainAnswer}
@@ -21,7 +22,6 @@ use Rattle.cl_analyse.specs.declared.findings.ChainAnswer.TheVariants.{Bounds, L
 use Rattle.cl_analyse.specs.declared.findings.Findings.{Findings}
 use Rattle.cl_analyse.specs.ChainAnswers.{chain_answer_at}
 use Rattle.cl_analyse.specs.Findings.{AreFindings}
-use Rattle.cl_analyse.specs.Headline.{IsChainOfKind}
 use Rattle.cl_analyse.specs.Verdicts.{bound_of_kind, bound_value}
 use Rattle.cl_analyse.proofs.SafeFindings.{findings_safe}
 use Rattle.cl_replay.specs.Margins.{HasMargin, LongestHasMargin, HaveMargins, IsReplayWithMargins}

@@ -8,6 +8,7 @@ use Rattle.cl_model.specs.Validity.{IsValid}
 use Rattle.cl_model.specs.declared.group.Group.{Group}
 use Rattle.cl_runs.specs.TaskTiming.{System}
 use Rattle.cl_runs.specs.SystemOf.{system_of, timing_of}
+use Rattle.cl_runs.specs.Requirements.{no_requirement, requirement_at}
 use Rattle.cl_bound.specs.declared.answer.TaskAnswer.{TaskAnswer}
 use Rattle.cl_bound.specs.declared.answer.TaskAnswer.TheVariants as task
 use Rattle.cl_bound.specs.Answers.{answers_of, answer_to, answer_at}
@@ -19,7 +20,7 @@ use Rattle.cl_analyse.specs.declared.findings.ExactAnswer.TheVariants as exact
 use Rattle.cl_analyse.specs.declared.findings.Verdict.{Verdict}
 use Rattle.cl_analyse.specs.declared.findings.Verdict.TheVariants as verdict
 use Rattle.cl_analyse.specs.declared.findings.Findings.{Findings}
-use Rattle.cl_analyse.specs.Verdicts.{verdict_of, verdict_at, no_requirement, requirement_at}
+use Rattle.cl_analyse.specs.Verdicts.{verdict_of, verdict_at}
 use Rattle.cl_analyse.specs.ChainAnswers.{chain_answer_of, chain_answer_at, exact_answer_at}
 use Rattle.cl_analyse.specs.Findings.{AreFindings}
 use Rattle.cl_analyse.proofs.SafeFindings.{named_task_within}

@@ -8,6 +8,7 @@ use Rattle.cl_model.specs.declared.chain.LengthKind.TheVariants.{Reaction, Age, 
 use Rattle.cl_model.specs.declared.chain.RequirementDef.{RequirementDef}
 use Rattle.cl_model.specs.ByNumber.{task_at, deadline_of, chain_at}
 use Rattle.cl_model.specs.Groups.{group_at, groups_at}
+use Rattle.cl_runs.specs.Requirements.{requirement_at}
 use Rattle.cl_bound.specs.declared.answer.TaskAnswer.{TaskAnswer}
 use Rattle.cl_bound.specs.declared.answer.TaskAnswer.TheVariants as task
 use Rattle.cl_bound.specs.Answers.{answer_at}
@@ -21,7 +22,7 @@ use Rattle.cl_analyse.specs.declared.findings.Verdict.{Verdict}
 use Rattle.cl_analyse.specs.declared.findings.Verdict.TheVariants.{Met, Broken, Unshown}
 use Rattle.cl_analyse.specs.declared.findings.Findings.{Findings}
 use Rattle.cl_analyse.specs.ChainAnswers.{chain_answer_at, exact_answer_at}
-use Rattle.cl_analyse.specs.Verdicts.{requirement_at, verdict_at}
+use Rattle.cl_analyse.specs.Verdicts.{verdict_at}
 use Rattle.cl_analyse.specs.Findings.{AreFindings}
 
 -- ---- tasks

@@ -18,7 +18,7 @@ use Rattle.cl_runs.proofs.ZippedLists.{zip_at}
 use Rattle.cl_resp.specs.Question.{is_below, hold_of, longest_hold, lower_block_of}
 use Rattle.cl_resp.proofs.BusyWindowTicks.{above_core, above_priority, RunsLower, IsWaiting}
 use Rattle.cl_resp.proofs.BusyWindowWork.{released_is}
-use Rattle.cl_resp.proofs.Greatest.{greatest_least, greatest_filtered}
+use Rattle.cl_model.proofs.Greatest.{greatest_least, greatest_filtered}
 
 -- a runnable that has begun holds its core no longer than the longest hold of its task
 hold_within : (task : Timing) (place : ℕ) → place < length task.ranges → (range_at task place).whole ≡ true

@@ -12,8 +12,9 @@ use Rattle.cl_runs.proofs.LegalFacts.{job_places}
 use Rattle.cl_runs.proofs.RunArrivals.{arrives_after_deadline, released_late, released_within}
 use Rattle.cl_runs.proofs.StartsFinishes.{finishes_by}
 use Rattle.cl_runs.proofs.Work.{through_job}
+use Rattle.cl_runs.specs.Responses.{AlwaysFinishesWithin, IsTimely}
 use Rattle.cl_resp.specs.declared.question.Question.{Question}
-use Rattle.cl_resp.specs.Promises.{AlwaysFinishesWithin, AnswersFor, IsTimely}
+use Rattle.cl_resp.specs.Promises.{AnswersFor}
 use Rattle.cl_resp.specs.Response.{busy_window, IsSettled, IsTightlySettled}
 use Rattle.cl_resp.proofs.BusyWindowTicks.{above}
 use Rattle.cl_resp.proofs.BusyWindowStart.{last_clear, no_later}

@@ -14,6 +14,8 @@ use Rattle.cl_runs.specs.Pattern.{IsPattern}
 use Rattle.cl_runs.specs.TaskTiming.{Timing, System, timing_at, IsSound}
 use Rattle.cl_stim.specs.AnyStimulus.{kind_of, as_stimulus}
 use Rattle.cl_stim.specs.Releases.{most_releases}
+use Rattle.cl_resp.specs.declared.question.Block.{Block}
+use Rattle.cl_resp.specs.declared.question.Block.TheVariants.{OfLower, WithOwn}
 use Rattle.cl_resp.specs.declared.question.Above.{Above}
 use Rattle.cl_resp.specs.declared.question.Question.{Question}
 use Rattle.cl_resp.specs.Question.{greatest_execution, is_above, taken_by, question_of, tight_question_of, either_question}
@@ -138,28 +140,28 @@ module _ (system : System) (sound : IsSound system) (task higher : ℕ) (known :
   )
 
   -- where the higher one is blocked no longer but for the time of the lower one, its demand is no greater
-  pub demand_descends : (own : Bool)
-      → (either_question own system (timing_at system higher)).block
-      ≤ (either_question own system (timing_at system task)).block + (either_question own system (timing_at system task)).time
+  pub demand_descends : (blocking : Block)
+      → (either_question blocking system (timing_at system higher)).block
+      ≤ (either_question blocking system (timing_at system task)).block + (either_question blocking system (timing_at system task)).time
       → (width : ℕ) → 1 ≤ width
-      → demand (either_question own system (timing_at system higher)) width ≤ demand (either_question own system (timing_at system task)) width
+      → demand (either_question blocking system (timing_at system higher)) width ≤ demand (either_question blocking system (timing_at system task)) width
   unfolding demand question_of tight_question_of
-  demand_descends true blocks width some = omega (arith, blocks, more_above width some)
-  demand_descends false blocks width some = omega (arith, blocks, more_above width some)
+  demand_descends WithOwn blocks width some = omega (arith, blocks, more_above width some)
+  demand_descends OfLower blocks width some = omega (arith, blocks, more_above width some)
 
   -- so no width serves it that doesn't serve the higher one
-  pub none_descends : (own : Bool)
-      → (either_question own system (timing_at system higher)).block
-      ≤ (either_question own system (timing_at system task)).block + (either_question own system (timing_at system task)).time
-      → 1 ≤ (either_question own system (timing_at system task)).time
-      → (start : ℕ) → NoneServesBelow (either_question own system (timing_at system higher)) start
-      → NoneServesBelow (either_question own system (timing_at system task)) start
-  none_descends own blocks some start none zero below = omega (arith, some, demand_some (either_question own system (timing_at system task)) 0)
-  none_descends own blocks some start none (suc width) below =
-      omega (arith, none (suc width) below, demand_descends own blocks (suc width) (omega arith))
+  pub none_descends : (blocking : Block)
+      → (either_question blocking system (timing_at system higher)).block
+      ≤ (either_question blocking system (timing_at system task)).block + (either_question blocking system (timing_at system task)).time
+      → 1 ≤ (either_question blocking system (timing_at system task)).time
+      → (start : ℕ) → NoneServesBelow (either_question blocking system (timing_at system higher)) start
+      → NoneServesBelow (either_question blocking system (timing_at system task)) start
+  none_descends blocking blocks some start none zero below = omega (arith, some, demand_some (either_question blocking system (timing_at system task)) 0)
+  none_descends blocking blocks some start none (suc width) below =
+      omega (arith, none (suc width) below, demand_descends blocking blocks (suc width) (omega arith))
 
 -- by either question each task of a sound system takes some time
-pub tasks_take_some : (own : Bool) (system : System) → IsSound system → (task : ℕ) → task < length system.tasks → 1 ≤ (either_question own system (timing_at system task)).time
+pub tasks_take_some : (blocking : Block) (system : System) → IsSound system → (task : ℕ) → task < length system.tasks → 1 ≤ (either_question blocking system (timing_at system task)).time
 unfolding question_of tight_question_of
-tasks_take_some true system sound task is = tasks_take_time system sound task is
-tasks_take_some false system sound task is = tasks_take_time system sound task is
+tasks_take_some WithOwn system sound task is = tasks_take_time system sound task is
+tasks_take_some OfLower system sound task is = tasks_take_time system sound task is

@@ -5,7 +5,7 @@ use Rattle.std.proofs.lemmas.Bool.{and_parts, and_from, ltb-true, le-leb}
 use Rattle.cl_runs.specs.TaskTiming.{Timing, System}
 use Rattle.cl_resp.specs.Question.{longest_hold, may_block, is_below, block_of, lower_block_of, question_of, tight_question_of, AsksEnough}
 use Rattle.cl_resp.specs.Response.{demand, AsksNoMore}
-use Rattle.cl_resp.proofs.Greatest.{greatest_of_more}
+use Rattle.cl_model.proofs.Greatest.{greatest_of_more}
 
 module _ (system : System) (task : Timing) where
   -- a task of lower priority is one that may block

@@ -3,7 +3,6 @@ pub mod StimulusKinds
 pub mod Windows
 pub mod WhatIsKept
 pub mod Descending
-pub mod Greatest
 pub mod EnoughAsked
 pub mod SettledTasks
 pub mod LessAsked

@@ -22,13 +22,15 @@ use Rattle.cl_runs.specs.TaskTiming.{TimeRange, Timing, System, timing_at}
 use Rattle.cl_runs.specs.SystemOf.{range_of, timing_of, system_of}
 use Rattle.cl_runs.proofs.ModelSystem.{timing_is}
 use Rattle.cl_stim.specs.AnyStimulus.{as_stimulus}
+use Rattle.cl_resp.specs.declared.question.Block.{Block}
+use Rattle.cl_resp.specs.declared.question.Block.TheVariants.{OfLower, WithOwn}
 use Rattle.cl_resp.specs.declared.question.Above.{Above}
 use Rattle.cl_resp.specs.declared.question.Question.{Question}
-use Rattle.cl_resp.specs.Question.{greatest_execution, is_above, hold_of, longest_hold, block_of, lower_block_of, taken_by, question_of, tight_question_of, either_question, IsAboveInRange, IsQuestionInRange}
+use Rattle.cl_resp.specs.Question.{greatest_execution, is_above, hold_of, longest_hold, block_of, lower_block_of, taken_by, question_of, tight_question_of, either_question, block_by, may_hold_beside, IsAboveInRange, IsQuestionInRange}
 use Rattle.cl_resp.proofs.StimulusKinds.{kind_of-as_stimulus, least_few}
 use Rattle.cl_model.proofs.ListFacts.{maps_agree}
 use Rattle.cl_resp.proofs.Filters.{by_number, filter-map, filter-both, fewer}
-use Rattle.cl_resp.proofs.Greatest.{greatest_within, greatest_agrees, greatest_mapped}
+use Rattle.cl_model.proofs.Greatest.{greatest_within, greatest_agrees, greatest_mapped}
 
 -- whether another task has a higher priority, by number
 abbrev pub is_higher : SystemModel → (task other : ℕ) → Bool
@@ -48,13 +50,12 @@ hold_at model other = task_hold (task_at model other)
 
 -- whether another task may hold the core of a task, by number: it has a lower priority, or no higher one, where the
 -- task's own runnables count
-abbrev pub may_hold : SystemModel → (own : Bool) → (task other : ℕ) → Bool
-may_hold model own task other =
-    cond own (nat_le (task_at model other).priority (task_at model task).priority) (nat_lt (task_at model other).priority (task_at model task).priority)
+abbrev pub may_hold : SystemModel → (blocking : Block) → (task other : ℕ) → Bool
+may_hold model blocking task other = may_hold_beside blocking (task_at model other).priority (task_at model task).priority
 
 -- how long a runnable of such a task may
-abbrev pub longest_blocker : SystemModel → (own : Bool) → (task : ℕ) → ℕ
-longest_blocker model own task = greatest_by (hold_at model) (filter (may_hold model own task) (tasks_of_core model (core_of model task)))
+abbrev pub longest_blocker : SystemModel → (blocking : Block) → (task : ℕ) → ℕ
+longest_blocker model blocking task = greatest_by (hold_at model) (filter (may_hold model blocking task) (tasks_of_core model (core_of model task)))
 
 -- the question of a task, by number: with these times and tasks above it, and with its own
 abbrev pub question_with : SystemModel → (task time block : ℕ) → List Above → Question
@@ -66,13 +67,9 @@ question_with model task time block above = record {
   above = above;
 }
 
-abbrev pub question_by_number : SystemModel → (own : Bool) → (task : ℕ) → Question
-question_by_number model own task =
-    question_with model task (time_of model task) (longest_blocker model own task) (map (above_at model) (numbers_above model task))
-
--- the block that counts the task's own runnables, or the tight one
-abbrev pub either_block : (own : Bool) → System → Timing → ℕ
-either_block own system task = cond own (block_of system task) (lower_block_of system task)
+abbrev pub question_by_number : SystemModel → (blocking : Block) → (task : ℕ) → Question
+question_by_number model blocking task =
+    question_with model task (time_of model task) (longest_blocker model blocking task) (map (above_at model) (numbers_above model task))
 
 -- ---- the question by number is the question
 
@@ -122,10 +119,10 @@ module _ (model : SystemModel) where
       ∙ ap (greatest_by (λ j. longest_hold (timing j))) (filter-both here passes all)
       ∙ greatest_agrees (λ j. longest_hold (timing j)) (hold_at model) hold_is (filter passes (tasks_of_core model (core_of model i)))
 
-  pub block_is : (own : Bool) (i : ℕ) → either_block own (system_of model) (timing_of model (task_at model i)) ≡ longest_blocker model own i
+  pub block_is : (blocking : Block) (i : ℕ) → block_by blocking (system_of model) (timing_of model (task_at model i)) ≡ longest_blocker model blocking i
   unfolding block_of lower_block_of
-  block_is true i = longest_is nat_le i
-  block_is false i = longest_is nat_lt i
+  block_is WithOwn i = longest_is nat_le i
+  block_is OfLower i = longest_is nat_lt i
 
   -- with the timing of the task, and a block
   with_block : (block : ℕ) (i : ℕ)
@@ -137,16 +134,16 @@ module _ (model : SystemModel) where
       ap (λ time. question_with model i time block above) (time_is i) ∙ ap (question_with model i (time_of model i) block) (above_is i)
 
   -- with the timing of the task
-  with_timing : (own : Bool) (i : ℕ) → either_question own (system_of model) (timing_of model (task_at model i)) ≡ question_by_number model own i
+  with_timing : (blocking : Block) (i : ℕ) → either_question blocking (system_of model) (timing_of model (task_at model i)) ≡ question_by_number model blocking i
   unfolding question_of tight_question_of
-  with_timing true i = with_block (block_of (system_of model) (timing_of model (task_at model i))) i
-      ∙ ap (λ block. question_with model i (time_of model i) block (map (above_at model) (numbers_above model i))) (block_is true i)
-  with_timing false i = with_block (lower_block_of (system_of model) (timing_of model (task_at model i))) i
-      ∙ ap (λ block. question_with model i (time_of model i) block (map (above_at model) (numbers_above model i))) (block_is false i)
+  with_timing WithOwn i = with_block (block_of (system_of model) (timing_of model (task_at model i))) i
+      ∙ ap (λ block. question_with model i (time_of model i) block (map (above_at model) (numbers_above model i))) (block_is WithOwn i)
+  with_timing OfLower i = with_block (lower_block_of (system_of model) (timing_of model (task_at model i))) i
+      ∙ ap (λ block. question_with model i (time_of model i) block (map (above_at model) (numbers_above model i))) (block_is OfLower i)
 
-  pub question_is : (own : Bool) (i : ℕ) → i < length model.tasks
-      → either_question own (system_of model) (timing_at (system_of model) i) ≡ question_by_number model own i
-  question_is own i h = ap (either_question own (system_of model)) (timing_is model i h) ∙ with_timing own i
+  pub question_is : (blocking : Block) (i : ℕ) → i < length model.tasks
+      → either_question blocking (system_of model) (timing_at (system_of model) i) ≡ question_by_number model blocking i
+  question_is blocking i h = ap (either_question blocking (system_of model)) (timing_is model i h) ∙ with_timing blocking i
 
 -- ---- the question is in range
 
@@ -192,46 +189,46 @@ module _ (model : SystemModel) (valid : IsValid model) (i : ℕ) (h : i < length
       let less = fewer on_core (is_higher model i) all i 0 (omega (arith, h, length-range_with_len 0 (length model.tasks))) itself not_above in
       omega (arith, less, length-map (numbers_above model i) (above_at model), few_tasks model valid (core_of model i))
 
-  block_few : (own : Bool) → longest_blocker model own i ≤ MOST_TICKS
-  block_few own =
+  block_few : (blocking : Block) → longest_blocker model blocking i ≤ MOST_TICKS
+  block_few blocking =
       let on_core : ℕ → Bool = λ j. core_of model j == core_of model i in
       let all = range_with_len 0 (length model.tasks) in
-      greatest_within (hold_at model) (filter (may_hold model own i) (filter on_core all)) MOST_TICKS
-      (λ k d lt. hold_few model valid _ (All-filter (may_hold model own i) (λ j. j < length model.tasks) (filter on_core all)
+      greatest_within (hold_at model) (filter (may_hold model blocking i) (filter on_core all)) MOST_TICKS
+      (λ k d lt. hold_few model valid _ (All-filter (may_hold model blocking i) (λ j. j < length model.tasks) (filter on_core all)
       (below_known model (length model.tasks) (core_of model i)) k d lt))
 
-  pub question_in_range : (own : Bool) → IsQuestionInRange (question_by_number model own i)
-  question_in_range own = record {
+  pub question_in_range : (blocking : Block) → IsQuestionInRange (question_by_number model blocking i)
+  question_in_range blocking = record {
     released_before = released_before model valid i h;
     deadline = omega (arith, early_enough model valid i h, least_few (tasks.stimulus_of model i) (kind_in_range model valid i h));
     some_time = some_time model valid i h;
     time = little_time model valid i h;
-    block = block_few own;
+    block = block_few blocking;
     few_above = few_above;
     above = all_above;
   }
 
 -- ---- the question that is put together
 
-module _ (model : SystemModel) (own : Bool) (i : ℕ) (h : i < length model.tasks) (time block jitter deadline : ℕ) (above : List Above)
-    (is_time : time ≡ time_of model i) (is_block : block ≡ either_block own (system_of model) (timing_of model (task_at model i)))
+module _ (model : SystemModel) (blocking : Block) (i : ℕ) (h : i < length model.tasks) (time block jitter deadline : ℕ) (above : List Above)
+    (is_time : time ≡ time_of model i) (is_block : block ≡ block_by blocking (system_of model) (timing_of model (task_at model i)))
     (is_jitter : jitter ≡ jitter_of model i) (is_deadline : deadline ≡ deadline_of model i)
     (is_list : above ≡ map taken_by (filter (is_above (timing_of model (task_at model i))) (system_of model).tasks)) where
-  put_together : record { time = time; block = block; jitter = jitter; deadline = deadline; above = above } ≡ question_by_number model own i
+  put_together : record { time = time; block = block; jitter = jitter; deadline = deadline; above = above } ≡ question_by_number model blocking i
   put_together =
       let above_by_number = is_list ∙ above_is model i in
-      let block_by_number = is_block ∙ block_is model own i in
+      let block_by_number = is_block ∙ block_is model blocking i in
       cc
 
   pub is_question : record { time = time; block = block; jitter = jitter; deadline = deadline; above = above }
-      ≡ either_question own (system_of model) (timing_at (system_of model) i)
-  is_question = put_together ∙ sym (question_is model own i h)
+      ≡ either_question blocking (system_of model) (timing_at (system_of model) i)
+  is_question = put_together ∙ sym (question_is model blocking i h)
 
   pub is_in_range : IsValid model → IsQuestionInRange (record { time = time; block = block; jitter = jitter; deadline = deadline; above = above })
-  is_in_range valid = subst (λ (q : Question). IsQuestionInRange q) (sym put_together) (question_in_range model valid i h own)
+  is_in_range valid = subst (λ (q : Question). IsQuestionInRange q) (sym put_together) (question_in_range model valid i h blocking)
 
 -- the questions of each task are in range
-pub questions_in_range : (own : Bool) (model : SystemModel) → IsValid model → (i : ℕ) → i < length model.tasks
-    → IsQuestionInRange (either_question own (system_of model) (timing_at (system_of model) i))
-questions_in_range own model valid i h =
-    subst (λ (q : Question). IsQuestionInRange q) (sym (question_is model own i h)) (question_in_range model valid i h own)
+pub questions_in_range : (blocking : Block) (model : SystemModel) → IsValid model → (i : ℕ) → i < length model.tasks
+    → IsQuestionInRange (either_question blocking (system_of model) (timing_at (system_of model) i))
+questions_in_range blocking model valid i h =
+    subst (λ (q : Question). IsQuestionInRange q) (sym (question_is model blocking i h)) (question_in_range model valid i h blocking)

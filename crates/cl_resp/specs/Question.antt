@@ -7,6 +7,8 @@ use Rattle.cl_model.specs.Holds.{greatest_by}
 use Rattle.cl_runs.specs.TaskTiming.{TimeRange, Timing, System}
 use Rattle.cl_stim.specs.AnyStimulus.{kind_of, as_stimulus}
 use Rattle.cl_resp.specs.declared.question.Above.{Above}
+use Rattle.cl_resp.specs.declared.question.Block.{Block}
+use Rattle.cl_resp.specs.declared.question.Block.TheVariants.{OfLower, WithOwn}
 use Rattle.cl_resp.specs.declared.question.Question.{Question}
 
 -- the greatest execution time of a job of a task
@@ -67,9 +69,20 @@ tight_question_of system task = record {
   above = map taken_by (filter (is_above task) system.tasks);
 }
 
--- one of the two: with the runnables of its own, or the tight one
-abbrev pub either_question : (own : Bool) → System → Timing → Question
-either_question own system task = cond own (question_of system task) (tight_question_of system task)
+-- one of the two, by which whole runnables block the task
+abbrev pub either_question : (blocking : Block) → System → Timing → Question
+either_question OfLower system task = tight_question_of system task
+either_question WithOwn system task = question_of system task
+
+-- how long a runnable that blocks the task so may hold its core
+abbrev pub block_by : (blocking : Block) → System → Timing → ℕ
+block_by OfLower system task = lower_block_of system task
+block_by WithOwn system task = block_of system task
+
+-- whether a task of the other priority may hold the core of one of this priority so
+abbrev pub may_hold_beside : (blocking : Block) → (other priority : ℕ) → Bool
+may_hold_beside OfLower other priority = nat_lt other priority
+may_hold_beside WithOwn other priority = nat_le other priority
 
 -- a question asks enough of a task: it is its question but for the block, which is no less than how long a runnable of
 -- a task of lower priority on its core may hold that. A question of it and a tight one both do

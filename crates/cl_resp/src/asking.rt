@@ -1,12 +1,12 @@
 //! The question of a task of a valid model. Times are in ticks.
-ghost use Rattle.std.specs.Prelude.{◌≡◌, ◌<◌, ◌↔◌, IsTrue, cond, nat_le, nat_lt, length, map, filter, IfOk};
+ghost use Rattle.std.specs.Prelude.{◌≡◌, ◌<◌, ◌↔◌, IsTrue, length, map, filter, IfOk};
 ghost use Rattle.cl_model.specs.ByNumber.{task_at};
 ghost use Rattle.cl_model.specs.Validity.{IsValid};
 ghost use Rattle.cl_runs.specs.SystemOf.{timing_of, system_of};
 ghost use Rattle.cl_runs.specs.TaskTiming.{timing_at};
-ghost use Rattle.cl_resp.specs.Question.{is_above, block_of, lower_block_of, taken_by, question_of, tight_question_of, either_question, IsQuestionInRange};
+ghost use Rattle.cl_resp.specs.Question.{is_above, may_hold_beside, block_by, taken_by, question_of, tight_question_of, either_question, IsQuestionInRange};
 
-use crate::question::{Above, Question};
+use crate::question::{Above, Block, Question};
 use cl_model::{List, ValidModel};
 use cl_stim::AnyStimulus;
 use cl_time::NoMemory;
@@ -47,33 +47,28 @@ fn all_above(
 
 /// Whether a task may hold its core while one of this priority waits there: it has a lower priority, or, where the
 /// waiting task counts too, it is that one.
-fn may_hold(model: &ValidModel, other: u32, priority: u64, own: bool) -> bool
+fn may_hold(model: &ValidModel, other: u32, priority: u64, blocking: Block) -> bool
     requires { other < length model.now.tasks }
-    ensures { result
-        ≡ cond own (nat_le (task_at model.now other).priority priority) (nat_lt (task_at model.now other).priority priority) }
+    ensures { result ≡ may_hold_beside blocking (task_at model.now other).priority priority }
 {
     let other = model.task(other).priority;
-    if own {
-        other <= priority
-    } else {
-        other < priority
+    match blocking {
+        Block::OfLower => other < priority,
+        Block::WithOwn => other <= priority,
     }
 }
 
 /// How long a whole runnable that has begun may hold the core of a task: one of a task of lower priority there, or,
 /// where its own count, of the task itself, which has this priority.
-#[tactic(auto, using(crate::proofs::Greatest::greatest_more))]
-fn block_of(model: &ValidModel, task: u32, priority: u64, own: bool) -> u64
+#[tactic(auto, using(cl_model::proofs::Greatest::greatest_more))]
+fn block_of(model: &ValidModel, task: u32, priority: u64, blocking: Block) -> u64
     requires task { task < length model.now.tasks }
     requires priority { priority ≡ (task_at model.now task).priority }
-    ensures { result
-        ≡ cond own
-        (block_of (system_of model.now) (timing_of model.now (task_at model.now task)))
-        (lower_block_of (system_of model.now) (timing_of model.now (task_at model.now task))) }
+    ensures { result ≡ block_by blocking (system_of model.now) (timing_of model.now (task_at model.now task)) }
 {
     let mut block = 0;
     for other in model.tasks_of_core(model.core_of(task)) {
-        if may_hold(model, *other, priority, own) {
+        if may_hold(model, *other, priority, blocking) {
             block = block.max(model.task(*other).longest_hold());
         }
     }
@@ -81,22 +76,22 @@ fn block_of(model: &ValidModel, task: u32, priority: u64, own: bool) -> u64
 }
 
 /// The question of a task, given by its number: that of `ask`, whose block counts the task's own whole runnables, or the
-/// tight one. The only error is that there is no memory for the tasks above.
+/// tight one, by which whole runnables block it. The only error is that there is no memory for the tasks above.
 pub fn ask_either(
     alloc: Global,
     model: &ValidModel,
     task: u32,
-    own: bool,
+    blocking: Block,
 ) -> Result<Question, NoMemory>
     requires { task < length model.now.tasks }
     ensures question { IfOk result (λ question. question
-        ≡ either_question own (system_of model.now) (timing_at (system_of model.now) task)) }
+        ≡ either_question blocking (system_of model.now) (timing_at (system_of model.now) task)) }
     ensures in_range { IfOk result IsQuestionInRange }
 {
     let priority = model.task(task).priority;
     Ok(Question {
         time: model.time_of(task),
-        block: block_of(model, task, priority, own),
+        block: block_of(model, task, priority, blocking),
         jitter: model.jitter_of(task),
         deadline: model.deadline_of(task),
         above: all_above(alloc, model, task, priority)?,
@@ -112,8 +107,7 @@ pub fn ask(alloc: Global, model: &ValidModel, task: u32) -> Result<Question, NoM
         ≡ question_of (system_of model.now) (timing_at (system_of model.now) task)) }
     ensures in_range { IfOk result IsQuestionInRange }
 {
-    let with_own = true;
-    ask_either(alloc, model, task, with_own)
+    ask_either(alloc, model, task, Block::WithOwn)
 }
 
 /// The tight question of a task, given by its number: that of `ask`, but that its block leaves out the task's own whole
@@ -125,6 +119,5 @@ pub fn ask_tight(alloc: Global, model: &ValidModel, task: u32) -> Result<Questio
         ≡ tight_question_of (system_of model.now) (timing_at (system_of model.now) task)) }
     ensures in_range { IfOk result IsQuestionInRange }
 {
-    let with_own = false;
-    ask_either(alloc, model, task, with_own)
+    ask_either(alloc, model, task, Block::OfLower)
 }

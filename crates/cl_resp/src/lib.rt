@@ -11,6 +11,6 @@ mod settled;
 
 pub use answering::{demand, respond, respond_from, settle};
 pub use asking::{ask, ask_either, ask_tight};
-pub use question::{Above, Question};
+pub use question::{Above, Block, Question};
 pub use reached::{Reached, from_the_top, respond_below};
 pub use settled::{Late, Settled};

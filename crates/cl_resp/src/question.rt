@@ -11,6 +11,15 @@ pub struct Above {
     pub time: u64,
 }
 
+/// Which whole runnables that have begun block a task in its question, besides none of higher priority.
+#[derive(Clone, Copy, Debug, PartialEq, Eq)]
+pub enum Block {
+    /// Those of tasks of lower priority on its core: the tight question.
+    OfLower,
+    /// These, and those of the task itself.
+    WithOwn,
+}
+
 /// What the response of a task depends on.
 #[derive(Debug, PartialEq, Eq, Drop)]
 pub struct Question {

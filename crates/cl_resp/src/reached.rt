@@ -10,7 +10,7 @@ ghost use Rattle.cl_resp.specs.Reached.{HasReached};
 ghost use Rattle.cl_resp.specs.Response.{response_to, NoneServesBelow};
 
 use crate::answering::respond_from;
-use crate::question::Question;
+use crate::question::{Block, Question};
 use crate::settled::{Late, Settled};
 use cl_model::ValidModel;
 use cl_time::{NoMemory, Steps};
@@ -32,23 +32,27 @@ pub struct Reached {
 pub fn respond_below<L: Ledger>(
     model: &ValidModel,
     task: u32,
-    own: bool,
+    blocking: Block,
     question: &Question,
     last: &mut Option<Reached>,
     steps: &mut Steps<L>,
 ) -> Result<Settled, Late>
     requires task { task < length model.now.tasks }
-    requires question { question.now ≡ either_question own (system_of model.now) (timing_at (system_of model.now) task) }
+    requires question { question.now ≡ either_question blocking (system_of model.now) (timing_at (system_of model.now) task) }
     requires in_range { IsQuestionInRange question.now }
-    requires last { IfSome last.old (HasReached own (system_of model.now)) }
+    requires last { IfSome last.old (HasReached blocking (system_of model.now)) }
     ensures response { MatchResult result
         (λ settled. response_to question.now ≡ Some settled)
         (λ _. response_to question.now ≡ None) }
     ensures finishing { IfOk result (λ settled. AnswersFor question.now settled.response) }
-    ensures last { IfSome last.new (HasReached own (system_of model.now)) }
+    ensures last { IfSome last.new (HasReached blocking (system_of model.now)) }
     ensures steps { steps.new ≡ steps.old + 1 }
 {
-    let answer = respond_from(question, start_of(model, task, own, question, *last), steps);
+    let answer = respond_from(
+        question,
+        start_of(model, task, blocking, question, *last),
+        steps,
+    );
     *last = Some(Reached {
         task,
         block: question.block,
@@ -83,14 +87,14 @@ fn tasks_of(alloc: Global, keyed: &[(u32, u64, u32)]) -> Result<Vec<u32>, NoMemo
 fn start_of(
     model: &ValidModel,
     task: u32,
-    own: bool,
+    blocking: Block,
     question: &Question,
     last: Option<Reached>,
 ) -> u64
     requires task { task < length model.now.tasks }
-    requires question { question.now ≡ either_question own (system_of model.now) (timing_at (system_of model.now) task) }
+    requires question { question.now ≡ either_question blocking (system_of model.now) (timing_at (system_of model.now) task) }
     requires in_range { IsQuestionInRange question.now }
-    requires last { IfSome last (HasReached own (system_of model.now)) }
+    requires last { IfSome last (HasReached blocking (system_of model.now)) }
     ensures { NoneServesBelow question.now result }
 {
     let Some(last) = last else {

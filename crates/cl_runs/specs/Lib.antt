@@ -15,3 +15,5 @@ pub mod Measured
 pub mod GoesOn
 pub mod Continuation
 pub mod SystemOf
+pub mod Responses
+pub mod Requirements

@@ -4,3 +4,9 @@ pub mod TightRequirements
 pub mod TightLaws
 pub mod TightLists
 pub mod Verified
+pub mod ModelTight
+pub mod IdealStops
+pub mod IdealSteps
+pub mod IdealWalks
+pub mod TightExact
+pub mod IdealChains

@@ -12,8 +12,8 @@ use Rattle.cl_model.proofs.GroupFacts.{groups_at_are, groups_at_some}
 use Rattle.cl_runs.specs.TaskTiming.{System, no_timing}
 use Rattle.cl_runs.specs.SystemOf.{system_of}
 use Rattle.cl_runs.proofs.ModelSystem.{count_is, system_sound}
+use Rattle.cl_runs.specs.Responses.{AlwaysFinishesWithin, IsTimely}
 use Rattle.cl_resp.specs.Response.{Response, IsTightlySettled}
-use Rattle.cl_resp.specs.Promises.{AlwaysFinishesWithin, IsTimely}
 use Rattle.cl_resp.proofs.BusyWindowTask.{tightly_timely}
 use Rattle.cl_bound.specs.declared.answer.TaskAnswer.{TaskAnswer}
 use Rattle.cl_bound.specs.declared.answer.TaskAnswer.TheVariants as answer
@@ -28,8 +28,8 @@ use Rattle.cl_exact.specs.TimedPeriodic.{is_timed_periodic_chain}
 use Rattle.cl_exact.specs.ExactLengths.{Witnesses}
 use Rattle.cl_phase.specs.TightAnswers.{tight_answer_to, tight_answers_of, tight_response}
 use Rattle.cl_phase.specs.TightBounds.{tight_bounds}
-use Rattle.cl_phase.specs.ExactBounds.{AreLengthsOf}
-use Rattle.cl_phase.proofs.ModelTight.{tight_of_chain}
+use Rattle.cl_tight.specs.ExactBounds.{AreLengthsOf}
+use Rattle.cl_tight.proofs.ModelTight.{tight_of_chain}
 use Rattle.cl_phase.proofs.TightSafety.{tight_safe, tight_no_greater}
 use Rattle.cl_phase.proofs.TightTasks.{tight_task, tight_of_settled, tight_group}
 use Rattle.cl_analyse.specs.declared.findings.ChainAnswer.{ChainAnswer}

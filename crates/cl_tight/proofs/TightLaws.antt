@@ -14,6 +14,7 @@ use Rattle.cl_runs.specs.Run.{Run, jobs_of}
 use Rattle.cl_runs.specs.Legal.{IsLegal}
 use Rattle.cl_runs.specs.Moments.{JobFinishes}
 use Rattle.cl_runs.proofs.ModelSystem.{count_is}
+use Rattle.cl_runs.specs.Requirements.{no_requirement, requirement_at, IsKept, IsInTime}
 use Rattle.cl_bound.specs.declared.answer.TaskAnswer.{TaskAnswer}
 use Rattle.cl_bound.specs.declared.answer.TaskAnswer.TheVariants as answer
 use Rattle.cl_bound.specs.Answers.{answer_at, is_late}
@@ -24,10 +25,9 @@ use Rattle.cl_analyse.specs.declared.findings.Verdict.TheVariants.{Met, Broken, 
 use Rattle.cl_analyse.specs.declared.findings.Findings.{Findings}
 use Rattle.cl_analyse.specs.ChainAnswers.{chain_answer_at}
 use Rattle.cl_analyse.specs.Findings.{AreFindings}
-use Rattle.cl_analyse.specs.Headline.{IsKept}
-use Rattle.cl_analyse.specs.Verdicts.{no_requirement, requirement_at, verdict_at}
+use Rattle.cl_analyse.specs.Verdicts.{verdict_at}
 use Rattle.cl_tight.specs.TightFindings.{tight_chain_answers_of, tight_verdict_of, tight_findings_of, is_met, is_verified}
-use Rattle.cl_tight.specs.Promises.{AreSafeTightFindings, AreAsTight, IsInTime}
+use Rattle.cl_tight.specs.Promises.{AreSafeTightFindings, AreAsTight}
 use Rattle.cl_tight.proofs.TightChains.{timely_task, tight_responses_hold, tight_where_settled, own_bounds, tight_bounds_hold, tight_where_bounded, tight_where_exact}
 use Rattle.cl_tight.proofs.TightRequirements.{met_kept, broken_is}
 

@@ -15,6 +15,7 @@ use Rattle.cl_model.proofs.Refused.{each_none, unless_none}
 use Rattle.cl_runs.specs.TaskTiming.{no_timing, timing_at}
 use Rattle.cl_runs.specs.SystemOf.{system_of}
 use Rattle.cl_runs.proofs.ModelSystem.{count_is}
+use Rattle.cl_runs.specs.Requirements.{required_chain, no_requirement, requirement_at}
 use Rattle.cl_bound.specs.declared.answer.TaskAnswer.{TaskAnswer}
 use Rattle.cl_bound.specs.Bounds.{Lengths}
 use Rattle.cl_phase.specs.TightAnswers.{tight_answer_to, tight_answers_of, tight_response}
@@ -23,7 +24,7 @@ use Rattle.cl_analyse.specs.declared.findings.ChainAnswer.{ChainAnswer}
 use Rattle.cl_analyse.specs.declared.findings.ChainAnswer.TheVariants.{Bounds, Late}
 use Rattle.cl_analyse.specs.declared.findings.Verdict.{Verdict}
 use Rattle.cl_analyse.specs.ChainAnswers.{first_late, chain_answer, chain_answer_at}
-use Rattle.cl_analyse.specs.Verdicts.{bound_value, verdict_on, required_chain, no_requirement, requirement_at}
+use Rattle.cl_analyse.specs.Verdicts.{bound_value, verdict_on}
 use Rattle.cl_tight.specs.declared.findings.TightFindings.{TightFindings}
 use Rattle.cl_tight.specs.TightFindings.{tight_chain_answer_of, tight_chain_answers_of, has_exact_bounds, exact_bound, tight_verdict_of, tight_findings_of}
 

@@ -14,6 +14,7 @@ use Rattle.cl_model.proofs.GroupFacts.{groups_at_are}
 use Rattle.cl_runs.specs.TaskTiming.{System}
 use Rattle.cl_runs.specs.SystemOf.{system_of}
 use Rattle.cl_runs.proofs.ModelSystem.{system_sound}
+use Rattle.cl_runs.specs.Requirements.{required_chain, IsKept, IsBroken}
 use Rattle.cl_bound.specs.Answers.{NoneIsLate}
 use Rattle.cl_bound.specs.Bounds.{Lengths}
 use Rattle.cl_exact.specs.ExactLengths.{Witnesses, chain_of}
@@ -23,13 +24,12 @@ use Rattle.cl_exact.proofs.RunExact.{witness_run}
 use Rattle.cl_exact.proofs.RunTasks.{settled_timed_groups}
 use Rattle.cl_exact.proofs.SomeExact.{exact_lengths_exist}
 use Rattle.cl_phase.specs.TightAnswers.{tight_answers_of, tight_response}
-use Rattle.cl_phase.specs.ExactBounds.{AreLengthsOf}
-use Rattle.cl_phase.proofs.ModelTight.{tight_of_chain}
+use Rattle.cl_tight.specs.ExactBounds.{AreLengthsOf}
+use Rattle.cl_tight.proofs.ModelTight.{tight_of_chain}
 use Rattle.cl_analyse.specs.declared.findings.ChainAnswer.TheVariants.{Bounds, Late}
 use Rattle.cl_analyse.specs.declared.findings.Verdict.TheVariants.{Met, Broken}
 use Rattle.cl_analyse.specs.ChainAnswers.{chain_answer_at}
-use Rattle.cl_analyse.specs.Verdicts.{bound_of_kind, witness_of_kind, bound_value, required_chain}
-use Rattle.cl_analyse.specs.Headline.{IsKept, IsBroken}
+use Rattle.cl_analyse.specs.Verdicts.{bound_of_kind, witness_of_kind, bound_value}
 use Rattle.cl_analyse.proofs.KeptRequirements.{met_by, broken_by, bound_valued, kind_bound, HasChain}
 use Rattle.cl_tight.specs.TightFindings.{tight_chain_answer_of, tight_chain_answers_of, has_exact_bounds, exact_bound, tight_verdict_of}
 use Rattle.cl_tight.proofs.CommonPeriods.{exact_where}

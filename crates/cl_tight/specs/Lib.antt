@@ -1,2 +1,3 @@
 pub mod TightFindings
+pub mod ExactBounds
 pub mod Promises

@@ -1,29 +1,24 @@
 -- What tight findings promise: in every legal run, of any length.
-use Rattle.std.specs.Prelude.{◌≡◌, ℕ, ◌+◌, ◌<◌, ◌≤◌, length}
+use Rattle.std.specs.Prelude.{◌≡◌, ℕ, ◌<◌, ◌≤◌, length}
 use Rattle.cl_model.specs.declared.model.SystemModel.{SystemModel}
 use Rattle.cl_model.specs.Groups.{groups_at}
-use Rattle.cl_runs.specs.TaskTiming.{timing_at}
 use Rattle.cl_runs.specs.SystemOf.{system_of}
-use Rattle.cl_runs.specs.Table.{job_at}
-use Rattle.cl_runs.specs.Run.{Run, jobs_of}
-use Rattle.cl_runs.specs.Legal.{IsLegal}
-use Rattle.cl_runs.specs.Moments.{JobFinishes}
+use Rattle.cl_runs.specs.Requirements.{requirement_at, IsKept, IsBroken}
+use Rattle.cl_runs.specs.Responses.{AlwaysFinishesWithin}
 use Rattle.cl_resp.specs.Response.{Response}
-use Rattle.cl_resp.specs.Promises.{AlwaysFinishesWithin}
 use Rattle.cl_bound.specs.declared.answer.TaskAnswer.TheVariants.{Settled}
 use Rattle.cl_bound.specs.Answers.{answer_at}
 use Rattle.cl_bound.specs.Bounds.{Lengths}
 use Rattle.cl_bound.specs.NoGreater.{AreNoGreater}
 use Rattle.cl_bound.specs.Promises.{AreSafe}
 use Rattle.cl_exact.specs.ExactLengths.{Witnesses}
-use Rattle.cl_phase.specs.ExactBounds.{AreLengthsOf}
+use Rattle.cl_tight.specs.ExactBounds.{AreLengthsOf}
 use Rattle.cl_analyse.specs.declared.findings.ChainAnswer.TheVariants.{Bounds}
 use Rattle.cl_analyse.specs.declared.findings.ExactAnswer.TheVariants.{Exact}
 use Rattle.cl_analyse.specs.declared.findings.Verdict.TheVariants.{Met, Broken}
 use Rattle.cl_analyse.specs.declared.findings.Findings.{Findings}
 use Rattle.cl_analyse.specs.ChainAnswers.{chain_answer_at, exact_answer_at}
-use Rattle.cl_analyse.specs.Verdicts.{requirement_at, verdict_at}
-use Rattle.cl_analyse.specs.Headline.{IsKept, IsBroken}
+use Rattle.cl_analyse.specs.Verdicts.{verdict_at}
 use Rattle.cl_tight.specs.declared.findings.TightFindings.{TightFindings}
 
 -- The findings are safe. In every legal run each job of a settled task finishes within its tight response, each tight
@@ -66,12 +61,3 @@ pub record AreAsTight (model : SystemModel) (findings : TightFindings) (report :
       → chain_answer_at report.chains chain ≡ Bounds bounds → HasNoGreater findings chain bounds
   pub exact : (chain : ℕ) (lengths : Witnesses) → chain < length model.chains
       → exact_answer_at report.exacts chain ≡ Exact lengths → HasExactBounds findings chain lengths
-
--- A model is in time: in every legal run, of any length, every job whose deadline lies within the run has finished by
--- then, and each requirement is kept.
-pub record IsInTime (model : SystemModel) : Type 0 where
-  pub deadlines : (run : Run) → IsLegal (system_of model) run → (task job : ℕ) → task < length model.tasks → job < length (jobs_of run task)
-      → (job_at (jobs_of run task) job).arrival + (timing_at (system_of model) task).deadline ≤ run.table.ticks
-      → (finish : ℕ) × JobFinishes (system_of model) run task job finish
-      × (finish ≤ (job_at (jobs_of run task) job).arrival + (timing_at (system_of model) task).deadline)
-  pub requirements : (i : ℕ) → i < length model.requirements → IsKept model (requirement_at model i)

@@ -8,6 +8,7 @@ use Rattle.cl_model.specs.declared.group.Group.{Group}
 use Rattle.cl_model.specs.Groups.{steps_of, groups_of, groups_at}
 use Rattle.cl_runs.specs.TaskTiming.{System}
 use Rattle.cl_runs.specs.SystemOf.{system_of}
+use Rattle.cl_runs.specs.Requirements.{required_chain}
 use Rattle.cl_bound.specs.declared.answer.TaskAnswer.{TaskAnswer}
 use Rattle.cl_bound.specs.Answers.{is_late}
 use Rattle.cl_exact.specs.TimedPeriodic.{is_timed_periodic_chain}
@@ -19,7 +20,7 @@ use Rattle.cl_analyse.specs.declared.findings.ChainAnswer.{ChainAnswer}
 use Rattle.cl_analyse.specs.declared.findings.Verdict.{Verdict}
 use Rattle.cl_analyse.specs.declared.findings.Verdict.TheVariants.{Met, Broken, Unshown}
 use Rattle.cl_analyse.specs.ChainAnswers.{first_late, chain_answer, chain_answer_at}
-use Rattle.cl_analyse.specs.Verdicts.{bound_value, verdict_on, required_chain}
+use Rattle.cl_analyse.specs.Verdicts.{bound_value, verdict_on}
 use Rattle.cl_tight.specs.declared.findings.TightFindings.{TightFindings}
 
 -- ---- chains

@@ -5,7 +5,10 @@ ghost use Rattle.cl_model.specs.Validity.{IsValid};
 ghost use Rattle.cl_analyse.specs.declared.findings.Findings.{Findings};
 ghost use Rattle.cl_analyse.specs.Findings.{AreFindings};
 ghost use Rattle.cl_tight.specs.TightFindings.{tight_findings_of, is_verified};
-ghost use Rattle.cl_tight.specs.Promises.{AreSafeTightFindings, AreAsTight, IsInTime};
+ghost use Rattle.cl_runs.specs.Requirements.{IsInTime};
+ghost use Rattle.cl_tight.specs.Promises.{AreSafeTightFindings, AreAsTight};
+
+pub mod exact;
 
 /// In every legal run of a valid model, of any length, each job of a settled task finishes within its tight response,
 /// and no complete chain is longer than its tight bound. What is met is kept, and what is broken is broken in some run.

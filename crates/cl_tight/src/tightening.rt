@@ -4,11 +4,11 @@ ghost use Rattle.std.specs.List.{list_all};
 ghost use Rattle.cl_model.specs.ByNumber.{chain_at};
 ghost use Rattle.cl_model.specs.Validity.{IsValid};
 ghost use Rattle.cl_runs.specs.SystemOf.{system_of};
+ghost use Rattle.cl_runs.specs.Requirements.{required_chain, IsInTime};
 ghost use Rattle.cl_bound.specs.Answers.{is_late};
 ghost use Rattle.cl_phase.specs.TightAnswers.{tight_answers_of};
-ghost use Rattle.cl_analyse.specs.Verdicts.{required_chain};
 ghost use Rattle.cl_tight.specs.TightFindings.{tight_chain_answer_of, tight_chain_answers_of, has_exact_bounds, tight_verdict_of, tight_findings_of, is_met, is_verified};
-ghost use Rattle.cl_tight.specs.Promises.{AreSafeTightFindings, IsInTime};
+ghost use Rattle.cl_tight.specs.Promises.{AreSafeTightFindings};
 
 use crate::findings::TightFindings;
 use cl_analyse::{ChainAnswer, Verdict, answer_tasks, bound_value, first_late, verdict_on};
@@ -16,6 +16,7 @@ use cl_bound::TaskAnswer;
 use cl_exact::{is_timed_periodic, is_within_limit};
 use cl_model::{List, RequirementDef, ValidModel};
 use cl_phase::tight_bounds;
+use cl_resp::Block;
 use cl_time::{NoMemory, Steps};
 use std::alloc::Global;
 use std::sync::ledger::Ledger;
@@ -39,8 +40,8 @@ pub fn tighten<L: Ledger>(
     ensures steps { steps.new ≤ steps.old + length model.now.tasks }
 {
     let tasks = answer_tightly(alloc, model, steps)?;
-    let chains = answer_chains(alloc, model, &tasks)?;
-    let verdicts = judge_all(alloc, model, &chains)?;
+    let chains = tighten_chains(alloc, model, &tasks)?;
+    let verdicts = judge_all_tightly(alloc, model, &chains)?;
     Ok(TightFindings {
         tasks,
         chains,
@@ -58,12 +59,11 @@ fn answer_tightly<L: Ledger>(
     ensures steps { steps.new ≤ steps.old + length model.now.tasks }
     ensures valid { IsValid model.now }
 {
-    let with_own = false;
-    answer_tasks(alloc, model, with_own, steps)
+    answer_tasks(alloc, model, Block::OfLower, steps)
 }
 
 /// The answers for all chains, from those for all tasks.
-fn answer_chains(
+fn tighten_chains(
     alloc: Global,
     model: &ValidModel,
     tasks: &List<TaskAnswer>,
@@ -73,13 +73,13 @@ fn answer_chains(
 {
     let mut answers = List::new(alloc);
     for chain in 0..model.chains() {
-        answers.push(answer_chain(model, chain, tasks))?;
+        answers.push(tighten_chain(model, chain, tasks))?;
     }
     Ok(answers)
 }
 
 /// The answer for a chain, from those for all tasks: its tight bounds, or the first of its tasks that is late.
-fn answer_chain(model: &ValidModel, chain: u32, tasks: &List<TaskAnswer>) -> ChainAnswer
+fn tighten_chain(model: &ValidModel, chain: u32, tasks: &List<TaskAnswer>) -> ChainAnswer
     requires chain { chain < length model.now.chains }
     requires answers { tasks.now ≡ tight_answers_of (system_of model.now) }
     ensures { result ≡ tight_chain_answer_of model.now (chain_at model.now chain) }
@@ -100,7 +100,7 @@ fn has_exact_bounds(model: &ValidModel, chain: u32) -> bool
 }
 
 /// The verdicts on all requirements.
-fn judge_all(
+fn judge_all_tightly(
     alloc: Global,
     model: &ValidModel,
     chains: &List<ChainAnswer>,
@@ -109,13 +109,17 @@ fn judge_all(
 {
     let mut verdicts = List::new(alloc);
     for requirement in model.plain().requirements.as_slice() {
-        verdicts.push(judge(model, chains, requirement))?;
+        verdicts.push(judge_tightly(model, chains, requirement))?;
     }
     Ok(verdicts)
 }
 
 /// The verdict on a requirement of the model.
-fn judge(model: &ValidModel, chains: &List<ChainAnswer>, requirement: &RequirementDef) -> Verdict
+fn judge_tightly(
+    model: &ValidModel,
+    chains: &List<ChainAnswer>,
+    requirement: &RequirementDef,
+) -> Verdict
     requires known { required_chain model.now requirement.now < length model.now.chains }
     requires valid { IsValid model.now }
     ensures { result ≡ tight_verdict_of model.now chains.now requirement.now }

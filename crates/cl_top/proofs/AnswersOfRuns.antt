@@ -2,7 +2,6 @@
 use Rattle.std.proofs.Common.{◌≡◌, ◌≢◌, ℕ, inl, inr, Some, None, [], sym, ap, subst, ◌∙◌, arith}
 use Rattle.std.proofs.lemmas.Bool.{cases_lt}
 use Rattle.cl_model.specs.declared.model.SystemModel.{SystemModel}
-use Rattle.cl_model.specs.Validity.{IsValid}
 use Rattle.cl_runs.specs.TaskTiming.{System}
 use Rattle.cl_runs.specs.Run.{Run}
 use Rattle.cl_runs.specs.SystemOf.{system_of}
@@ -13,15 +12,8 @@ use Rattle.cl_check.specs.declared.run_fault.RunFault.{RunFault}
 use Rattle.cl_check.specs.declared.run_fault.RunFault.TheVariants.{Illegal, NoMemory}
 use Rattle.cl_check.specs.Legality.{first_fault, table_faults, IsFirstOnCore, BreaksSchedule, IsFirstBroken}
 use Rattle.cl_check.proofs.BrokenRules.{illegal}
-use Rattle.cl_draw.specs.Picture.{IsPictureOf}
-use Rattle.cl_draw.proofs.OnePicture.{one_picture}
-use Rattle.cl_replay.specs.Replay.{IsReplayOf}
-use Rattle.cl_replay.proofs.OneReplay.{one_replay}
-use Rattle.cl_top.specs.declared.outcome.Outcome.{Outcome}
-use Rattle.cl_top.specs.Commands.Draw.{IsDrawn}
-use Rattle.cl_top.specs.Commands.Replay.{IsReplayed}
+use Rattle.cl_engine.specs.declared.outcome.Outcome.{Outcome}
 use Rattle.cl_top.specs.OfTrace.{trace_refused, trace_illegal, IsIllegal, IsOfRun}
-use Rattle.cl_top.proofs.ModelAnswers.{done_once}
 
 module _ (system : System) (run : Run) where
   tick_once : (core s t : ℕ) → IsFirstOnCore system run core s → IsFirstOnCore system run core t → s ≡ t
@@ -87,12 +79,3 @@ module _ (model : SystemModel) (run : Run) where
       is.printed
       ∙ ap (answered model) (fault_once (system_of model) run (Illegal is.rule is.place is.tick) (Illegal also.rule also.place also.tick) is.broken also.broken)
       ∙ sym also.printed
-
-  pub replayed_once : IsLegal (system_of model) run → (one other : Outcome) → IsReplayed model run one → IsReplayed model run other → one ≡ other
-  replayed_once legal one other is also = done_once (IsReplayOf model run) (one_replay model run) one other is also
-
-  pub drawn_once : (from to : ℕ) → IsValid model → IsLegal (system_of model) run → (one other : Outcome) → IsDrawn from to model run one → IsDrawn from to model run other → one ≡ other
-  drawn_once from to valid legal one other (inl is) (inl also) = done_once (IsPictureOf model run from to) (one_picture model valid run legal from to) one other is.outcome also.outcome
-  drawn_once from to valid legal one other (inl is) (inr also) = absurd (also.outside is.window)
-  drawn_once from to valid legal one other (inr is) (inl also) = absurd (is.outside also.window)
-  drawn_once from to valid legal one other (inr is) (inr also) = is.printed ∙ sym also.printed

@@ -18,13 +18,13 @@ use Rattle.cl_edit.proofs.OneAnswer.{edits_unique, bad_lines_unique, never_both}
 use Rattle.cl_edit.proofs.SomeAnswer.{some_answer}
 use Rattle.cl_write.specs.Texts.{IsTextOf}
 use Rattle.cl_write.proofs.SomeTexts.{some_text}
-use Rattle.cl_top.specs.declared.outcome.Outcome.{Outcome}
-use Rattle.cl_top.specs.declared.status.TheConstants.{DONE}
+use Rattle.cl_engine.specs.declared.outcome.Outcome.{Outcome}
+use Rattle.cl_engine.specs.declared.status.TheConstants.{DONE}
 use Rattle.cl_top.specs.Commands.Apply.{AreAllApplied, IsOneRefused, IsOfApply}
 use Rattle.cl_top.specs.Commands.Edit.{edits_refused}
-use Rattle.cl_top.specs.Done.{IsDone}
+use Rattle.cl_engine.specs.Done.{IsDone}
 use Rattle.cl_top.specs.Inner.Applying.{OrRefused, ApplyTo}
-use Rattle.cl_top.specs.OfModel.{MigratesTheSame}
+use Rattle.cl_top.specs.Meaning.{WritesTheSame}
 
 -- ---- the model after edits
 
@@ -211,17 +211,17 @@ some_applied model valid named text = by_answer (some_answer text)
 
 -- ---- two outcomes say the same
 
-same_each : (number : ℕ) (model : SystemModel) (edits : List Edit) (one other : Outcome) → ApplyTo number model edits one → ApplyTo number model edits other → MigratesTheSame one other
+same_each : (number : ℕ) (model : SystemModel) (edits : List Edit) (one other : Outcome) → ApplyTo number model edits one → ApplyTo number model edits other → WritesTheSame one other
 same_each number model [] one other h k = inr (model, h, k)
 same_each number model (edit ∷ edits) one other h k = by_edit (λ changed. same_each (number + 1) changed edits one other) (edited model edit) h k
   where
-    by_edit : ((changed : SystemModel) → ApplyTo (number + 1) changed edits one → ApplyTo (number + 1) changed edits other → MigratesTheSame one other)
+    by_edit : ((changed : SystemModel) → ApplyTo (number + 1) changed edits one → ApplyTo (number + 1) changed edits other → WritesTheSame one other)
         → (answer : Result SystemModel Refusal) → OrRefused number answer (λ changed. ApplyTo (number + 1) changed edits one) one
-        → OrRefused number answer (λ changed. ApplyTo (number + 1) changed edits other) other → MigratesTheSame one other
+        → OrRefused number answer (λ changed. ApplyTo (number + 1) changed edits other) other → WritesTheSame one other
     by_edit rest (Ok changed) h k = rest changed h k
     by_edit rest (Err refusal) h k = inl (h ∙ sym k)
 
-pub applied_alike : (model : SystemModel) → IsValid model → AreNamed model → (text : List ℕ) (one other : Outcome) → IsOfApply model text one → IsOfApply model text other → MigratesTheSame one other
+pub applied_alike : (model : SystemModel) → IsValid model → AreNamed model → (text : List ℕ) (one other : Outcome) → IsOfApply model text one → IsOfApply model text other → WritesTheSame one other
 applied_alike model valid named text one other (inl first) (inl second) =
     same_each 2 model second.edits one other
     (each_of_applied model second.edits one (subst (λ edits. AreApplied model edits one) (edits_unique text first.edits second.edits first.are second.are) first.applied_to))

@@ -10,9 +10,8 @@ use Rattle.cl_edit.specs.declared.edit.Edit.TheVariants.{Report}
 use Rattle.cl_edit.specs.Edited.{edited}
 use Rattle.cl_edit.specs.Reading.{AreEditsOf}
 use Rattle.cl_incr.specs.Changed.{AsksForChanges}
-use Rattle.cl_top.specs.declared.outcome.Outcome.{Outcome}
-use Rattle.cl_top.specs.declared.status.TheConstants.{DONE}
-use Rattle.cl_top.specs.Commands.Edit.{edits_refused, behind, IsWrittenBy, AreAccepted, EndsDone, EndsRefused, AreEditedTo}
+use Rattle.cl_engine.specs.declared.status.TheConstants.{DONE}
+use Rattle.cl_top.specs.Commands.Edit.{edits_refused, behind, IsWrittenBy, AreAccepted, AreEditedTo}
 use Rattle.cl_top.specs.Inner.Edits.{IsMade, HasAsked, HaveAsked}
 use Rattle.cl_top.specs.Steps.{AsksThen, AskForChanges, AreFewOfEdits}
 use Rattle.cl_top.proofs.Accepted.{none_accepted, one_more_accepted}
@@ -135,12 +134,12 @@ module _ (edits : List Edit) (first : SystemModel) (before : ℕ) (place : ℕ) 
 
 -- ---- the whole
 
-pub few_of_text : (model : SystemModel) (text : List ℕ) (edits : List Edit) (before after : ℕ) → AreEditsOf text edits → HaveAsked edits model before after → AreFewOfEdits (Ok model) text before after
+pub few_of_text : (model : SystemModel) (text : List ℕ) (edits : List Edit) (before after : ℕ) → AreEditsOf text edits → HaveAsked edits model before after → AreFewOfEdits model text before after
 few_of_text model text edits before after are asked = record {
   started = asked.started;
   start = asked.start;
-  rest = inr (record { model = model; is_read = refl; edits = edits; are = are; ask = asked.ask });
+  rest = inr (record { edits = edits; are = are; ask = asked.ask });
 }
 
-pub few_of_none : (read : Result SystemModel Refusal) (text : List ℕ) (steps : ℕ) → AreFewOfEdits read text steps steps
-few_of_none read text steps = record { started = steps; start = omega arith; rest = inl (omega arith) }
+pub few_of_none : (model : SystemModel) (text : List ℕ) (steps : ℕ) → AreFewOfEdits model text steps steps
+few_of_none model text steps = record { started = steps; start = omega arith; rest = inl (omega arith) }

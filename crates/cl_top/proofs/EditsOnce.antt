@@ -17,13 +17,12 @@ use Rattle.cl_edit.specs.Reading.{AreEditsOf, IsBadEditLine}
 use Rattle.cl_edit.proofs.EditedValid.{edited_valid}
 use Rattle.cl_edit.proofs.OneAnswer.{edits_unique, bad_lines_unique, never_both}
 use Rattle.cl_edit.proofs.SomeAnswer.{some_answer}
-use Rattle.cl_report.specs.Report.{IsReportOf}
 use Rattle.cl_report.proofs.OneReport.{one_report}
-use Rattle.cl_top.specs.declared.outcome.Outcome.{Outcome}
-use Rattle.cl_top.specs.declared.status.TheConstants.{DONE}
+use Rattle.cl_engine.specs.declared.outcome.Outcome.{Outcome}
+use Rattle.cl_engine.specs.declared.status.TheConstants.{DONE}
 use Rattle.cl_top.specs.Commands.Edit.{edits_refused, behind, IsWrittenBy, AreAccepted, EndsDone, EndsRefused, AreEditedTo, IsOfEdits}
 use Rattle.cl_top.proofs.Accepted.{none_accepted, one_more_accepted, never_accepted, made_once, pieces_once}
-use Rattle.cl_top.proofs.ModelAnswers.{some_report}
+use Rattle.cl_top.proofs.SafeReport.{some_report}
 
 -- ---- what an edit has written
 

@@ -1,5 +1,5 @@
 -- Edits that are read one at a time: what those that are left come to.
-use Rattle.std.proofs.Common.{◌≡◌, ℕ, ◌+◌, ◌<◌, ◌≤◌, List, [], ◌∷◌, ◌++◌, length, Option, Some, None, Result, Ok, Err, refl, sym, ap, ◌∙◌, subst, arith}
+use Rattle.std.proofs.Common.{◌≡◌, ℕ, ◌+◌, ◌<◌, ◌≤◌, List, ◌++◌, length, Some, None, Result, Ok, Err, refl, sym, ap, ◌∙◌, subst, arith}
 use Rattle.std.specs.Prelude.{All}
 use Rattle.std.proofs.lemmas.List.Elements.{All-head, All-tail}
 use Rattle.cl_model.specs.declared.model.SystemModel.{SystemModel}
@@ -8,14 +8,14 @@ use Rattle.cl_edit.specs.declared.edit.Edit.{Edit}
 use Rattle.cl_edit.specs.declared.limits.TheConstants.{MOST_EDITS}
 use Rattle.cl_edit.specs.Edited.{edited}
 use Rattle.cl_edit.specs.Lines.{edit_line, edit_lines}
-use Rattle.cl_edit.specs.Listed.{ListsSome, IsFirstOf, GivesNext}
+use Rattle.cl_edit.specs.Listed.{ListsSome, GivesNext}
 use Rattle.cl_edit.specs.Ranges.{IsEditInRange}
 use Rattle.cl_edit.specs.Reading.{IsLineEdit}
 use Rattle.cl_edit.proofs.Listings.{line_shortens}
 use Rattle.cl_write.specs.Texts.{IsTextOf}
-use Rattle.cl_top.specs.declared.outcome.Outcome.{Outcome}
+use Rattle.cl_engine.specs.declared.outcome.Outcome.{Outcome}
 use Rattle.cl_top.specs.Commands.Edit.{edits_refused}
-use Rattle.cl_top.specs.Done.{IsDone}
+use Rattle.cl_engine.specs.Done.{IsDone}
 use Rattle.cl_top.specs.Inner.Applying.{OrRefused, ApplyTo, LinesApplyTo}
 
 -- the edit that is read of lines is in range

@@ -11,7 +11,7 @@ use Rattle.cl_edit.specs.Edited.{edited}
 use Rattle.cl_edit.specs.Lines.{edit_lines}
 use Rattle.cl_edit.specs.Listed.{ListsSome, OfLines, GivesNext}
 use Rattle.cl_edit.specs.Reading.{IsLineEdit}
-use Rattle.cl_top.specs.declared.status.TheConstants.{DONE}
+use Rattle.cl_engine.specs.declared.status.TheConstants.{DONE}
 use Rattle.cl_top.specs.Commands.Edit.{edits_refused, behind, AreEditedTo}
 use Rattle.cl_top.specs.Inner.Edits.{IsMade, HasAsked, LinesEditTo}
 use Rattle.cl_top.specs.Steps.{AskForChanges}

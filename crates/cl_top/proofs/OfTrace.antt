@@ -1,6 +1,9 @@
 -- What the text of a trace comes to, by what comes of a legal run.
 use Rattle.std.proofs.Common.{◌≡◌, ℕ, ◌≤◌, inl, inr, List, Some, [], length, get_or, None, sym, ap, ◌∙◌, subst, arith}
+use Rattle.std.specs.Prelude.{Result, IfOk}
 use Rattle.std.specs.List.{slice_get}
+use Rattle.std.proofs.lemmas.Result.{IfOk-weaker}
+use Rattle.cl_time.specs.declared.no_memory.NoMemory.{NoMemory}
 use Rattle.std.proofs.Math.ListN.{length-map}
 use Rattle.std.proofs.lemmas.List.{get_or_past}
 use Rattle.std.proofs.lemmas.Option.{slice_get_cases}
@@ -13,12 +16,13 @@ use Rattle.cl_runs.specs.Legal.{IsLegal}
 use Rattle.cl_runs.specs.Run.{Run}
 use Rattle.cl_runs.specs.SystemOf.{system_of}
 use Rattle.cl_trace.specs.Rules.{IsTraceOf}
-use Rattle.cl_top.specs.declared.outcome.Outcome.{Outcome}
+use Rattle.cl_engine.specs.declared.outcome.Outcome.{Outcome}
+use Rattle.cl_engine.specs.declared.status.TheConstants.{DONE}
 use Rattle.cl_top.specs.declared.commands.legal_run.LegalRun.{LegalRun}
 use Rattle.cl_top.specs.declared.commands.legal_run.LegalRun.TheVariants as legal_run
 use Rattle.cl_top.specs.Inner.LegalRuns.{NothingOf, IsCheckedAs, IsTracedAs}
-use Rattle.cl_top.specs.OfTrace.{IsOfTrace}
-use Rattle.cl_top.proofs.Comings.{IsOfContent}
+use Rattle.cl_top.specs.OfTrace.{IsOfLegal, IsOfTrace}
+use Rattle.cl_engine.specs.Language.{IsOfContent}
 
 six_content : (found : Outcome) → found.status ≡ 6 → IsOfContent found.status
 six_content found six = inr (inl (omega (arith, six), omega (arith, six)))
@@ -32,6 +36,14 @@ module _ (model : SystemModel) (next : Run → Outcome → Type 0) where
     | inr illegal ↦ six_content found (ap (λ (o : Outcome). o.status) illegal.printed)
   ]
   traced_content content text found (inr bad) = six_content found (ap (λ (o : Outcome). o.status) bad.printed)
+
+  -- the legal run of a text, where the command did what it says
+  pub done_trace : (text : List ℕ) (found : Outcome) → found.status ≡ DONE → IsOfTrace model next text found → (run : Run) × IsTraceOf model text run × IsOfLegal model next run found
+  done_trace text found done (inl traced) = elim traced.of_run [
+    | inl legal ↦ (traced.run, traced.trace, legal)
+    | inr illegal ↦ absurd (omega (arith, done, ap (λ (o : Outcome). o.status) illegal.printed))
+  ]
+  done_trace text found done (inr bad) = absurd (omega (arith, done, ap (λ (o : Outcome). o.status) bad.printed))
 
   by_legal : (text : List ℕ) (run : Run) → IsTraceOf model text run × IsLegal (system_of model) run → (found : Outcome) → next run found → IsOfTrace model next text found
   by_legal text run (trace, legal) found is = inl (record { run = run; trace = trace; of_run = inl (record { legal = legal; outcome = is }) })
@@ -47,6 +59,9 @@ module _ (model : SystemModel) (next : Run → Outcome → Type 0) where
     -- what comes of the legal run of a text is the outcome of the text
     pub legal_follows : (run : Run) → given ≡ legal_run.Legal run → (found : Outcome) → next run found → IsOfTrace model next text found
     legal_follows run is found comes = by_legal text run (subst (IsTracedAs model text) is traced) found comes
+
+    pub legal_answer : (run : Run) → given ≡ legal_run.Legal run → (answer : Result Outcome NoMemory) → IfOk answer (next run) → IfOk answer (IsOfTrace model next text)
+    legal_answer run is answer comes = IfOk-weaker answer (next run) (IsOfTrace model next text) (legal_follows run is) comes
 
     -- and so is what stands in its place
     pub stop_follows : (found : Outcome) → given ≡ legal_run.Stopped found → IsOfTrace model next text found

@@ -12,29 +12,33 @@ use Rattle.cl_edit.specs.Edited.{edited, after_from, after}
 use Rattle.cl_edit.specs.Ranges.{IsEditInRange}
 use Rattle.cl_edit.proofs.EditedValid.{edited_valid}
 use Rattle.cl_report.specs.Report.{IsReportOf}
-use Rattle.cl_top.specs.declared.command.OfModel.TheVariants.{Analyse}
-use Rattle.cl_top.specs.declared.opening.TheConstants.{FILE_LIMIT}
-use Rattle.cl_top.specs.declared.outcome.Outcome.{Outcome}
-use Rattle.cl_top.specs.declared.status.TheConstants.{DONE}
+use Rattle.cl_top.specs.declared.command.Command.TheVariants.{Analyse}
+use Rattle.cl_engine.specs.declared.files.TheConstants.{FILE_LIMIT}
+use Rattle.cl_engine.specs.declared.outcome.Outcome.{Outcome}
+use Rattle.cl_engine.specs.declared.status.TheConstants.{DONE}
 use Rattle.cl_top.specs.Commands.Edit.{IsWrittenBy, AreAccepted}
-use Rattle.cl_top.specs.Files.{Fetched}
-use Rattle.cl_top.specs.OfModel.{IsAnswer}
-use Rattle.cl_top.specs.Outcome.{ValidatesTo, ReadsTo, OpensTo}
+use Rattle.cl_engine.specs.Fetched.{Fetched}
+use Rattle.cl_engine.specs.Content.{Model}
+use Rattle.cl_top.specs.Commands.{meaning_of, IsOutcomeOf}
+use Rattle.cl_engine.specs.Outcome.{ValidatesTo, ReadsTo, OpensTo}
 use Rattle.cl_top.specs.Reported.{IsAnalysisOf, IsAnalysisAfter}
 use Rattle.cl_top.proofs.Accepted.{model_or}
-use Rattle.cl_top.proofs.Tellings.{told_bytes}
+use Rattle.cl_engine.proofs.Tellings.{told_bytes}
 
 -- ---- a report of a valid model is what `analyse` writes
 
-valid_opens : (model : SystemModel) (report : List ℕ) (refusal : Option Refusal) → refusal ≡ None → IsReportOf model report → ValidatesTo model refusal (IsAnswer Analyse) (record { status = DONE; text = report })
+valid_opens : (model : SystemModel) (report : List ℕ) (refusal : Option Refusal) → refusal ≡ None → IsReportOf model report
+    → ValidatesTo model refusal (λ m. IsOutcomeOf Analyse (Model m)) (record { status = DONE; text = report })
+unfolding meaning_of
 valid_opens model report None none is = record { status_is = refl; text_is = is }
 valid_opens model report (Some refusal) none is = absurd cc
 
 pub is_analysis : (model : SystemModel) (report : List ℕ) → IsValid model → IsReportOf model report → IsAnalysisOf model report
 is_analysis model report valid is = λ contents means within.
     let found : Outcome = record { status = DONE; text = report } in
-    subst (λ (fetch : Fetched). OpensTo 1 fetch (λ bytes. ReadsTo (model_of bytes) (IsAnswer Analyse)) found) (sym (told_bytes FILE_LIMIT (contents 1) within))
-    (subst (λ read. ReadsTo read (IsAnswer Analyse) found) (sym means) (valid_opens model report (refusal_of model) (ap first valid.accepted) is))
+    let next : SystemModel → Outcome → Type 0 = λ m. IsOutcomeOf Analyse (Model m) in
+    subst (λ (fetch : Fetched). OpensTo 1 fetch (λ bytes. ReadsTo (model_of bytes) next) found) (sym (told_bytes FILE_LIMIT (contents 1) within))
+    (subst (λ read. ReadsTo read next found) (sym means) (valid_opens model report (refusal_of model) (ap first valid.accepted) is))
 
 -- ---- the model after edits
 

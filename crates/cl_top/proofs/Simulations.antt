@@ -2,7 +2,6 @@
 use Rattle.std.proofs.Common.{◌≡◌, ℕ, ◌≤◌, inl, inr, refl, sym, ap, ◌∙◌, arith}
 use Rattle.std.proofs.lemmas.Bool.{cases_lt}
 use Rattle.cl_model.specs.declared.model.SystemModel.{SystemModel}
-use Rattle.cl_model.specs.Refusals.{first}
 use Rattle.cl_model.specs.Validity.{IsValid}
 use Rattle.cl_runs.specs.Run.{Run}
 use Rattle.cl_runs.specs.SystemOf.{system_of}
@@ -14,7 +13,7 @@ use Rattle.cl_gen.specs.declared.limits.TheConstants.{MOST_EXECUTIONS}
 use Rattle.cl_gen.specs.Count.{execution_count}
 use Rattle.cl_gen.specs.Drawn.{drawn}
 use Rattle.cl_gen.proofs.LawfulTables.{table_lawful}
-use Rattle.cl_top.specs.declared.outcome.Outcome.{Outcome}
+use Rattle.cl_engine.specs.declared.outcome.Outcome.{Outcome}
 use Rattle.cl_top.specs.Commands.Simulate.{simulation_refused, traced, IsSimulated}
 
 -- a model that is read and not refused is valid

@@ -1,10 +1,10 @@
 -- What is simulated can be replayed.
-use Rattle.std.proofs.Common.{◌≡◌, ℕ, ◌≤◌, inl, inr, List, Some, None, Ok, sym, ap, subst, ◌∙◌, arith, length}
+use Rattle.std.proofs.Common.{◌≡◌, ℕ, ◌≤◌, inl, inr, List, Some, sym, ap, subst, ◌∙◌, arith, length}
 use Rattle.std.proofs.lemmas.Bool.{cases_lt}
 use Rattle.cl_model.specs.declared.model.SystemModel.{SystemModel}
 use Rattle.cl_model.specs.AreNamed.{AreNamed}
 use Rattle.cl_model.specs.Reading.{model_of}
-use Rattle.cl_model.specs.Validity.{refusal_of, IsValid}
+use Rattle.cl_model.specs.Validity.{IsValid}
 use Rattle.cl_model.proofs.ReadModels.{read_named}
 use Rattle.cl_runs.specs.Legal.{IsLegal}
 use Rattle.cl_runs.specs.Run.{Run}
@@ -16,28 +16,31 @@ use Rattle.cl_trace.specs.Trace.{spelled}
 use Rattle.cl_trace.proofs.LegalTraces.{legal_trace}
 use Rattle.cl_trace.proofs.OneTrace.{one_run, no_bad_line}
 use Rattle.cl_trace.proofs.ShortTraces.{short_trace}
-use Rattle.cl_top.specs.declared.opening.TheConstants.{TRACE_LIMIT}
+use Rattle.cl_top.specs.declared.command.TheConstants.{TRACE_LIMIT}
 use Rattle.cl_top.specs.declared.command.Command.TheVariants.{Replay}
-use Rattle.cl_top.specs.declared.outcome.Outcome.{Outcome}
-use Rattle.cl_top.specs.declared.status.TheConstants.{DONE}
-use Rattle.cl_top.specs.Command.{model_file, trace_file}
+use Rattle.cl_engine.specs.declared.outcome.Outcome.{Outcome}
+use Rattle.cl_engine.specs.declared.status.TheConstants.{DONE}
+use Rattle.cl_top.specs.Commands.{meaning_of, commands}
 use Rattle.cl_top.specs.Commands.Replay.{IsReplayed, IsOfReplay}
 use Rattle.cl_top.specs.Commands.Simulate.{IsSimulated, IsTraced}
-use Rattle.cl_top.specs.Files.{Fetched, Bytes, told_fetch}
+use Rattle.cl_engine.specs.Fetched.{Fetched, Bytes, told_fetch}
 use Rattle.cl_top.specs.OfTrace.{IsOfRun}
-use Rattle.cl_top.specs.Outcome.{ValidatesTo, ReadsTo, OpensTo, OpensFile, HasOutcome}
+use Rattle.cl_engine.specs.Content.{MeansModel}
+use Rattle.cl_engine.specs.Files.{model_file, second_file}
+use Rattle.cl_engine.specs.Outcome.{ValidatesTo, ReadsTo, OpensTo, HasOutcome}
 use Rattle.cl_top.specs.Simulated.{IsSimulatedFile}
 use Rattle.cl_top.proofs.CountedExecutions.{table_counted}
-use Rattle.cl_top.proofs.Openings.{OpenedAs, Reaches, opened_cases, valid_read}
+use Rattle.cl_engine.proofs.Openings.{valid_read}
+use Rattle.cl_engine.proofs.Outcomes.{done_model}
 use Rattle.cl_top.proofs.AnswersOfRuns.{breaks_none}
-use Rattle.cl_top.proofs.Tellings.{told_bytes}
+use Rattle.cl_engine.proofs.Tellings.{told_bytes}
 
--- what comes next of a file whose bytes are read as a model that isn't refused
+-- what comes next of a file whose bytes mean a model
 next_of : (next : SystemModel → Outcome → Type 0) (found : Outcome) (fetch : Fetched) (bytes : List ℕ) (model : SystemModel) → fetch ≡ Bytes bytes
-    → model_of bytes ≡ Ok model → refusal_of model ≡ None → OpensTo 1 fetch (λ bytes. ReadsTo (model_of bytes) next) found → next model found
-next_of next found fetch bytes model gave means none opens =
-    subst (λ refusal. ValidatesTo model refusal next found) none
-    (subst (λ read. ReadsTo read next found) means
+    → MeansModel bytes model → OpensTo 1 fetch (λ bytes. ReadsTo (model_of bytes) next) found → next model found
+next_of next found fetch bytes model gave is opens =
+    subst (λ refusal. ValidatesTo model refusal next found) is.unrefused
+    (subst (λ read. ReadsTo read next found) is.means
     (subst (λ (f : Fetched). OpensTo 1 f (λ bytes. ReadsTo (model_of bytes) next) found) gave opens))
 
 module _ (model : SystemModel) (valid : IsValid model) (named : AreNamed model) (run : Run) (legal : IsLegal (system_of model) run) (few : run.table.ticks ≤ MOST_RUN_TICKS) where
@@ -55,18 +58,17 @@ module _ (model : SystemModel) (valid : IsValid model) (named : AreNamed model) 
       replayed_run found (subst (λ r. IsOfRun model (IsReplayed model) r found) (one_run model valid named (spelled model run) has.run run has.trace (legal_trace model valid run legal few)) has.of_run)
   replayed found (inr bad) = absurd (no_bad_line model valid named (spelled model run) run bad.number (legal_trace model valid run legal few) bad.bad)
 
-module _ (contents : ℕ → List ℕ) (ticks seed : ℕ) (found : Outcome) (file : IsSimulatedFile contents ticks seed) (replays : HasOutcome (Some Replay) (told_fetch contents) found) where
-  module _ (reached : Reaches (told_fetch contents (model_file 1)) (IsSimulated ticks seed) file.outcome) where
+module _ (contents : ℕ → List ℕ) (ticks seed : ℕ) (found : Outcome) (file : IsSimulatedFile contents ticks seed) (replays : HasOutcome commands (Some Replay) (told_fetch contents) found) where
+  module _ (bytes : List ℕ) (model : SystemModel) (gave : told_fetch contents model_file ≡ Bytes bytes) (means : MeansModel bytes model) (comes : IsSimulated ticks seed model file.outcome) where
     -- the trace file, opened
-    opened : OpensFile (trace_file 2) (told_fetch contents) (IsOfReplay reached.model) found
-    opened = next_of (λ model. OpensFile (trace_file 2) (told_fetch contents) (IsOfReplay model)) found (told_fetch contents (model_file 1)) reached.bytes reached.model
-        reached.gave reached.means reached.unrefused replays
+    opened : OpensTo 2 (told_fetch contents (second_file TRACE_LIMIT)) (IsOfReplay model) found
+    unfolding meaning_of
+    opened = next_of (λ m. OpensTo 2 (told_fetch contents (second_file TRACE_LIMIT)) (IsOfReplay m)) found (told_fetch contents model_file) bytes model gave means replays
 
-    of_trace : IsTraced ticks seed reached.model file.outcome → execution_count reached.model ticks ≤ MOST_EXECUTIONS → found.status ≡ DONE
+    of_trace : IsTraced ticks seed model file.outcome → execution_count model ticks ≤ MOST_EXECUTIONS → found.status ≡ DONE
     of_trace is counted =
-        let model = reached.model in
-        let valid : IsValid model = valid_read reached.bytes model reached.means reached.unrefused in
-        let named : AreNamed model = read_named reached.bytes model reached.means in
+        let valid : IsValid model = valid_read bytes model means in
+        let named : AreNamed model = read_named bytes model means.means in
         let same : is.run.table.ticks ≡ ticks = ap (λ table. table.ticks) is.table ∙ table_ticks model ticks seed in
         let few : is.run.table.ticks ≤ MOST_RUN_TICKS = subst (λ t. t ≤ MOST_RUN_TICKS) (sym same) file.few in
         let holds : contents 2 ≡ spelled model is.run = file.holds ∙ ap (λ (o : Outcome). o.text) is.printed in
@@ -76,16 +78,13 @@ module _ (contents : ℕ → List ℕ) (ticks seed : ℕ) (found : Outcome) (fil
         replayed model valid named is.run is.legal few found (subst (λ (text : List ℕ). IsOfReplay model text found) holds told)
 
     of_model : found.status ≡ DONE
-    of_model = elim (cases_lt MOST_EXECUTIONS (execution_count reached.model ticks)) [
-      | inl many ↦ absurd (omega (arith, file.done, ap (λ (o : Outcome). o.status) (reached.comes_next.refused many)))
-      | inr counted ↦ of_trace (reached.comes_next.simulated counted) counted
+    of_model = elim (cases_lt MOST_EXECUTIONS (execution_count model ticks)) [
+      | inl many ↦ absurd (omega (arith, file.done, ap (λ (o : Outcome). o.status) (comes.refused many)))
+      | inr counted ↦ of_trace (comes.simulated counted) counted
     ]
 
   pub simulation_replayed : found.status ≡ DONE
-  simulation_replayed = by_cases (opened_cases (IsSimulated ticks seed) file.outcome 1 (told_fetch contents (model_file 1)) file.comes)
-    where
-      by_cases : OpenedAs (IsSimulated ticks seed) file.outcome 1 (told_fetch contents (model_file 1)) → found.status ≡ DONE
-      by_cases (inl (is, fault)) = absurd (omega (arith, file.done, ap (λ (o : Outcome). o.status) fault))
-      by_cases (inr (inl (is, long))) = absurd (omega (arith, file.done, ap (λ (o : Outcome). o.status) long))
-      by_cases (inr (inr (inl (refusal, refused)))) = absurd (omega (arith, file.done, ap (λ (o : Outcome). o.status) refused))
-      by_cases (inr (inr (inr reached))) = of_model reached
+  unfolding meaning_of
+  simulation_replayed =
+      let (bytes, gave, (model, means, comes)) = done_model file.outcome file.done (told_fetch contents model_file) (IsSimulated ticks seed) file.comes in
+      of_model bytes model gave means comes

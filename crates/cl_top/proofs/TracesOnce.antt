@@ -1,12 +1,8 @@
 -- The text of a trace has one outcome, where each legal run has.
 use Rattle.std.proofs.Common.{◌≡◌, ℕ, inl, inr, List, ◌⊎◌, refl, sym, ap, ◌∙◌, subst}
-use Rattle.cl_draw.specs.Picture.{IsPictureOf}
-use Rattle.cl_draw.proofs.SomePicture.{some_picture}
 use Rattle.cl_model.specs.AreNamed.{AreNamed}
 use Rattle.cl_model.specs.declared.model.SystemModel.{SystemModel}
 use Rattle.cl_model.specs.Validity.{IsValid}
-use Rattle.cl_replay.specs.Replay.{IsReplayOf}
-use Rattle.cl_replay.proofs.SomeReplay.{some_replay}
 use Rattle.cl_runs.specs.Legal.{IsLegal}
 use Rattle.cl_runs.specs.Run.{Run}
 use Rattle.cl_runs.specs.SystemOf.{system_of}
@@ -15,14 +11,10 @@ use Rattle.cl_trace.specs.Rules.{IsTraceOf}
 use Rattle.cl_trace.proofs.OneReading.{bad_once}
 use Rattle.cl_trace.proofs.OneTrace.{one_run, no_bad_line}
 use Rattle.cl_trace.proofs.SomeAnswer.{HasAnswer, some_answer}
-use Rattle.cl_top.specs.declared.outcome.Outcome.{Outcome}
-use Rattle.cl_top.specs.Commands.Draw.{LiesWithin, window_refused, IsDrawn, IsOfDraw}
-use Rattle.cl_top.specs.Commands.Replay.{IsReplayed, IsOfReplay}
+use Rattle.cl_engine.specs.declared.outcome.Outcome.{Outcome}
 use Rattle.cl_top.specs.OfTrace.{trace_refused, trace_illegal, IsOfRun, IsOfTrace}
-use Rattle.cl_top.proofs.AnswersOfRuns.{of_run_once, replayed_once, drawn_once}
+use Rattle.cl_top.proofs.AnswersOfRuns.{of_run_once}
 use Rattle.cl_top.proofs.LegalOrBroken.{IsBroken, legal_or_broken}
-use Rattle.cl_top.proofs.ModelAnswers.{done_some}
-use Rattle.cl_top.proofs.OfDraw.{window_or_none}
 
 module _ (model : SystemModel) (valid : IsValid model) (next : Run → Outcome → Type 0) where
   -- ---- there is one
@@ -42,7 +34,7 @@ module _ (model : SystemModel) (valid : IsValid model) (next : Run → Outcome �
         )
 
     -- a text is the trace of a run, or has a first bad line
-    trace_some : AreNamed model → (text : List ℕ) → (found : Outcome) × IsOfTrace model next text found
+    pub trace_some : AreNamed model → (text : List ℕ) → (found : Outcome) × IsOfTrace model next text found
     trace_some named text = by_answer (some_answer model valid named text)
       where
         by_answer : HasAnswer model text → (found : Outcome) × IsOfTrace model next text found
@@ -51,7 +43,7 @@ module _ (model : SystemModel) (valid : IsValid model) (next : Run → Outcome �
 
   -- ---- there is but one
 
-  one_traced : ((run : Run) → IsLegal (system_of model) run → (one other : Outcome) → next run one → next run other → one ≡ other)
+  pub one_traced : ((run : Run) → IsLegal (system_of model) run → (one other : Outcome) → next run one → next run other → one ≡ other)
       → AreNamed model → (text : List ℕ) (one other : Outcome) → IsOfTrace model next text one → IsOfTrace model next text other → one ≡ other
   one_traced once named text one other (inl first) (inl second) = of_run_once model second.run next (once second.run) one other
       (subst (λ run. IsOfRun model next run one) (one_run model valid named text first.run second.run first.trace second.trace) first.of_run) second.of_run
@@ -59,34 +51,3 @@ module _ (model : SystemModel) (valid : IsValid model) (next : Run → Outcome �
   one_traced once named text one other (inr first) (inl second) = absurd (no_bad_line model valid named text second.run first.number second.trace first.bad)
   one_traced once named text one other (inr first) (inr second) =
       first.printed ∙ ap trace_refused (bad_once model valid named text first.number second.number first.bad second.bad) ∙ sym second.printed
-
--- ---- `replay`
-
-module _ (model : SystemModel) (valid : IsValid model) (named : AreNamed model) (text : List ℕ) where
-  some_replayed : (run : Run) → IsLegal (system_of model) run → (found : Outcome) × IsReplayed model run found
-  some_replayed run legal = let replay = some_replay model valid run in done_some (IsReplayOf model run) replay.0 replay.1
-
-  pub replay_some : (found : Outcome) × IsOfReplay model text found
-  replay_some = trace_some model valid (IsReplayed model) some_replayed named text
-
-  pub replay_once : (one other : Outcome) → IsOfReplay model text one → IsOfReplay model text other → one ≡ other
-  replay_once one other is also = one_traced model valid (IsReplayed model) (λ run. replayed_once model run) named text one other is also
-
--- ---- `draw`
-
-module _ (from to : ℕ) (model : SystemModel) (valid : IsValid model) (named : AreNamed model) (text : List ℕ) where
-  some_drawn : (run : Run) → IsLegal (system_of model) run → (found : Outcome) × IsDrawn from to model run found
-  some_drawn run legal = by_window (window_or_none from to run.table.ticks)
-    where
-      by_window : LiesWithin from to run.table.ticks ⊎ (LiesWithin from to run.table.ticks → ⊥) → (found : Outcome) × IsDrawn from to model run found
-      by_window (inl window) =
-          let picture = some_picture model valid run legal from to in
-          let done = done_some (IsPictureOf model run from to) picture.0 picture.1 in
-          (done.0, inl (record { window = window; outcome = done.1 }))
-      by_window (inr outside) = (window_refused from to run.table.ticks, inr (record { outside = outside; printed = refl }))
-
-  pub draw_some : (found : Outcome) × IsOfDraw from to model text found
-  draw_some = trace_some model valid (IsDrawn from to model) some_drawn named text
-
-  pub draw_once : (one other : Outcome) → IsOfDraw from to model text one → IsOfDraw from to model text other → one ≡ other
-  draw_once one other is also = one_traced model valid (IsDrawn from to model) (λ run. drawn_once model run from to valid) named text one other is also

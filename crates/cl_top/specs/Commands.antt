@@ -1,8 +1,105 @@
--- What a command with words, rules or files of its own comes to, once its files are open.
+-- What each command comes to, the steps that it takes, and what is promised of its text.
 pub mod Simulate
 pub mod Replay
 pub mod Draw
 pub mod Edit
 pub mod Apply
 pub mod Check
-pub mod Help
+use Rattle.std.specs.Prelude.{◌≡◌, ℕ, ◌+◌, ◌≤◌, List, Option, Some, None}
+use Rattle.cl_model.specs.declared.model.SystemModel.{SystemModel}
+use Rattle.cl_runs.specs.Requirements.{IsInTime}
+use Rattle.cl_runs.specs.Run.{Run}
+use Rattle.cl_gen.specs.Generated.{generated}
+use Rattle.cl_tight.specs.TightFindings.{tight_findings_of}
+use Rattle.cl_write.specs.Texts.{IsTextOf}
+use Rattle.cl_report.specs.Report.{IsReportOf}
+use Rattle.cl_report.specs.Survey.{IsSurveyOf}
+use Rattle.cl_report.specs.Tight.{tight_text, verify_text}
+use Rattle.cl_explain.specs.Explanation.{explanation}
+use Rattle.cl_designs.specs.Cuts.{IsCutTextOf}
+use Rattle.cl_designs.specs.Orders.{IsOrderTextOf}
+use Rattle.cl_designs.specs.Headroom.{IsHeadroomTextOf}
+use Rattle.cl_engine.specs.declared.outcome.Outcome.{Outcome}
+use Rattle.cl_engine.specs.Content.{Content}
+use Rattle.cl_engine.specs.Done.{HasStatusAndText, IsDone}
+use Rattle.cl_engine.specs.Language.{Language}
+use Rattle.cl_top.specs.declared.command.Command.{Command}
+use Rattle.cl_top.specs.declared.command.Command.TheVariants as command
+use Rattle.cl_top.specs.declared.commands.help.TheConstants.{HELP, VERSION}
+use Rattle.cl_top.specs.Command.{command_of, files_read}
+use Rattle.cl_top.specs.Commands.Apply.{applying}
+use Rattle.cl_top.specs.Commands.Check.{checking}
+use Rattle.cl_top.specs.Commands.Draw.{drawing, IsDrawn}
+use Rattle.cl_top.specs.Commands.Edit.{editing}
+use Rattle.cl_top.specs.Commands.Replay.{replaying, IsReplayed}
+use Rattle.cl_top.specs.Commands.Simulate.{simulating}
+use Rattle.cl_top.specs.Headline.{IsSafeReportOf, AreSafeCuts, IsSafeTightReport}
+use Rattle.cl_top.specs.Meaning.{Meaning, printing, on_nothing, on_model, no_step, any_steps, at_most, model_steps, task_steps, entry_steps, no_promise, promises, equal, WritesTheSame}
+use Rattle.cl_top.specs.Verified.{verify_status}
+
+-- a command without a file that writes this text
+abbrev pub saying : (text : List ℕ) → Meaning
+saying text = record {
+  comes_to = on_nothing (IsDone (λ written. written ≡ text));
+  takes = no_step;
+  safe = no_promise;
+  same = equal;
+}
+
+unfoldable pub meaning_of : Command → Meaning
+meaning_of command.Analyse = printing IsReportOf (at_most model_steps) (promises IsSafeReportOf)
+meaning_of command.Migrate = record { comes_to = on_model (λ model. IsDone (IsTextOf model)); takes = no_step; safe = no_promise; same = WritesTheSame }
+meaning_of command.Cut = printing IsCutTextOf any_steps (promises AreSafeCuts)
+meaning_of command.Order = printing IsOrderTextOf any_steps no_promise
+meaning_of command.Headroom = printing IsHeadroomTextOf any_steps no_promise
+meaning_of command.Tighten = printing (λ model text. text ≡ tight_text model) (at_most task_steps) (promises IsSafeTightReport)
+meaning_of command.Verify = record {
+  comes_to = on_model (λ model. HasStatusAndText (verify_status model) (λ text. text ≡ verify_text model));
+  takes = at_most task_steps;
+  safe = promises (λ model text. IsInTime model);
+  same = equal;
+}
+meaning_of command.Explain = printing (λ model text. text ≡ explanation model) (at_most entry_steps) no_promise
+meaning_of (command.Simulate ticks seed) = simulating ticks seed
+meaning_of command.Replay = replaying
+meaning_of (command.Draw from to) = drawing from to
+meaning_of command.Edit = editing
+meaning_of command.Apply = applying
+meaning_of command.Check = checking
+meaning_of (command.Generate seed tasks) = record {
+  comes_to = on_nothing (IsDone (IsTextOf (generated seed tasks)));
+  takes = no_step;
+  safe = no_promise;
+  same = WritesTheSame;
+}
+meaning_of (command.Survey seed tasks) = record {
+  comes_to = on_nothing (IsDone (IsSurveyOf (generated seed tasks)));
+  takes = λ content before after. after ≤ before + model_steps (generated seed tasks);
+  safe = no_promise;
+  same = equal;
+}
+meaning_of command.Help = saying HELP.now
+meaning_of command.Version = saying VERSION.now
+
+-- what a command comes to, where its files hold this
+abbrev pub IsOutcomeOf : Command → Content → Outcome → Type 0
+IsOutcomeOf asked content found = (meaning_of asked).comes_to content found
+
+-- the steps before and after it
+abbrev pub TakesStepsOf : Command → Content → (before after : ℕ) → Type 0
+TakesStepsOf asked content before after = (meaning_of asked).takes content before after
+
+-- the commands of the program
+abbrev pub commands : Language Command
+commands = record { spelled = command_of; files = files_read; comes_to = IsOutcomeOf; takes = TakesStepsOf }
+
+-- Two outcomes of words that are this command say the same: they are equal, or what the command allows beside that.
+abbrev pub SaysTheSame : Option Command → (one other : Outcome) → Type 0
+SaysTheSame None one other = one ≡ other
+SaysTheSame (Some asked) one other = (meaning_of asked).same one other
+
+-- what comes of a legal run, of the commands on one
+abbrev pub of_run : Command → SystemModel → Run → Outcome → Type 0
+of_run command.Replay model run found = IsReplayed model run found
+of_run (command.Draw from to) model run found = IsDrawn from to model run found
+of_run asked model run found = ⊥

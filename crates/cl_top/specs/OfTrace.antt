@@ -13,8 +13,8 @@ use Rattle.cl_check.specs.declared.run_fault.Rule.TheVariants.{Arrival, Release,
 use Rattle.cl_check.specs.declared.run_fault.RunFault.TheVariants.{Illegal}
 use Rattle.cl_check.specs.Legality.{IsFirstBroken}
 use Rattle.cl_trace.specs.Rules.{IsTraceOf, IsBadTraceLine}
-use Rattle.cl_top.specs.declared.outcome.Outcome.{Outcome}
-use Rattle.cl_top.specs.declared.status.TheConstants.{TRACE_REFUSED}
+use Rattle.cl_engine.specs.declared.outcome.Outcome.{Outcome}
+use Rattle.cl_engine.specs.declared.status.TheConstants.{TRACE_REFUSED}
 
 -- ---- a trace without a run
 

@@ -2,15 +2,16 @@
 use Rattle.std.specs.Prelude.{◌≡◌, ℕ, ◌≤◌, List, Some}
 use Rattle.cl_gen.specs.declared.limits.TheConstants.{MOST_RUN_TICKS}
 use Rattle.cl_top.specs.declared.command.Command.TheVariants.{Simulate}
-use Rattle.cl_top.specs.declared.outcome.Outcome.{Outcome}
-use Rattle.cl_top.specs.declared.status.TheConstants.{DONE}
-use Rattle.cl_top.specs.Files.{told_fetch}
-use Rattle.cl_top.specs.Outcome.{HasOutcome}
+use Rattle.cl_engine.specs.declared.outcome.Outcome.{Outcome}
+use Rattle.cl_engine.specs.declared.status.TheConstants.{DONE}
+use Rattle.cl_engine.specs.Fetched.{told_fetch}
+use Rattle.cl_engine.specs.Outcome.{HasOutcome}
+use Rattle.cl_top.specs.Commands.{commands}
 
 -- the file of the second word holds the trace to which `simulate` comes at the file of the first
 pub record IsSimulatedFile (contents : ℕ → List ℕ) (ticks seed : ℕ) : Type 0 where
   pub few : ticks ≤ MOST_RUN_TICKS
   pub outcome : Outcome
-  pub comes : HasOutcome (Some (Simulate ticks seed)) (told_fetch contents) outcome
+  pub comes : HasOutcome commands (Some (Simulate ticks seed)) (told_fetch contents) outcome
   pub done : outcome.status ≡ DONE
   pub holds : contents 2 ≡ outcome.text

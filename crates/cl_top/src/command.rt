@@ -1,17 +1,21 @@
-ghost use Rattle.std.specs.Prelude.{◌≡◌, ◌<◌, ◌≤◌, drop, length};
-ghost use Rattle.cl_top.specs.Command.{of_model, of_words, number_upto, simulate_of, generation_of, draw_of, word, command_of, MOST_SEED};
-ghost use Rattle.cl_top.specs.OfModel.{of_verb};
+//! The commands: the words of each, and the files that it needs.
+ghost use Rattle.std.specs.Prelude.{◌≡◌};
+ghost use Rattle.cl_gen.specs.declared.limits.TheConstants.{MOST_RUN_TICKS};
+ghost use Rattle.cl_picture.specs.declared.window.TheConstants.{MOST_WINDOW};
+ghost use Rattle.cl_top.specs.Command.{files_read, upto, some_tasks, any_seed, whole, with_two_numbers, command_of};
 
-use crate::opening::word_at;
+use cl_engine::{Bounds, FILE_LIMIT, Files, two_numbers};
 use cl_gen::MOST_RUN_TICKS;
 use cl_io::Words;
 use cl_model::MOST_TASKS;
 use cl_picture::MOST_WINDOW;
-use cl_text::read_decimal;
 
-/// A command that names a model file and nothing else.
+/// The most bytes that a trace file may have.
+pub const TRACE_LIMIT: u64 = 268_435_456;
+
+/// What the words ask for.
 #[derive(Clone, Copy, Debug, PartialEq, Eq)]
-pub enum OfModel {
+pub enum Command {
     /// `analyse MODEL`: bound every chain of a model.
     Analyse,
     /// `migrate MODEL`: write a model as a file of version 2.
@@ -28,13 +32,6 @@ pub enum OfModel {
     Verify,
     /// `explain MODEL`: say what the responses and the bounds of a model are the sums of.
     Explain,
-}
-
-/// What the words ask for.
-#[derive(Clone, Copy, Debug, PartialEq, Eq)]
-pub enum Command {
-    /// A command that names a model file and nothing else.
-    OfModel(OfModel),
     /// `simulate MODEL TICKS SEED`: write the trace of a drawn run.
     Simulate { ticks: u64, seed: u64 },
     /// `replay MODEL TRACE`: measure every chain in the run of a trace.
@@ -57,121 +54,104 @@ pub enum Command {
     Version,
 }
 
-/// A model that is to be generated: by which seed, and of how many tasks.
-#[derive(Clone, Copy)]
-pub(crate) struct Generation {
-    seed: u64,
-    tasks: u64,
+/// The files that a command needs: a valid model, but for those that are named here.
+pub(crate) fn files_read(command: Command) -> Files
+    ensures { result ≡ files_read command }
+{
+    match command {
+        Command::Check => Files::Content,
+        Command::Replay | Command::Draw { .. } => Files::ModelAnd { limit: TRACE_LIMIT },
+        Command::Edit | Command::Apply => Files::ModelAnd { limit: FILE_LIMIT },
+        Command::Generate { .. } | Command::Survey { .. } | Command::Help | Command::Version =>
+            Files::Nothing,
+        _ => Files::Model,
+    }
+}
+
+/// A number of at most so much.
+const fn upto(most: u64) -> Bounds
+    ensures { result ≡ upto most }
+{
+    Bounds { least: 0, most }
+}
+
+/// A number of tasks.
+const fn some_tasks() -> Bounds
+    ensures { result ≡ some_tasks }
+{
+    Bounds {
+        least: 1,
+        most: MOST_TASKS as u64,
+    }
 }
 
 /// The command that the words spell. `None` exactly where they spell none. Takes no memory.
+#[tactic(auto, unfolding(crate::specs::Command::command_of))]
 pub(crate) fn read_command(words: &Words) -> Option<Command>
     ensures { result ≡ command_of words.now }
 {
     match words.at(0)? {
+        "analyse" => read_whole(words, Command::Analyse),
+        "migrate" => read_whole(words, Command::Migrate),
+        "cut" => read_whole(words, Command::Cut),
+        "order" => read_whole(words, Command::Order),
+        "headroom" => read_whole(words, Command::Headroom),
+        "tighten" => read_whole(words, Command::Tighten),
+        "verify" => read_whole(words, Command::Verify),
+        "explain" => read_whole(words, Command::Explain),
         "simulate" => read_simulate(words),
-        "replay" => read_words(words, 3, Command::Replay),
+        "replay" => read_whole(words, Command::Replay),
         "draw" => read_draw(words),
-        "edit" => read_words(words, 3, Command::Edit),
-        "apply" => read_words(words, 3, Command::Apply),
-        "generate" => {
-            let Generation { seed, tasks } = read_generation(words)?;
-            Some(Command::Generate { seed, tasks })
-        }
-        "survey" => {
-            let Generation { seed, tasks } = read_generation(words)?;
-            Some(Command::Survey { seed, tasks })
-        }
-        "check" => read_words(words, 2, Command::Check),
-        "help" | "--help" | "-h" => read_words(words, 1, Command::Help),
-        "version" | "--version" => read_words(words, 1, Command::Version),
-        verb => read_of_model(words, verb),
-    }
-}
-
-/// The command of a verb, where it is one that names a model file and nothing else.
-#[tactic(auto, unfolding(crate::specs::OfModel::of_verb))]
-fn read_verb(verb: &str) -> Option<OfModel>
-    ensures { result ≡ of_verb verb.now }
-{
-    match verb {
-        "analyse" => Some(OfModel::Analyse),
-        "migrate" => Some(OfModel::Migrate),
-        "cut" => Some(OfModel::Cut),
-        "order" => Some(OfModel::Order),
-        "headroom" => Some(OfModel::Headroom),
-        "tighten" => Some(OfModel::Tighten),
-        "verify" => Some(OfModel::Verify),
-        "explain" => Some(OfModel::Explain),
+        "edit" => read_whole(words, Command::Edit),
+        "apply" => read_whole(words, Command::Apply),
+        "generate" => read_generate(words),
+        "survey" => read_survey(words),
+        "check" => read_whole(words, Command::Check),
+        "help" | "--help" | "-h" => read_whole(words, Command::Help),
+        "version" | "--version" => read_whole(words, Command::Version),
         _ => None,
     }
 }
 
-/// What a verb makes of the words behind it, where it is that of a command on a model file alone.
-fn read_of_model(words: &Words, verb: &str) -> Option<Command>
-    ensures { result ≡ of_model (of_verb verb.now) (drop 1 words.now) }
+/// A command whose words are a verb and its files, and nothing behind them.
+fn read_whole(words: &Words, asked: Command) -> Option<Command>
+    ensures { result ≡ whole asked words.now }
 {
-    let asked = read_verb(verb)?;
-    match words.len() {
-        2 => Some(Command::OfModel(asked)),
-        _ => None,
-    }
-}
-
-/// What the words after `simulate` make of it.
-fn read_simulate(words: &Words) -> Option<Command>
-    ensures { result ≡ simulate_of (drop 1 words.now) }
-{
-    if words.len() != 4 {
-        return None;
-    }
-    let ticks = number_at(words, 2, MOST_RUN_TICKS)?;
-    let seed = number_at(words, 3, u64::MAX)?;
-    Some(Command::Simulate { ticks, seed })
-}
-
-/// What the words after `draw` make of it.
-fn read_draw(words: &Words) -> Option<Command>
-    ensures { result ≡ draw_of (drop 1 words.now) }
-{
-    if words.len() != 5 {
-        return None;
-    }
-    let from = number_at(words, 3, MOST_WINDOW)?;
-    let to = number_at(words, 4, MOST_WINDOW)?;
-    Some(Command::Draw { from, to })
-}
-
-/// A command that has no more to say than how many words it has, its verb among them.
-fn read_words(words: &Words, count: usize, command: Command) -> Option<Command>
-    ensures { result ≡ of_words count command words.now }
-{
-    if words.len() == count {
-        Some(command)
+    if words.len() == files_read(asked).count() + 1 {
+        Some(asked)
     } else {
         None
     }
 }
 
-/// What the words after `generate`, or after `survey`, make of it.
-fn read_generation(words: &Words) -> Option<Generation>
-    ensures { result ≡ generation_of (drop 1 words.now) }
+/// `simulate`, behind whose file a number of ticks and a seed stand.
+fn read_simulate(words: &Words) -> Option<Command>
+    ensures { result ≡ with_two_numbers Command.Simulate 2 (upto MOST_RUN_TICKS) any_seed words.now }
 {
-    if words.len() != 3 {
-        return None;
-    }
-    let seed = number_at(words, 1, u64::MAX)?;
-    let tasks = number_at(words, 2, MOST_TASKS as u64)?;
-    if tasks == 0 {
-        return None;
-    }
-    Some(Generation { seed, tasks })
+    let (ticks, seed) = two_numbers(words, 2, upto(MOST_RUN_TICKS), upto(u64::MAX))?;
+    Some(Command::Simulate { ticks, seed })
 }
 
-/// The number of at most `most` that the word at a place writes.
-fn number_at(words: &Words, place: usize, most: u64) -> Option<u64>
-    requires { place < length words.now }
-    ensures { result ≡ number_upto most (word words.now place) }
+/// `draw`, behind whose files two ticks stand.
+fn read_draw(words: &Words) -> Option<Command>
+    ensures { result ≡ with_two_numbers Command.Draw 3 (upto MOST_WINDOW) (upto MOST_WINDOW) words.now }
 {
-    read_decimal(word_at(words, place).as_bytes(), most)
+    let (from, to) = two_numbers(words, 3, upto(MOST_WINDOW), upto(MOST_WINDOW))?;
+    Some(Command::Draw { from, to })
+}
+
+/// `generate`, behind whose verb a seed and a number of tasks stand.
+fn read_generate(words: &Words) -> Option<Command>
+    ensures { result ≡ with_two_numbers Command.Generate 1 any_seed some_tasks words.now }
+{
+    let (seed, tasks) = two_numbers(words, 1, upto(u64::MAX), some_tasks())?;
+    Some(Command::Generate { seed, tasks })
+}
+
+/// `survey`, behind whose verb a seed and a number of tasks stand.
+fn read_survey(words: &Words) -> Option<Command>
+    ensures { result ≡ with_two_numbers Command.Survey 1 any_seed some_tasks words.now }
+{
+    let (seed, tasks) = two_numbers(words, 1, upto(u64::MAX), some_tasks())?;
+    Some(Command::Survey { seed, tasks })
 }

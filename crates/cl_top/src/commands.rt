@@ -1,59 +1,118 @@
 //! What each command comes to, once its files are open: a file for each command.
-ghost use Rattle.std.specs.Prelude.{◌≤◌, Ok, IfOk};
-ghost use Rattle.cl_top.specs.OfModel.{IsAnswer, most_steps};
-ghost use Rattle.cl_top.specs.Steps.{AreAtMost};
+ghost use Rattle.std.specs.Prelude.{◌≡◌, IfOk};
+ghost use Rattle.cl_engine.specs.Content.{content_of, Fits};
+ghost use Rattle.cl_engine.specs.Language.{HasFileWords, MayEnd};
+ghost use Rattle.cl_top.specs.Command.{files_read, AsksForFew};
+ghost use Rattle.cl_top.specs.Commands.{commands, IsOutcomeOf, TakesStepsOf};
 
 mod analyse;
-pub(crate) mod apply;
-pub(crate) mod check;
+mod apply;
+mod check;
 mod cut;
-pub(crate) mod draw;
-pub(crate) mod edit;
+mod draw;
+mod edit;
 mod explain;
-pub(crate) mod generate;
+mod generate;
 mod headroom;
-pub(crate) mod help;
-pub(crate) mod legal_run;
+mod help;
+mod legal_run;
 mod migrate;
 mod order;
-pub(crate) mod replay;
-pub(crate) mod simulate;
-pub(crate) mod survey;
+mod replay;
+mod simulate;
+mod survey;
 mod tighten;
 mod verify;
 
-use crate::{OfModel, Outcome};
+use crate::Command;
+use crate::command::{files_read, read_command};
 use analyse::analysed;
-use cl_model::ValidModel;
+use apply::applied;
+use check::checked;
+use cl_engine::{Files, Given, Outcome};
+use cl_io::Words;
 use cl_time::{NoMemory, Steps};
 use cut::cut;
+use draw::drawn;
+use edit::edited;
 use explain::explained;
+use generate::generated;
 use headroom::headroom;
+use help::{helped, named_version};
 use migrate::migrated;
 use order::ordered;
+use replay::replayed;
+use simulate::simulated;
 use std::alloc::Global;
 use std::sync::ledger::Ledger;
+use survey::surveyed;
 use tighten::tightened;
 use verify::verified;
 
-/// The outcome of a command that names a model file and nothing else, for a valid model.
-pub(crate) fn answered<L: Ledger>(
+impl cl_engine::Command for Command {
+    ghost language = { commands };
+
+    fn read(words: &Words) -> Option<Self> {
+        read_command(words)
+    }
+
+    fn files(self) -> Files {
+        files_read(self)
+    }
+
+    fn answer<L: Ledger>(
+        self,
+        alloc: Global,
+        given: Given,
+        steps: &mut Steps<L>,
+    ) -> Result<Outcome, NoMemory> {
+        answered(alloc, self, given, steps)
+    }
+}
+
+/// The outcome of a command, of what its files hold.
+#[tactic(auto, using(crate::proofs::Answers::none_taken))]
+fn answered<L: Ledger>(
     alloc: Global,
-    asked: OfModel,
-    model: &ValidModel,
+    asked: Command,
+    given: Given,
     steps: &mut Steps<L>,
 ) -> Result<Outcome, NoMemory>
-    ensures outcome { IfOk result (IsAnswer asked model.now) }
-    ensures steps { AreAtMost (most_steps asked (Ok model.now)) steps.old steps.new }
+    requires few { AsksForFew asked }
+    requires fits { Fits (files_read asked) (content_of given) }
+    ensures outcome { IfOk result (IsOutcomeOf asked (content_of given)) }
+    ensures steps { TakesStepsOf asked (content_of given) steps.old steps.new }
 {
     match asked {
-        OfModel::Analyse => analysed(alloc, model, steps),
-        OfModel::Migrate => migrated(alloc, model),
-        OfModel::Cut => cut(alloc, model, steps),
-        OfModel::Order => ordered(alloc, model, steps),
-        OfModel::Headroom => headroom(alloc, model, steps),
-        OfModel::Tighten => tightened(alloc, model, steps),
-        OfModel::Verify => verified(alloc, model, steps),
-        OfModel::Explain => explained(alloc, model, steps),
+        Command::Analyse => analysed(alloc, &given.model(), steps),
+        Command::Migrate => migrated(alloc, &given.model()),
+        Command::Cut => cut(alloc, &given.model(), steps),
+        Command::Order => ordered(alloc, &given.model(), steps),
+        Command::Headroom => headroom(alloc, &given.model(), steps),
+        Command::Tighten => tightened(alloc, &given.model(), steps),
+        Command::Verify => verified(alloc, &given.model(), steps),
+        Command::Explain => explained(alloc, &given.model(), steps),
+        Command::Simulate { ticks, seed } => simulated(alloc, &given.model(), ticks, seed),
+        Command::Replay => {
+            let (model, trace) = given.both();
+            replayed(alloc, &model, trace.as_slice(), steps)
+        }
+        Command::Draw { from, to } => {
+            let (model, trace) = given.both();
+            drawn(alloc, &model, trace.as_slice(), from, to)
+        }
+        Command::Edit => {
+            let (model, edits) = given.both();
+            edited(alloc, model, edits.as_slice(), steps)
+        }
+        Command::Apply => {
+            let (model, edits) = given.both();
+            applied(alloc, model, edits.as_slice())
+        }
+        Command::Check => checked(alloc, given.bytes().as_slice(), steps),
+        Command::Generate { seed, tasks } => generated(alloc, seed, tasks),
+        Command::Survey { seed, tasks } => surveyed(alloc, seed, tasks, steps),
+        Command::Help => helped(alloc),
+        Command::Version => named_version(alloc),
     }
 }

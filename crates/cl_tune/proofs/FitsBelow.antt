@@ -20,7 +20,7 @@ use Rattle.cl_resp.specs.declared.question.Above.{Above}
 use Rattle.cl_resp.specs.declared.question.Question.{Question}
 use Rattle.cl_resp.specs.Question.{greatest_execution, hold_of, longest_hold, taken_by}
 use Rattle.cl_resp.specs.Response.{Response, demand, response_to, AsksNoMore}
-use Rattle.cl_resp.proofs.Greatest.{greatest_within}
+use Rattle.cl_model.proofs.Greatest.{greatest_within}
 use Rattle.cl_resp.proofs.LessAsked.{answered_no_later}
 use Rattle.cl_resp.proofs.StimulusKinds.{kind_of-as_stimulus}
 use Rattle.cl_tune.specs.Inner.Filling.{without, question_below, spans_few, fits_below, AreDistinct}

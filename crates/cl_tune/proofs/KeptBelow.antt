@@ -24,6 +24,7 @@ use Rattle.cl_model.specs.Kinds.{is_timed, is_periodic}
 use Rattle.cl_runs.specs.SystemOf.{system_of}
 use Rattle.cl_runs.specs.TaskTiming.{timing_at}
 use Rattle.cl_runs.proofs.ModelSystem.{count_is, system_sound}
+use Rattle.cl_runs.specs.Requirements.{required_chain}
 use Rattle.cl_model.proofs.ListFacts.{maps_agree}
 use Rattle.cl_bound.specs.declared.answer.TaskAnswer.{TaskAnswer}
 use Rattle.cl_bound.specs.declared.answer.TaskAnswer.TheVariants as answers
@@ -46,7 +47,7 @@ use Rattle.cl_analyse.specs.declared.findings.Verdict.{Verdict}
 use Rattle.cl_analyse.specs.declared.findings.Verdict.TheVariants.{Met, Unshown}
 use Rattle.cl_analyse.specs.ChainAnswers.{first_late, chain_answer, chain_answer_of, chain_answers_of, chain_answer_at, exact_answer_at, IsTimelyAnswer, IsExactAnswer}
 use Rattle.cl_analyse.specs.Findings.{AreFindings}
-use Rattle.cl_analyse.specs.Verdicts.{bound_of_kind, witness_of_kind, bound_value, exact_value, verdict_on, required_chain, verdict_of}
+use Rattle.cl_analyse.specs.Verdicts.{bound_of_kind, witness_of_kind, bound_value, exact_value, verdict_on, verdict_of}
 use Rattle.cl_analyse.proofs.FirstLate.{none_late}
 use Rattle.cl_analyse.proofs.SafeFindings.{answer_of_chain, chain_settled}
 use Rattle.cl_analyse.proofs.SomeFindings.{some_findings}

@@ -23,7 +23,7 @@ use Rattle.cl_resp.specs.declared.question.Question.{Question}
 use Rattle.cl_resp.specs.Question.{greatest_execution, is_above, may_block, hold_of, longest_hold, block_of, taken_by, question_of}
 use Rattle.cl_resp.specs.Response.{Response, demand, response_to, AsksNoMore}
 use Rattle.cl_resp.proofs.Filters.{filter-map}
-use Rattle.cl_resp.proofs.Greatest.{greatest_mapped, greatest_within, greatest_least}
+use Rattle.cl_model.proofs.Greatest.{greatest_mapped, greatest_within, greatest_least}
 use Rattle.cl_resp.proofs.LessAsked.{answered_no_later}
 use Rattle.cl_bound.specs.declared.answer.TaskAnswer.{TaskAnswer}
 use Rattle.cl_bound.specs.declared.answer.TaskAnswer.TheVariants.{Late}

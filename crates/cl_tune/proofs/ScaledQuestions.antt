@@ -16,10 +16,11 @@ use Rattle.cl_runs.specs.SystemOf.{system_of}
 use Rattle.cl_runs.specs.TaskTiming.{timing_at, no_timing}
 use Rattle.cl_runs.proofs.ModelSystem.{count_is}
 use Rattle.cl_stim.specs.AnyStimulus.{as_stimulus}
+use Rattle.cl_resp.specs.declared.question.Block.TheVariants.{WithOwn}
 use Rattle.cl_resp.specs.declared.question.Question.{Question}
 use Rattle.cl_resp.specs.Question.{question_of, IsQuestionInRange}
 use Rattle.cl_resp.specs.Response.{response_to}
-use Rattle.cl_resp.proofs.Greatest.{greatest_agrees, greatest_mapped}
+use Rattle.cl_model.proofs.Greatest.{greatest_agrees, greatest_mapped}
 use Rattle.cl_resp.proofs.Questions as asked
 use Rattle.cl_bound.specs.declared.answer.TaskAnswer.{TaskAnswer}
 use Rattle.cl_bound.specs.declared.answer.TaskAnswer.TheVariants.{Late}
@@ -57,10 +58,10 @@ module _ (model : SystemModel) (percent : ℕ) where
       ap (λ (kind : StimulusKind). record { stimulus = as_stimulus kind; time = time_of made j }) (stimulus_is model percent j)
       ∙ ap (λ (time : ℕ). record { stimulus = as_stimulus (tasks.stimulus_of model j); time = time }) (time_is model percent j)
 
-  block_is : (i : ℕ) → asked.longest_blocker made true i ≡ greatest_by (hold_with all) (filter (may_hold model i) (others i))
+  block_is : (i : ℕ) → asked.longest_blocker made WithOwn i ≡ greatest_by (hold_with all) (filter (may_hold model i) (others i))
   block_is i =
-      ap (λ (list : List ℕ). greatest_by (asked.hold_at made) (filter (asked.may_hold made true i) list)) (others_are model percent i)
-      ∙ ap (greatest_by (asked.hold_at made)) (filters_agree (asked.may_hold made true i) (may_hold model i)
+      ap (λ (list : List ℕ). greatest_by (asked.hold_at made) (filter (asked.may_hold made WithOwn i) list)) (others_are model percent i)
+      ∙ ap (greatest_by (asked.hold_at made)) (filters_agree (asked.may_hold made WithOwn i) (may_hold model i)
       (λ j. ap (λ p. nat_le p (task_at made i).priority) (priority_is model percent j) ∙ ap (nat_le (task_at model j).priority) (priority_is model percent i)) (others i))
       ∙ greatest_agrees (asked.hold_at made) (hold_with all) hold_is (filter (may_hold model i) (others i))
 
@@ -71,7 +72,7 @@ module _ (model : SystemModel) (percent : ℕ) where
       (λ j. ap (λ p. nat_lt p (task_at made j).priority) (priority_is model percent i) ∙ ap (nat_lt (task_at model i).priority) (priority_is model percent j)) (others i))
       ∙ maps_agree (asked.above_at made) (above_with model all) taken_is (filter (is_higher model i) (others i))
 
-  by_number : (i : ℕ) → asked.question_by_number made true i ≡ question_with model all i
+  by_number : (i : ℕ) → asked.question_by_number made WithOwn i ≡ question_with model all i
   by_number i =
       let time = time_is model percent i in
       let block = block_is i in
@@ -81,11 +82,11 @@ module _ (model : SystemModel) (percent : ℕ) where
       cc
 
   question_is : (i : ℕ) → i < length model.tasks → question_of (system_of made) (timing_at (system_of made) i) ≡ question_with model all i
-  question_is i h = asked.question_is made true i (omega (arith, h, count_kept model percent)) ∙ by_number i
+  question_is i h = asked.question_is made WithOwn i (omega (arith, h, count_kept model percent)) ∙ by_number i
 
   pub question_in_range : IsValid made → (i : ℕ) → i < length model.tasks → IsQuestionInRange (question_with model all i)
   question_in_range valid i h =
-      subst (λ (q : Question). IsQuestionInRange q) (question_is i h) (asked.questions_in_range true made valid i (omega (arith, h, count_kept model percent)))
+      subst (λ (q : Question). IsQuestionInRange q) (question_is i h) (asked.questions_in_range WithOwn made valid i (omega (arith, h, count_kept model percent)))
 
   -- ---- its answer
 

@@ -13,7 +13,7 @@ use Rattle.cl_runs.proofs.ModelSystem.{timing_is}
 use Rattle.cl_stim.specs.AnyStimulus.{as_stimulus}
 use Rattle.cl_resp.specs.declared.question.Above.{Above}
 use Rattle.cl_resp.specs.Question.{greatest_execution, hold_of, longest_hold, taken_by}
-use Rattle.cl_resp.proofs.Greatest.{greatest_within, greatest_mapped}
+use Rattle.cl_model.proofs.Greatest.{greatest_within, greatest_mapped}
 
 -- how long a runnable of a task may hold its core, by number
 abbrev pub hold_at : SystemModel → (task : ℕ) → ℕ

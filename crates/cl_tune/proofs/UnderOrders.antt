@@ -19,7 +19,7 @@ use Rattle.cl_resp.specs.declared.question.Above.{Above}
 use Rattle.cl_resp.specs.Question.{greatest_execution, is_above, may_block, longest_hold, block_of, taken_by, question_of}
 use Rattle.cl_resp.specs.Response.{Response, demand, response_to}
 use Rattle.cl_resp.proofs.Filters.{filter-map}
-use Rattle.cl_resp.proofs.Greatest.{greatest_least, greatest_within, greatest_agrees, greatest_mapped}
+use Rattle.cl_model.proofs.Greatest.{greatest_least, greatest_within, greatest_agrees, greatest_mapped}
 use Rattle.cl_resp.proofs.StimulusKinds.{kind_of-as_stimulus}
 use Rattle.cl_bound.specs.Answers.{answer_with, answer_to, is_late}
 use Rattle.cl_tune.specs.Inner.Filling.{question_below, spans_few, fits_below, AreDistinct}

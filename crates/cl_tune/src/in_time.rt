@@ -42,7 +42,7 @@ fn all_above(
 }
 
 /// How long a whole runnable of a task, or of one of lower priority on its core, may hold the core once it has begun.
-#[tactic(auto, using(cl_resp::proofs::Greatest::greatest_more))]
+#[tactic(auto, using(cl_model::proofs::Greatest::greatest_more))]
 fn block_of(model: &ValidModel, times: &[TaskTimes], task: u32) -> u64
     requires task { task < length model.now.tasks }
     requires times { length times.now ≡ length model.now.tasks }

@@ -7,7 +7,7 @@ ghost use Rattle.cl_runs.specs.Run.{Run, jobs_of};
 ghost use Rattle.cl_runs.specs.Legal.{IsLegal};
 ghost use Rattle.cl_runs.specs.Chains.{HasWritten, IsEarliestReader, IsLatestWriter};
 ghost use Rattle.cl_runs.specs.RunChains.{run_moments};
-ghost use Rattle.cl_resp.specs.Promises.{IsTimely};
+ghost use Rattle.cl_runs.specs.Responses.{IsTimely};
 ghost use Rattle.cl_bound.specs.Hops.{group_timing, delay, forward_hop, backward_hop};
 ghost use Rattle.cl_bound.specs.Bounds.{settled_timing};
 ghost use Rattle.cl_bound.specs.SettledChains.{IsSettledChain};

@@ -2,8 +2,8 @@
 use Rattle.std.specs.Prelude.{◌≡◌, ℕ, ◌<◌, ◌⊎◌, List, length, map, All, Contains}
 use Rattle.cl_model.specs.declared.model.SystemModel.{SystemModel}
 use Rattle.cl_runs.specs.SystemOf.{system_of}
+use Rattle.cl_runs.specs.Requirements.{required_chain, requirement_at}
 use Rattle.cl_bound.specs.Answers.{answers_of}
-use Rattle.cl_analyse.specs.Verdicts.{required_chain, requirement_at}
 use Rattle.cl_incr.specs.declared.chains.ChainFindings.{ChainFindings}
 use Rattle.cl_incr.specs.declared.news.FoundChain.{FoundChain}
 use Rattle.cl_incr.specs.declared.news.News.{News}

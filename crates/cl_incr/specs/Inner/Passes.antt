@@ -3,7 +3,7 @@ use Rattle.std.specs.Prelude.{ℕ, ◌<◌, ◌≡◌, List, length, All, Contai
 use Rattle.cl_model.specs.declared.model.SystemModel.{SystemModel}
 use Rattle.cl_model.specs.declared.group.Group.{Group}
 use Rattle.cl_model.specs.Groups.{groups_at}
-use Rattle.cl_analyse.specs.Verdicts.{required_chain, requirement_at}
+use Rattle.cl_runs.specs.Requirements.{required_chain, requirement_at}
 use Rattle.cl_incr.specs.Inner.Listed.{listed, AreListedBelow}
 use Rattle.cl_incr.specs.declared.passing.Passing.{Passing}
 

@@ -2,7 +2,7 @@
 ghost use Rattle.std.specs.Prelude.{ℕ, List, All};
 ghost use Rattle.cl_model.specs.declared.group.Group.{Group};
 ghost use Rattle.cl_runs.specs.TaskTiming.{System, IsSound};
-ghost use Rattle.cl_resp.specs.Promises.{IsTimely};
+ghost use Rattle.cl_runs.specs.Responses.{IsTimely};
 ghost use Rattle.cl_bound.specs.Answers.{NoneIsLate};
 ghost use Rattle.cl_bound.specs.Promises.{AreSafe};
 ghost use Rattle.cl_bound.specs.SettledChains.{IsGroupOfTask};

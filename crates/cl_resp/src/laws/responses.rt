@@ -3,9 +3,9 @@
 ghost use Rattle.std.specs.Prelude.{◌≡◌, ℕ, ◌+◌, ◌≤◌, Some};
 ghost use Rattle.cl_model.specs.Timing.{greatest_jitter};
 ghost use Rattle.cl_runs.specs.TaskTiming.{System, timing_at, IsSound};
+ghost use Rattle.cl_runs.specs.Responses.{AlwaysFinishesWithin, IsTimely};
 ghost use Rattle.cl_resp.specs.declared.question.Question.{Question};
 ghost use Rattle.cl_resp.specs.Question.{greatest_execution};
-ghost use Rattle.cl_resp.specs.Promises.{AlwaysFinishesWithin, IsTimely};
 ghost use Rattle.cl_resp.specs.Response.{Response, response_to, IsSettled, IsTightlySettled, AsksNoMore, IsAnsweredBy};
 
 /// Each job of a settled task finishes within the response of its arrival, in every legal run that lasts so long,

@@ -1,6 +1,7 @@
 //! The window of a task, in words, and as a fixpoint of its demand.
 ghost use Rattle.std.specs.Prelude.{◌≡◌, ℕ, ◌+◌, ◌-◌, ◌<◌, ◌≤◌, Bool, true, Some, None, length};
 ghost use Rattle.cl_runs.specs.TaskTiming.{System, timing_at, IsSound};
+ghost use Rattle.cl_resp.specs.declared.question.Block.{Block};
 ghost use Rattle.cl_resp.specs.declared.question.Question.{Question};
 ghost use Rattle.cl_resp.specs.Question.{is_above, either_question};
 ghost use Rattle.cl_resp.specs.Response.{demand, busy_window, IsWindow, IsLeastFixpoint, HasNoFixpoint, NoneServesBelow};
@@ -34,12 +35,12 @@ pub fn windows_are_fixpoints()
 /// Down a core no window is less: a width that doesn't serve a task serves no task below it on its core that is blocked
 /// as long but for its own time.
 pub fn windows_rise_down_a_core()
-    ensures { (own : Bool) (system : System) → IsSound system → (task higher : ℕ) → task < length system.tasks → higher < length system.tasks
+    ensures { (blocking : Block) (system : System) → IsSound system → (task higher : ℕ) → task < length system.tasks → higher < length system.tasks
         → is_above (timing_at system task) (timing_at system higher) ≡ true
-        → (either_question own system (timing_at system higher)).block
-        ≤ (either_question own system (timing_at system task)).block + (either_question own system (timing_at system task)).time
-        → (start : ℕ) → NoneServesBelow (either_question own system (timing_at system higher)) start
-        → NoneServesBelow (either_question own system (timing_at system task)) start }
+        → (either_question blocking system (timing_at system higher)).block
+        ≤ (either_question blocking system (timing_at system task)).block + (either_question blocking system (timing_at system task)).time
+        → (start : ℕ) → NoneServesBelow (either_question blocking system (timing_at system higher)) start
+        → NoneServesBelow (either_question blocking system (timing_at system task)) start }
 {}
 
 /// The demand never falls as the window grows.

@@ -2,14 +2,16 @@
 use Rattle.std.specs.Prelude.{◌≡◌, ◌⊎◌, ℕ, ◌+◌, ◌<◌, List, length, take, slice_index_or, Ok, Err}
 use Rattle.cl_model.specs.declared.model.SystemModel.{SystemModel}
 use Rattle.cl_model.specs.declared.refusal.Refusal.{Refusal}
+use Rattle.cl_model.specs.Validity.{IsValid}
 use Rattle.cl_edit.specs.declared.edit.Edit.{Edit}
 use Rattle.cl_edit.specs.declared.edit.Edit.TheVariants.{Report}
 use Rattle.cl_edit.specs.Edited.{edited, after}
 use Rattle.cl_edit.specs.Reading.{AreEditsOf}
 use Rattle.cl_write.specs.Texts.{IsTextOf}
-use Rattle.cl_top.specs.declared.outcome.Outcome.{Outcome}
+use Rattle.cl_engine.specs.declared.outcome.Outcome.{Outcome}
 use Rattle.cl_top.specs.Commands.Edit.{edits_refused, HasBadEditLine}
-use Rattle.cl_top.specs.Done.{IsDone}
+use Rattle.cl_engine.specs.Done.{IsDone}
+use Rattle.cl_top.specs.Meaning.{Meaning, on_both, no_step, promises_of_both, WritesTheSame}
 
 -- no edit is refused, and the text is read as the model after all of them
 pub record AreAllApplied (model : SystemModel) (edits : List Edit) (found : Outcome) : Type 0 where
@@ -36,3 +38,18 @@ pub record HasApplied (model : SystemModel) (text : List ℕ) (found : Outcome) 
 -- the outcome of a text, for a valid model
 abbrev pub IsOfApply : SystemModel → (text : List ℕ) → Outcome → Type 0
 IsOfApply model text found = HasApplied model text found ⊎ HasBadEditLine text found
+
+-- ---- what is promised
+
+-- The text is read as the model after the edits; it is of version 2, and its model is valid.
+pub record HoldsEdited (model : SystemModel) (listed text : List ℕ) : Type 0 where
+  pub edits : List Edit
+  pub are : AreEditsOf listed edits
+  pub made : SystemModel
+  pub applied : after model edits ≡ Ok made
+  pub valid : IsValid made
+  pub is_text : IsTextOf made text
+
+-- what `apply` means
+abbrev pub applying : Meaning
+applying = record { comes_to = on_both IsOfApply; takes = no_step; safe = promises_of_both HoldsEdited; same = WritesTheSame }

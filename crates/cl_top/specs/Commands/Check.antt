@@ -1,21 +1,18 @@
 -- `check MODEL`: what to mend in a model file that is refused, or what to know of one that is accepted.
-use Rattle.std.specs.Prelude.{◌≡◌, ◌⊎◌, List, ℕ, ◌++◌, codes, Option, Some, None, Result, Ok, Err}
+use Rattle.std.specs.Prelude.{◌≡◌, ◌⊎◌, ℕ, ◌+◌, ◌≤◌, List, length, Option, Some, None, Result, Ok, Err}
 use Rattle.toml.specs.Data.{Members}
-use Rattle.cl_text.specs.Line.{line}
 use Rattle.cl_model.specs.declared.model.SystemModel.{SystemModel}
 use Rattle.cl_model.specs.declared.refusal.Refusal.{Refusal}
 use Rattle.cl_model.specs.Reading.{document_of, model_of}
-use Rattle.cl_model.specs.Refusal.{refusal_text}
 use Rattle.cl_model.specs.Validity.{refusal_of}
 use Rattle.cl_advice.specs.Advice.{AddsUnread, AddsAdvice}
 use Rattle.cl_explain.specs.Accepted.{accepted_text}
-use Rattle.cl_top.specs.declared.outcome.Outcome.{Outcome}
-use Rattle.cl_top.specs.declared.status.TheConstants.{MODEL_REFUSED}
-use Rattle.cl_top.specs.Done.{HasStatusAndText, IsDone}
-
--- the line of a refusal of a model, of every command
-abbrev pub refusal_line : Refusal → List ℕ
-refusal_line refusal = line (codes "model refused " ++ refusal_text refusal)
+use Rattle.cl_engine.specs.declared.outcome.Outcome.{Outcome}
+use Rattle.cl_engine.specs.declared.status.TheConstants.{MODEL_REFUSED}
+use Rattle.cl_engine.specs.Content.{of_bytes}
+use Rattle.cl_engine.specs.Done.{HasStatusAndText, IsDone}
+use Rattle.cl_engine.specs.Outcome.{refusal_line}
+use Rattle.cl_top.specs.Meaning.{Meaning, on_bytes, no_promise}
 
 -- the line of a refusal, and behind it what to mend in the document; of the model that it means, where it has one
 abbrev pub IsAdvised : Option Members → Option SystemModel → Refusal → Outcome → Type 0
@@ -41,3 +38,17 @@ IsUnread refusal found = HasStatusAndText MODEL_REFUSED (AddsUnread (refusal_lin
 -- two outcomes are equal, or both say that of bytes
 abbrev pub ChecksTheSame : (one other : Outcome) → Type 0
 ChecksTheSame one other = (one ≡ other) ⊎ ((refusal : Refusal) × IsUnread refusal one × IsUnread refusal other)
+
+-- at most one step for each task of the model that is read, and none where none is
+abbrev pub read_steps : Result SystemModel Refusal → ℕ
+read_steps (Ok model) = length model.tasks
+read_steps (Err refusal) = 0
+
+-- what `check` means
+abbrev pub checking : Meaning
+checking = record {
+  comes_to = on_bytes IsChecked;
+  takes = of_bytes (λ bytes before after. after ≤ before + read_steps (model_of bytes)) (λ before after. ⊥);
+  safe = no_promise;
+  same = ChecksTheSame;
+}

@@ -3,11 +3,15 @@ use Rattle.std.specs.Prelude.{◌≡◌, ◌⊎◌, ℕ, ◌<◌, ◌≤◌, Lis
 use Rattle.cl_text.specs.Line.{line}
 use Rattle.cl_model.specs.declared.model.SystemModel.{SystemModel}
 use Rattle.cl_runs.specs.Run.{Run}
+use Rattle.cl_runs.specs.SystemOf.{system_of}
+use Rattle.cl_runs.specs.Legal.{IsLegal}
+use Rattle.cl_trace.specs.Rules.{IsTraceOf}
 use Rattle.cl_draw.specs.Picture.{IsPictureOf}
-use Rattle.cl_top.specs.declared.outcome.Outcome.{Outcome}
-use Rattle.cl_top.specs.declared.status.TheConstants.{WINDOW_REFUSED}
-use Rattle.cl_top.specs.Done.{IsDone}
+use Rattle.cl_engine.specs.declared.outcome.Outcome.{Outcome}
+use Rattle.cl_engine.specs.declared.status.TheConstants.{WINDOW_REFUSED}
+use Rattle.cl_engine.specs.Done.{IsDone}
 use Rattle.cl_top.specs.OfTrace.{IsOfTrace}
+use Rattle.cl_top.specs.Meaning.{Meaning, on_both, no_step, promises_of_both, equal}
 
 -- ---- the window
 
@@ -42,3 +46,17 @@ IsDrawn from to model run found = IsPictured from to model run found ⊎ IsOutsi
 -- the outcome of a text, for a valid model
 abbrev pub IsOfDraw : (from to : ℕ) → SystemModel → (text : List ℕ) → Outcome → Type 0
 IsOfDraw from to model text found = IsOfTrace model (IsDrawn from to model) text found
+
+-- ---- what is promised
+
+-- The text is the picture of the legal run of the trace, from one tick to another, and the window lies within the run.
+pub record IsSafePicture (from to : ℕ) (model : SystemModel) (trace text : List ℕ) : Type 0 where
+  pub run : Run
+  pub is_trace : IsTraceOf model trace run
+  pub legal : IsLegal (system_of model) run
+  pub window : LiesWithin from to run.table.ticks
+  pub picture : IsPictureOf model run from to text
+
+-- what `draw` means
+abbrev pub drawing : (from to : ℕ) → Meaning
+drawing from to = record { comes_to = on_both (IsOfDraw from to); takes = no_step; safe = promises_of_both (IsSafePicture from to); same = equal }

@@ -12,8 +12,12 @@ use Rattle.cl_edit.specs.declared.edit.Edit.TheVariants.{Report}
 use Rattle.cl_edit.specs.Edited.{edited, after}
 use Rattle.cl_edit.specs.Reading.{AreEditsOf, IsBadEditLine}
 use Rattle.cl_report.specs.Report.{IsReportOf}
-use Rattle.cl_top.specs.declared.outcome.Outcome.{Outcome}
-use Rattle.cl_top.specs.declared.status.TheConstants.{DONE, EDITS_REFUSED}
+use Rattle.cl_engine.specs.declared.outcome.Outcome.{Outcome}
+use Rattle.cl_engine.specs.declared.status.TheConstants.{DONE, EDITS_REFUSED}
+use Rattle.cl_engine.specs.Content.{of_both}
+use Rattle.cl_top.specs.Headline.{IsSafeReportOf}
+use Rattle.cl_top.specs.Meaning.{Meaning, on_both, promises_of_both, equal}
+use Rattle.cl_top.specs.Steps.{AreFewOfEdits}
 
 -- the line of this number is refused
 abbrev pub edits_refused : (number : ℕ) → Refusal → Outcome
@@ -80,3 +84,30 @@ pub record HasBadEditLine (text : List ℕ) (found : Outcome) : Type 0 where
 -- the outcome of a text, for a valid model
 abbrev pub IsOfEdits : SystemModel → (text : List ℕ) → Outcome → Type 0
 IsOfEdits model text found = HasEdits model text found ⊎ HasBadEditLine text found
+
+-- ---- what is promised
+
+-- a report line has written the safe report of the model after the edits above it
+pub record IsSafePiece (model : SystemModel) (edits : List Edit) (place : ℕ) (piece : List ℕ) : Type 0 where
+  pub written : HasWrittenPiece model edits place piece
+  pub report : IsSafeReportOf written.found piece
+
+-- The text is the pieces of the edits that are accepted, joined, and the piece of each report line is a safe report.
+pub record AreSafeReports (model : SystemModel) (listed text : List ℕ) : Type 0 where
+  pub edits : List Edit
+  pub are : AreEditsOf listed edits
+  pub count : ℕ
+  pub pieces : List (List ℕ)
+  pub made : SystemModel
+  pub accepted : AreAccepted model edits count pieces made
+  pub printed : text ≡ concat pieces
+  pub safe : (place : ℕ) → place < count → slice_index_or edits place Report ≡ Report → IsSafePiece model edits place (slice_index_or pieces place [])
+
+-- what `edit` means
+abbrev pub editing : Meaning
+editing = record {
+  comes_to = on_both IsOfEdits;
+  takes = of_both AreFewOfEdits (λ before after. ⊥);
+  safe = promises_of_both AreSafeReports;
+  same = equal;
+}

@@ -1,11 +1,17 @@
 -- `replay MODEL TRACE`: the replay of the run of a trace.
-use Rattle.std.specs.Prelude.{ℕ, List}
+use Rattle.std.specs.Prelude.{ℕ, ◌+◌, ◌≤◌, List}
 use Rattle.cl_model.specs.declared.model.SystemModel.{SystemModel}
 use Rattle.cl_runs.specs.Run.{Run}
+use Rattle.cl_runs.specs.SystemOf.{system_of}
+use Rattle.cl_runs.specs.Legal.{IsLegal}
+use Rattle.cl_trace.specs.Rules.{IsTraceOf}
+use Rattle.cl_replay.specs.Margins.{IsReplayWithMargins}
 use Rattle.cl_replay.specs.Replay.{IsReplayOf}
-use Rattle.cl_top.specs.declared.outcome.Outcome.{Outcome}
-use Rattle.cl_top.specs.Done.{IsDone}
+use Rattle.cl_engine.specs.declared.outcome.Outcome.{Outcome}
+use Rattle.cl_engine.specs.Content.{of_both}
+use Rattle.cl_engine.specs.Done.{IsDone}
 use Rattle.cl_top.specs.OfTrace.{IsOfTrace}
+use Rattle.cl_top.specs.Meaning.{Meaning, on_both, model_steps, promises_of_both, equal}
 
 -- what comes of a legal run: its replay
 abbrev pub IsReplayed : SystemModel → Run → Outcome → Type 0
@@ -14,3 +20,19 @@ IsReplayed model run found = IsDone (IsReplayOf model run) found
 -- the outcome of a text, for a valid model
 abbrev pub IsOfReplay : SystemModel → (text : List ℕ) → Outcome → Type 0
 IsOfReplay model text found = IsOfTrace model (IsReplayed model) text found
+
+-- The text is the replay of the legal run of the trace: each length and its margin make the bound.
+pub record IsSafeReplay (model : SystemModel) (trace text : List ℕ) : Type 0 where
+  pub run : Run
+  pub is_trace : IsTraceOf model trace run
+  pub legal : IsLegal (system_of model) run
+  pub replay : IsReplayWithMargins model run text
+
+-- what `replay` means
+abbrev pub replaying : Meaning
+replaying = record {
+  comes_to = on_both IsOfReplay;
+  takes = of_both (λ model trace before after. after ≤ before + model_steps model) (λ before after. ⊥);
+  safe = promises_of_both IsSafeReplay;
+  same = equal;
+}

@@ -9,8 +9,9 @@ use Rattle.cl_gen.specs.declared.limits.TheConstants.{MOST_EXECUTIONS}
 use Rattle.cl_gen.specs.Count.{execution_count}
 use Rattle.cl_gen.specs.Drawn.{drawn}
 use Rattle.cl_trace.specs.Trace.{spelled}
-use Rattle.cl_top.specs.declared.outcome.Outcome.{Outcome}
-use Rattle.cl_top.specs.declared.status.TheConstants.{DONE, SIMULATION_REFUSED}
+use Rattle.cl_engine.specs.declared.outcome.Outcome.{Outcome}
+use Rattle.cl_engine.specs.declared.status.TheConstants.{DONE, SIMULATION_REFUSED}
+use Rattle.cl_top.specs.Meaning.{Meaning, on_model, no_step, no_promise, equal}
 
 -- so many executions are counted, which are too many
 abbrev pub simulation_refused : (count : ℕ) → Outcome
@@ -34,3 +35,7 @@ pub record IsTraced (ticks seed : ℕ) (model : SystemModel) (found : Outcome) :
 pub record IsSimulated (ticks seed : ℕ) (model : SystemModel) (found : Outcome) : Type 0 where
   pub refused : MOST_EXECUTIONS < execution_count model ticks → found ≡ simulation_refused (execution_count model ticks)
   pub simulated : execution_count model ticks ≤ MOST_EXECUTIONS → IsTraced ticks seed model found
+
+-- what `simulate` means
+abbrev pub simulating : (ticks seed : ℕ) → Meaning
+simulating ticks seed = record { comes_to = on_model (IsSimulated ticks seed); takes = no_step; safe = no_promise; same = equal }

@@ -8,9 +8,9 @@ use Rattle.cl_edit.specs.Listed.{OfLines, GivesNext}
 use Rattle.cl_write.specs.Texts.{IsTextOf}
 use Rattle.cl_top.specs.declared.commands.apply.Next.{Next}
 use Rattle.cl_top.specs.declared.commands.apply.Next.TheVariants.{Changed, Last}
-use Rattle.cl_top.specs.declared.outcome.Outcome.{Outcome}
+use Rattle.cl_engine.specs.declared.outcome.Outcome.{Outcome}
 use Rattle.cl_top.specs.Commands.Edit.{edits_refused}
-use Rattle.cl_top.specs.Done.{IsDone}
+use Rattle.cl_engine.specs.Done.{IsDone}
 
 -- an edit is refused in the line of this number, or the others follow
 abbrev pub OrRefused : (number : ℕ) → Result SystemModel Refusal → (next : SystemModel → Type 0) → Outcome → Type 0

@@ -6,9 +6,9 @@ use Rattle.cl_edit.specs.declared.edit.Edit.{Edit}
 use Rattle.cl_edit.specs.Edited.{edited}
 use Rattle.cl_edit.specs.Listed.{OfLines}
 use Rattle.cl_incr.specs.Changed.{AsksForChanges}
-use Rattle.cl_top.specs.declared.outcome.Outcome.{Outcome}
+use Rattle.cl_engine.specs.declared.outcome.Outcome.{Outcome}
 use Rattle.cl_top.specs.Commands.Edit.{IsWrittenBy, AreEditedTo}
-use Rattle.cl_top.specs.OfModel.{model_steps}
+use Rattle.cl_top.specs.Meaning.{model_steps}
 use Rattle.cl_top.specs.Steps.{AskForChanges}
 
 -- an edit was made: the model is the edited one, and what the edit has written stands behind the text
@@ -26,7 +26,7 @@ HasAsked old (Ok new) before after = AsksForChanges old new before after
 -- a session was started, and edits asked for what they change
 pub record HaveAsked (edits : List Edit) (model : SystemModel) (before after : ℕ) : Type 0 where
   pub started : ℕ
-  pub start : started ≤ before + model_steps (Ok model)
+  pub start : started ≤ before + model_steps model
   pub ask : AskForChanges edits model started after
 
 -- the edits of these lines come to this

@@ -7,7 +7,7 @@ use Rattle.cl_runs.specs.SystemOf.{system_of}
 use Rattle.cl_trace.specs.Rules.{IsTraceOf}
 use Rattle.cl_top.specs.declared.commands.legal_run.LegalRun.{LegalRun}
 use Rattle.cl_top.specs.declared.commands.legal_run.LegalRun.TheVariants as legal_run
-use Rattle.cl_top.specs.declared.outcome.Outcome.{Outcome}
+use Rattle.cl_engine.specs.declared.outcome.Outcome.{Outcome}
 use Rattle.cl_top.specs.OfTrace.{IsOfRun, IsOfTrace}
 
 -- nothing comes of it

@@ -1,9 +1,10 @@
-ghost use Rattle.std.specs.Prelude.{◌+◌, ◌*◌, ◌≤◌, length, IfOk};
-ghost use Rattle.cl_report.specs.Report.{IsReportOf};
-ghost use Rattle.cl_top.specs.Done.{IsDone};
+ghost use Rattle.std.specs.Prelude.{IfOk};
+ghost use Rattle.cl_engine.specs.Content.{Model};
+ghost use Rattle.cl_top.specs.Commands.{IsOutcomeOf, TakesStepsOf};
 
-use crate::Outcome;
+use crate::Command;
 use cl_analyse::analyse;
+use cl_engine::Outcome;
 use cl_model::ValidModel;
 use cl_report::report;
 use cl_time::{NoMemory, Steps};
@@ -12,13 +13,14 @@ use std::sync::ledger::Ledger;
 
 /// The outcome of `analyse` of a valid model: its report. It counts at most one step for each task and two for each
 /// chain.
-pub(crate) fn analysed<L: Ledger>(
+#[tactic(auto, unfolding(crate::specs::Commands::meaning_of))]
+pub(super) fn analysed<L: Ledger>(
     alloc: Global,
     model: &ValidModel,
     steps: &mut Steps<L>,
 ) -> Result<Outcome, NoMemory>
-    ensures outcome { IfOk result (IsDone (IsReportOf model.now)) }
-    ensures steps { steps.new ≤ steps.old + (length model.now.tasks + 2 * length model.now.chains) }
+    ensures outcome { IfOk result (IsOutcomeOf Command.Analyse (Model model.now)) }
+    ensures steps { TakesStepsOf Command.Analyse (Model model.now) steps.old steps.new }
 {
     let findings = analyse(alloc, model, steps)?;
     let text = report(alloc, model, &findings)?;

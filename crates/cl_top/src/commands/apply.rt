@@ -1,14 +1,16 @@
 ghost use Rattle.std.specs.Prelude.{◌≡◌, Err, IfOk};
 ghost use Rattle.cl_model.specs.declared.refusal.Refusal.{Refusal as ModelRefusal};
 ghost use Rattle.cl_edit.specs.Listed.{ListsSome};
-ghost use Rattle.cl_top.specs.Commands.Apply.{IsOfApply};
+ghost use Rattle.cl_engine.specs.Content.{ModelAnd};
+ghost use Rattle.cl_top.specs.Commands.{IsOutcomeOf};
 ghost use Rattle.cl_top.specs.Commands.Edit.{edits_refused};
 ghost use Rattle.cl_top.specs.Inner.Applying.{MakesNext, RefusesNext, LinesApplyTo};
 
 use super::edit::{bad_line, refused};
 use super::migrate::migrated;
-use crate::Outcome;
+use crate::Command;
 use cl_edit::{EditLines, EditsFault, edit_valid};
+use cl_engine::Outcome;
 use cl_model::{ModelFault, Refusal, ValidModel};
 use cl_text::Text;
 use cl_time::NoMemory;
@@ -16,8 +18,9 @@ use std::alloc::Global;
 
 /// The outcome of `apply` of a valid model and of the text of a list of edits: a text of version 2 that is read as the
 /// model after all edits; or the first bad line of the text; or the first edit that is refused.
-pub(crate) fn applied(alloc: Global, model: ValidModel, text: &[u8]) -> Result<Outcome, NoMemory>
-    ensures { IfOk result (IsOfApply model text.now) }
+#[tactic(auto, unfolding(crate::specs::Commands::meaning_of))]
+pub(super) fn applied(alloc: Global, model: ValidModel, text: &[u8]) -> Result<Outcome, NoMemory>
+    ensures { IfOk result (IsOutcomeOf Command.Apply (ModelAnd model text.now)) }
 {
     match EditLines::of(alloc, text) {
         Ok(lines) => apply_lines(alloc, model, lines),

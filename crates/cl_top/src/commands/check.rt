@@ -5,12 +5,14 @@ ghost use Rattle.cl_model.specs.Ranges.{IsInRange};
 ghost use Rattle.cl_model.specs.Reading.{document_of, model_of};
 ghost use Rattle.cl_model.specs.Validity.{refusals_of, refusal_of};
 ghost use Rattle.cl_explain.specs.Accepted.{accepted_text};
-ghost use Rattle.cl_top.specs.Commands.Check.{IsAdvised, ValidityChecks, IsChecked};
-ghost use Rattle.cl_top.specs.Done.{IsDone};
-ghost use Rattle.cl_top.specs.OfModel.{task_steps};
+ghost use Rattle.cl_engine.specs.Content.{Bytes};
+ghost use Rattle.cl_top.specs.Commands.{IsOutcomeOf, TakesStepsOf};
+ghost use Rattle.cl_top.specs.Commands.Check.{IsAdvised, ValidityChecks};
+ghost use Rattle.cl_engine.specs.Done.{IsDone};
 
-use crate::Outcome;
+use crate::Command;
 use cl_advice::put_advice;
+use cl_engine::Outcome;
 use cl_explain::accepted;
 use cl_model::{Refusal, SystemModel, ValidModel};
 use cl_read::{ReadFault, read_model};
@@ -21,13 +23,14 @@ use std::sync::ledger::Ledger;
 
 /// The outcome of `check` of a model file of these bytes: what to mend where it is refused, and else what to know of the
 /// model. It counts at most one step for each task.
-pub(crate) fn checked<L: Ledger>(
+#[tactic(auto, unfolding(crate::specs::Commands::meaning_of))]
+pub(super) fn checked<L: Ledger>(
     alloc: Global,
     bytes: &[u8],
     steps: &mut Steps<L>,
 ) -> Result<Outcome, NoMemory>
-    ensures outcome { IfOk result (IsChecked bytes.now) }
-    ensures steps { steps.new ≤ steps.old + task_steps (model_of bytes.now) }
+    ensures outcome { IfOk result (IsOutcomeOf Command.Check (Bytes bytes.now)) }
+    ensures steps { TakesStepsOf Command.Check (Bytes bytes.now) steps.old steps.new }
 {
     match read_model(alloc, bytes) {
         Ok(model) => checked_model(alloc, bytes, model, steps),

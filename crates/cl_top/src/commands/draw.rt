@@ -2,11 +2,15 @@ ghost use Rattle.std.specs.Prelude.{◌≡◌, ◌≤◌, IfOk};
 ghost use Rattle.cl_picture.specs.declared.window.TheConstants.{MOST_WINDOW};
 ghost use Rattle.cl_runs.specs.SystemOf.{system_of};
 ghost use Rattle.cl_runs.specs.Legal.{IsLegal};
-ghost use Rattle.cl_top.specs.Commands.Draw.{window_refused, IsDrawn, IsOfDraw};
+ghost use Rattle.cl_engine.specs.Content.{ModelAnd};
+ghost use Rattle.cl_top.specs.Command.{AsksForFew};
+ghost use Rattle.cl_top.specs.Commands.{IsOutcomeOf};
+ghost use Rattle.cl_top.specs.Commands.Draw.{window_refused, IsDrawn};
 
 use super::legal_run::{LegalRun, legal_run};
-use crate::{Outcome, status};
+use crate::Command;
 use cl_draw::draw;
+use cl_engine::{Outcome, status};
 use cl_model::ValidModel;
 use cl_run_data::RunData;
 use cl_text::Text;
@@ -16,15 +20,16 @@ use std::alloc::Global;
 /// The outcome of `draw` of a valid model and of the text of a trace, from one tick to another: the picture of its run,
 /// or the first bad line of the text, or the first rule that its run breaks, or the refusal of a window that doesn't lie
 /// within the run.
-pub(crate) fn drawn(
+#[tactic(auto, unfolding(crate::specs::Commands::meaning_of, crate::specs::Command::AsksForFew), using(crate::proofs::OfTrace::legal_answer, crate::proofs::OfTrace::stop_follows, crate::proofs::OfTrace::is_legal))]
+pub(super) fn drawn(
     alloc: Global,
     model: &ValidModel,
     text: &[u8],
     from: u64,
     to: u64,
 ) -> Result<Outcome, NoMemory>
-    requires { to ≤ MOST_WINDOW }
-    ensures { IfOk result (IsOfDraw from to model.now text.now) }
+    requires { AsksForFew (Command.Draw from to) }
+    ensures { IfOk result (IsOutcomeOf (Command.Draw from to) (ModelAnd model.now text.now)) }
 {
     match legal_run(alloc, model, text)? {
         LegalRun::Legal(run) => draw_legal(alloc, model, &run, from, to),

@@ -1,15 +1,18 @@
-ghost use Rattle.std.specs.Prelude.{◌≡◌, ℕ, ◌++◌, List, Ok, Err, IfOk, OnOk};
+ghost use Rattle.std.specs.Prelude.{◌≡◌, ℕ, ◌++◌, List, Err, IfOk, OnOk};
 ghost use Rattle.cl_model.specs.Place.{top};
 ghost use Rattle.cl_model.specs.declared.refusal.Refusal.{Refusal};
 ghost use Rattle.cl_edit.specs.Edited.{edited};
 ghost use Rattle.cl_edit.specs.Listed.{OfLines, ListsSome};
 ghost use Rattle.cl_edit.specs.Ranges.{IsEditInRange};
-ghost use Rattle.cl_top.specs.Commands.Edit.{edits_refused, behind, IsWrittenBy, IsOfEdits};
+ghost use Rattle.cl_engine.specs.Content.{ModelAnd};
+ghost use Rattle.cl_top.specs.Commands.{IsOutcomeOf, TakesStepsOf};
+ghost use Rattle.cl_top.specs.Commands.Edit.{edits_refused, behind, IsWrittenBy};
 ghost use Rattle.cl_top.specs.Inner.Edits.{IsMade, HasAsked, HaveAsked, LinesEditTo};
-ghost use Rattle.cl_top.specs.Steps.{AskForChanges, AreFewOfEdits};
+ghost use Rattle.cl_top.specs.Steps.{AskForChanges};
 
-use crate::{Outcome, status};
+use crate::Command;
 use cl_edit::{Edit, EditLines, EditsFault};
+use cl_engine::{Outcome, status};
 use cl_incr::Session;
 use cl_model::{Code, ModelFault, Place, Refusal, ValidModel};
 use cl_report::put_report;
@@ -22,14 +25,15 @@ use std::sync::ledger::Ledger;
 /// of the text; or the reports before the first edit that is refused, and then its refusal. It counts at most one step for
 /// each task and two for each chain of the model, and where each line is an edit, as many for each question that an edit
 /// changes.
-pub(crate) fn edited<L: Ledger>(
+#[tactic(auto, unfolding(crate::specs::Commands::meaning_of))]
+pub(super) fn edited<L: Ledger>(
     alloc: Global,
     model: ValidModel,
     text: &[u8],
     steps: &mut Steps<L>,
 ) -> Result<Outcome, NoMemory>
-    ensures outcome { IfOk result (IsOfEdits model text.now) }
-    ensures steps { AreFewOfEdits (Ok model) text.now steps.old steps.new }
+    ensures outcome { IfOk result (IsOutcomeOf Command.Edit (ModelAnd model text.now)) }
+    ensures steps { TakesStepsOf Command.Edit (ModelAnd model text.now) steps.old steps.new }
 {
     match EditLines::of(alloc, text) {
         Ok(lines) => report_edited(alloc, model, lines, steps),
@@ -116,7 +120,7 @@ fn stopped(alloc: Global, text: Text, number: u64, fault: ModelFault) -> Result<
 }
 
 /// A text, and behind it the refusal of the line of a number.
-pub(crate) fn refused(
+pub(super) fn refused(
     alloc: Global,
     text: Text,
     number: u64,
@@ -137,7 +141,7 @@ pub(crate) fn refused(
 }
 
 /// The first line that is no edit.
-pub(crate) fn bad_line(alloc: Global, number: u64) -> Result<Outcome, NoMemory>
+pub(super) fn bad_line(alloc: Global, number: u64) -> Result<Outcome, NoMemory>
     ensures { IfOk result (λ outcome. outcome ≡ edits_refused number (record { code = Code.E1; place = top })) }
 {
     let refusal = Refusal {

@@ -1,8 +1,9 @@
-ghost use Rattle.std.specs.Prelude.{◌≡◌, ◌+◌, ◌≤◌, length, IfOk};
-ghost use Rattle.cl_explain.specs.Explanation.{explanation};
-ghost use Rattle.cl_top.specs.Done.{IsDone};
+ghost use Rattle.std.specs.Prelude.{IfOk};
+ghost use Rattle.cl_engine.specs.Content.{Model};
+ghost use Rattle.cl_top.specs.Commands.{IsOutcomeOf, TakesStepsOf};
 
-use crate::Outcome;
+use crate::Command;
+use cl_engine::Outcome;
 use cl_explain::explain;
 use cl_model::ValidModel;
 use cl_time::{NoMemory, Steps};
@@ -11,13 +12,14 @@ use std::sync::ledger::Ledger;
 
 /// The outcome of `explain` of a valid model: what its responses and its bounds are the sums of. It counts at most one
 /// step for each task and one for each chain.
-pub(crate) fn explained<L: Ledger>(
+#[tactic(auto, unfolding(crate::specs::Commands::meaning_of))]
+pub(super) fn explained<L: Ledger>(
     alloc: Global,
     model: &ValidModel,
     steps: &mut Steps<L>,
 ) -> Result<Outcome, NoMemory>
-    ensures outcome { IfOk result (IsDone (λ text. text ≡ explanation model.now)) }
-    ensures steps { steps.new ≤ steps.old + (length model.now.tasks + length model.now.chains) }
+    ensures outcome { IfOk result (IsOutcomeOf Command.Explain (Model model.now)) }
+    ensures steps { TakesStepsOf Command.Explain (Model model.now) steps.old steps.new }
 {
     let text = explain(alloc, model, steps)?;
     Ok(Outcome::done(text))

@@ -1,20 +1,20 @@
-ghost use Rattle.std.specs.Prelude.{◌≤◌, IfOk};
-ghost use Rattle.cl_gen.specs.Generated.{generated};
-ghost use Rattle.cl_top.specs.Done.{IsDone};
-ghost use Rattle.cl_write.specs.Texts.{IsTextOf};
+ghost use Rattle.std.specs.Prelude.{IfOk};
+ghost use Rattle.cl_engine.specs.Content.{Nothing};
+ghost use Rattle.cl_top.specs.Command.{AsksForFew};
+ghost use Rattle.cl_top.specs.Commands.{IsOutcomeOf};
 
-use crate::Outcome;
+use crate::Command;
+use cl_engine::Outcome;
 use cl_gen::generate;
-use cl_model::MOST_TASKS;
 use cl_time::NoMemory;
 use cl_write::write_model;
 use std::alloc::Global;
 
 /// The outcome of `generate`: a text of version 2 that is read as the generated model.
-pub(crate) fn generated(alloc: Global, seed: u64, tasks: u64) -> Result<Outcome, NoMemory>
-    requires some { 1 ≤ tasks }
-    requires few { tasks ≤ MOST_TASKS }
-    ensures { IfOk result (IsDone (IsTextOf (generated seed tasks))) }
+#[tactic(auto, unfolding(crate::specs::Commands::meaning_of, crate::specs::Command::AsksForFew))]
+pub(super) fn generated(alloc: Global, seed: u64, tasks: u64) -> Result<Outcome, NoMemory>
+    requires { AsksForFew (Command.Generate seed tasks) }
+    ensures { IfOk result (IsOutcomeOf (Command.Generate seed tasks) Nothing) }
 {
     let model = generate(alloc, seed, tasks)?;
     let text = write_model(alloc, &model)?;

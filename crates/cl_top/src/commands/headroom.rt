@@ -1,21 +1,24 @@
 ghost use Rattle.std.specs.Prelude.{IfOk};
-ghost use Rattle.cl_designs.specs.Headroom.{IsHeadroomTextOf};
-ghost use Rattle.cl_top.specs.Done.{IsDone};
+ghost use Rattle.cl_engine.specs.Content.{Model};
+ghost use Rattle.cl_top.specs.Commands.{IsOutcomeOf, TakesStepsOf};
 
-use crate::Outcome;
+use crate::Command;
 use cl_designs::headroom_text;
+use cl_engine::Outcome;
 use cl_model::ValidModel;
 use cl_time::{NoMemory, Steps};
 use std::alloc::Global;
 use std::sync::ledger::Ledger;
 
 /// The outcome of `headroom` of a valid model: how far its execution times may grow.
-pub(crate) fn headroom<L: Ledger>(
+#[tactic(auto, unfolding(crate::specs::Commands::meaning_of))]
+pub(super) fn headroom<L: Ledger>(
     alloc: Global,
     model: &ValidModel,
     steps: &mut Steps<L>,
 ) -> Result<Outcome, NoMemory>
-    ensures { IfOk result (IsDone (IsHeadroomTextOf model.now)) }
+    ensures outcome { IfOk result (IsOutcomeOf Command.Headroom (Model model.now)) }
+    ensures steps { TakesStepsOf Command.Headroom (Model model.now) steps.old steps.new }
 {
     let text = headroom_text(alloc, model, steps)?;
     Ok(Outcome::done(text))

@@ -1,16 +1,17 @@
-ghost use Rattle.std.specs.Prelude.{◌≡◌, IfOk};
-ghost use Rattle.cl_top.specs.Commands.Help.{help_text, version_text};
-ghost use Rattle.cl_top.specs.Done.{IsDone};
+ghost use Rattle.std.specs.Prelude.{IfOk};
+ghost use Rattle.cl_engine.specs.Content.{Nothing};
+ghost use Rattle.cl_top.specs.Commands.{IsOutcomeOf};
 
-use crate::Outcome;
+use crate::Command;
+use cl_engine::Outcome;
 use cl_text::Text;
 use cl_time::NoMemory;
 use std::alloc::Global;
 
 /// The outcome of `help`: what the commands are.
-#[tactic(auto, unfolding(crate::specs::Commands::Help::help_text))]
-pub(crate) fn helped(alloc: Global) -> Result<Outcome, NoMemory>
-    ensures { IfOk result (IsDone (λ text. text ≡ help_text)) }
+#[tactic(auto, unfolding(crate::specs::Commands::meaning_of))]
+pub(super) fn helped(alloc: Global) -> Result<Outcome, NoMemory>
+    ensures { IfOk result (IsOutcomeOf Command.Help Nothing) }
 {
     let mut text = Text::new(alloc);
     text.put(HELP.as_bytes())?;
@@ -18,16 +19,19 @@ pub(crate) fn helped(alloc: Global) -> Result<Outcome, NoMemory>
 }
 
 /// The outcome of `version`.
-#[tactic(auto, unfolding(crate::specs::Commands::Help::version_text))]
-pub(crate) fn named_version(alloc: Global) -> Result<Outcome, NoMemory>
-    ensures { IfOk result (IsDone (λ text. text ≡ version_text)) }
+#[tactic(auto, unfolding(crate::specs::Commands::meaning_of))]
+pub(super) fn named_version(alloc: Global) -> Result<Outcome, NoMemory>
+    ensures { IfOk result (IsOutcomeOf Command.Version Nothing) }
 {
     let mut text = Text::new(alloc);
-    text.put(b"chainlat 1.0.0\n")?;
+    text.put(VERSION.as_bytes())?;
     Ok(Outcome::done(text))
 }
 
-/// What `help` writes.
+/// The version of the program, with which CHANGELOG.md begins.
+const VERSION: &str = "chainlat 1.0.0\n";
+
+/// What the commands are, with their files and numbers and the limits of these, and where to read more.
 const HELP: &str = "usage: chainlat COMMAND ARGUMENTS\n\
 \n\
 analyse MODEL               the report: responses, bounds, exact lengths and verdicts\n\

@@ -6,8 +6,8 @@ ghost use Rattle.cl_runs.specs.Run.{IsInForm};
 ghost use Rattle.cl_top.specs.Inner.LegalRuns.{IsCheckedAs, IsTracedAs};
 ghost use Rattle.cl_top.specs.OfTrace.{trace_refused, rule_words, breaker, trace_illegal};
 
-use crate::{Outcome, status};
 use cl_check::{Rule, RunFault, check_run};
+use cl_engine::{Outcome, status};
 use cl_model::ValidModel;
 use cl_run_data::RunData;
 use cl_text::Text;
@@ -17,7 +17,7 @@ use std::alloc::Global;
 
 /// What the text of a trace gives.
 #[derive(Drop)]
-pub(crate) enum LegalRun {
+pub(super) enum LegalRun {
     Legal(RunData),
     /// There is none, and this is the outcome of the command.
     Stopped(Outcome),
@@ -25,7 +25,7 @@ pub(crate) enum LegalRun {
 
 /// The legal run of the text of a trace, or the outcome of the first bad line of the text or of the first rule that its
 /// run breaks.
-pub(crate) fn legal_run(
+pub(super) fn legal_run(
     alloc: Global,
     model: &ValidModel,
     text: &[u8],

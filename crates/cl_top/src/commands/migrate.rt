@@ -1,16 +1,18 @@
 ghost use Rattle.std.specs.Prelude.{IfOk};
-ghost use Rattle.cl_top.specs.Done.{IsDone};
-ghost use Rattle.cl_write.specs.Texts.{IsTextOf};
+ghost use Rattle.cl_engine.specs.Content.{Model};
+ghost use Rattle.cl_top.specs.Commands.{IsOutcomeOf};
 
-use crate::Outcome;
+use crate::Command;
+use cl_engine::Outcome;
 use cl_model::ValidModel;
 use cl_time::NoMemory;
 use cl_write::write_model;
 use std::alloc::Global;
 
 /// The outcome of `migrate` of a valid model: a text of version 2 that is read as the model.
-pub(crate) fn migrated(alloc: Global, model: &ValidModel) -> Result<Outcome, NoMemory>
-    ensures { IfOk result (IsDone (IsTextOf model.now)) }
+#[tactic(auto, unfolding(crate::specs::Commands::meaning_of))]
+pub(super) fn migrated(alloc: Global, model: &ValidModel) -> Result<Outcome, NoMemory>
+    ensures { IfOk result (IsOutcomeOf Command.Migrate (Model model.now)) }
 {
     let text = write_model(alloc, model.plain())?;
     Ok(Outcome::done(text))

@@ -1,21 +1,24 @@
 ghost use Rattle.std.specs.Prelude.{IfOk};
-ghost use Rattle.cl_designs.specs.Orders.{IsOrderTextOf};
-ghost use Rattle.cl_top.specs.Done.{IsDone};
+ghost use Rattle.cl_engine.specs.Content.{Model};
+ghost use Rattle.cl_top.specs.Commands.{IsOutcomeOf, TakesStepsOf};
 
-use crate::Outcome;
+use crate::Command;
 use cl_designs::order_text;
+use cl_engine::Outcome;
 use cl_model::ValidModel;
 use cl_time::{NoMemory, Steps};
 use std::alloc::Global;
 use std::sync::ledger::Ledger;
 
 /// The outcome of `order` of a valid model: the best orders of its priorities.
-pub(crate) fn ordered<L: Ledger>(
+#[tactic(auto, unfolding(crate::specs::Commands::meaning_of))]
+pub(super) fn ordered<L: Ledger>(
     alloc: Global,
     model: &ValidModel,
     steps: &mut Steps<L>,
 ) -> Result<Outcome, NoMemory>
-    ensures { IfOk result (IsDone (IsOrderTextOf model.now)) }
+    ensures outcome { IfOk result (IsOutcomeOf Command.Order (Model model.now)) }
+    ensures steps { TakesStepsOf Command.Order (Model model.now) steps.old steps.new }
 {
     let text = order_text(alloc, model, steps)?;
     Ok(Outcome::done(text))

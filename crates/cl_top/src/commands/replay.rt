@@ -1,11 +1,14 @@
 ghost use Rattle.std.specs.Prelude.{◌+◌, ◌*◌, ◌≤◌, length, IfOk};
 ghost use Rattle.cl_runs.specs.SystemOf.{system_of};
 ghost use Rattle.cl_runs.specs.Legal.{IsLegal};
-ghost use Rattle.cl_top.specs.Commands.Replay.{IsReplayed, IsOfReplay};
+ghost use Rattle.cl_engine.specs.Content.{ModelAnd};
+ghost use Rattle.cl_top.specs.Commands.{IsOutcomeOf, TakesStepsOf};
+ghost use Rattle.cl_top.specs.Commands.Replay.{IsReplayed};
 
 use super::legal_run::{LegalRun, legal_run};
-use crate::Outcome;
+use crate::Command;
 use cl_analyse::analyse;
+use cl_engine::Outcome;
 use cl_model::ValidModel;
 use cl_replay::replay;
 use cl_run_data::RunData;
@@ -15,14 +18,15 @@ use std::sync::ledger::Ledger;
 
 /// The outcome of `replay` of a valid model and of the text of a trace: the replay of its run, or the first bad line of
 /// the text, or the first rule that its run breaks. It counts at most one step for each task and two for each chain.
-pub(crate) fn replayed<L: Ledger>(
+#[tactic(auto, unfolding(crate::specs::Commands::meaning_of), using(crate::proofs::OfTrace::legal_answer, crate::proofs::OfTrace::stop_follows, crate::proofs::OfTrace::is_legal))]
+pub(super) fn replayed<L: Ledger>(
     alloc: Global,
     model: &ValidModel,
     text: &[u8],
     steps: &mut Steps<L>,
 ) -> Result<Outcome, NoMemory>
-    ensures outcome { IfOk result (IsOfReplay model.now text.now) }
-    ensures steps { steps.new ≤ steps.old + (length model.now.tasks + 2 * length model.now.chains) }
+    ensures outcome { IfOk result (IsOutcomeOf Command.Replay (ModelAnd model.now text.now)) }
+    ensures steps { TakesStepsOf Command.Replay (ModelAnd model.now text.now) steps.old steps.new }
 {
     match legal_run(alloc, model, text)? {
         LegalRun::Legal(run) => replay_legal(alloc, model, &run, steps),

@@ -1,31 +1,36 @@
-ghost use Rattle.std.specs.Prelude.{◌≡◌, ◌≤◌, IfOk};
-ghost use Rattle.cl_gen.specs.declared.limits.TheConstants.{MOST_RUN_TICKS};
+ghost use Rattle.std.specs.Prelude.{◌≡◌, IfOk};
+ghost use Rattle.cl_engine.specs.Content.{Model};
 ghost use Rattle.cl_runs.specs.SystemOf.{system_of};
 ghost use Rattle.cl_runs.specs.Table.{IsLawful};
-ghost use Rattle.cl_top.specs.Commands.Simulate.{IsSimulated};
+ghost use Rattle.cl_top.specs.Command.{AsksForFew};
+ghost use Rattle.cl_top.specs.Commands.{IsOutcomeOf};
+ghost use Rattle.cl_top.specs.Commands.Simulate.{simulation_refused};
 ghost use Rattle.cl_top.specs.Inner.Traced.{IsTraceOfTable};
 
-use crate::Outcome;
-use cl_gen::{DrawFault, draw_table};
+use crate::Command;
+use cl_engine::{Outcome, status};
+use cl_gen::{DrawFault, MOST_EXECUTIONS, draw_table};
 use cl_model::ValidModel;
 use cl_runs::JobTable;
+use cl_text::Text;
 use cl_time::NoMemory;
 use std::alloc::Global;
 
 /// The outcome of `simulate` of a valid model: the trace of the legal run of the drawn table, or the refusal of one that
 /// is too large.
-pub(crate) fn simulated(
+#[tactic(auto, unfolding(crate::specs::Commands::meaning_of, crate::specs::Command::AsksForFew))]
+pub(super) fn simulated(
     alloc: Global,
     model: &ValidModel,
     ticks: u64,
     seed: u64,
 ) -> Result<Outcome, NoMemory>
-    requires { ticks ≤ MOST_RUN_TICKS }
-    ensures { IfOk result (IsSimulated ticks seed model.now) }
+    requires { AsksForFew (Command.Simulate ticks seed) }
+    ensures { IfOk result (IsOutcomeOf (Command.Simulate ticks seed) (Model model.now)) }
 {
     match draw_table(alloc, model, ticks, seed) {
         Ok(table) => traced(alloc, model, table),
-        Err(DrawFault::SimLimit { count }) => Outcome::simulation_refused(alloc, count),
+        Err(DrawFault::SimLimit { count }) => refused(alloc, count),
         Err(DrawFault::NoMemory) => Err(NoMemory),
     }
 }
@@ -38,4 +43,20 @@ fn traced(alloc: Global, model: &ValidModel, table: JobTable) -> Result<Outcome,
     let run = cl_sched::simulate(alloc, model, table)?;
     let text = cl_trace::write_trace(alloc, model, &run)?;
     Ok(Outcome::done(text))
+}
+
+/// So many executions of runnables are counted, which are too many.
+fn refused(alloc: Global, count: u64) -> Result<Outcome, NoMemory>
+    ensures { IfOk result (λ outcome. outcome ≡ simulation_refused count) }
+{
+    let mut text = Text::new(alloc);
+    text.put(b"simulation refused ")?;
+    text.put_number(count)?;
+    text.put(b" of ")?;
+    text.put_number(MOST_EXECUTIONS)?;
+    text.put(b"\n")?;
+    Ok(Outcome {
+        status: status::SIMULATION_REFUSED,
+        text,
+    })
 }

@@ -1,13 +1,15 @@
-ghost use Rattle.std.specs.Prelude.{◌+◌, ◌*◌, ◌≤◌, length, Ok, IfOk};
-ghost use Rattle.cl_gen.specs.Generated.{generated};
+ghost use Rattle.std.specs.Prelude.{◌+◌, ◌*◌, ◌≤◌, length, IfOk};
 ghost use Rattle.cl_report.specs.Survey.{IsSurveyOf};
-ghost use Rattle.cl_top.specs.Done.{IsDone};
-ghost use Rattle.cl_top.specs.OfModel.{model_steps};
+ghost use Rattle.cl_engine.specs.Done.{IsDone};
+ghost use Rattle.cl_engine.specs.Content.{Nothing};
+ghost use Rattle.cl_top.specs.Command.{AsksForFew};
+ghost use Rattle.cl_top.specs.Commands.{IsOutcomeOf, TakesStepsOf};
 
-use crate::Outcome;
+use crate::Command;
 use cl_analyse::analyse;
+use cl_engine::Outcome;
 use cl_gen::generate;
-use cl_model::{MOST_TASKS, ValidModel};
+use cl_model::ValidModel;
 use cl_report::survey_text;
 use cl_time::{NoMemory, Steps};
 use std::alloc::Global;
@@ -15,16 +17,16 @@ use std::sync::ledger::Ledger;
 
 /// The outcome of `survey`: the survey of the generated model. It counts at most one step for each task and two for each
 /// chain.
-pub(crate) fn surveyed<L: Ledger>(
+#[tactic(auto, unfolding(crate::specs::Commands::meaning_of, crate::specs::Command::AsksForFew))]
+pub(super) fn surveyed<L: Ledger>(
     alloc: Global,
     seed: u64,
     tasks: u64,
     steps: &mut Steps<L>,
 ) -> Result<Outcome, NoMemory>
-    requires some { 1 ≤ tasks }
-    requires few { tasks ≤ MOST_TASKS }
-    ensures outcome { IfOk result (IsDone (IsSurveyOf (generated seed tasks))) }
-    ensures steps { steps.new ≤ steps.old + model_steps (Ok (generated seed tasks)) }
+    requires { AsksForFew (Command.Survey seed tasks) }
+    ensures outcome { IfOk result (IsOutcomeOf (Command.Survey seed tasks) Nothing) }
+    ensures steps { TakesStepsOf (Command.Survey seed tasks) Nothing steps.old steps.new }
 {
     let model = generate(alloc, seed, tasks)?;
     match ValidModel::adopt(alloc, model) {

@@ -1,8 +1,9 @@
-ghost use Rattle.std.specs.Prelude.{◌≡◌, ◌+◌, ◌≤◌, length, IfOk};
-ghost use Rattle.cl_report.specs.Tight.{tight_text};
-ghost use Rattle.cl_top.specs.Done.{IsDone};
+ghost use Rattle.std.specs.Prelude.{IfOk};
+ghost use Rattle.cl_engine.specs.Content.{Model};
+ghost use Rattle.cl_top.specs.Commands.{IsOutcomeOf, TakesStepsOf};
 
-use crate::Outcome;
+use crate::Command;
+use cl_engine::Outcome;
 use cl_model::ValidModel;
 use cl_report::tight_report;
 use cl_tight::tighten;
@@ -11,13 +12,14 @@ use std::alloc::Global;
 use std::sync::ledger::Ledger;
 
 /// The outcome of `tighten` of a valid model: its report by tight bounds. It counts at most one step for each task.
-pub(crate) fn tightened<L: Ledger>(
+#[tactic(auto, unfolding(crate::specs::Commands::meaning_of))]
+pub(super) fn tightened<L: Ledger>(
     alloc: Global,
     model: &ValidModel,
     steps: &mut Steps<L>,
 ) -> Result<Outcome, NoMemory>
-    ensures outcome { IfOk result (IsDone (λ text. text ≡ tight_text model.now)) }
-    ensures steps { steps.new ≤ steps.old + length model.now.tasks }
+    ensures outcome { IfOk result (IsOutcomeOf Command.Tighten (Model model.now)) }
+    ensures steps { TakesStepsOf Command.Tighten (Model model.now) steps.old steps.new }
 {
     let findings = tighten(alloc, model, steps)?;
     let text = tight_report(alloc, model, &findings)?;

@@ -1,10 +1,11 @@
-ghost use Rattle.std.specs.Prelude.{◌≡◌, ◌+◌, ◌≤◌, length, IfOk};
-ghost use Rattle.cl_report.specs.Tight.{verify_text};
+ghost use Rattle.std.specs.Prelude.{◌≡◌, IfOk};
 ghost use Rattle.cl_tight.specs.TightFindings.{tight_findings_of};
-ghost use Rattle.cl_top.specs.Done.{HasStatusAndText};
-ghost use Rattle.cl_top.specs.OfModel.{verify_status};
+ghost use Rattle.cl_engine.specs.Content.{Model};
+ghost use Rattle.cl_top.specs.Verified.{verify_status};
+ghost use Rattle.cl_top.specs.Commands.{IsOutcomeOf, TakesStepsOf};
 
-use crate::{Outcome, status};
+use crate::Command;
+use cl_engine::{Outcome, status};
 use cl_model::ValidModel;
 use cl_report::verify_report;
 use cl_tight::{TightFindings, is_verified, tighten};
@@ -14,13 +15,14 @@ use std::sync::ledger::Ledger;
 
 /// The outcome of `verify` of a valid model: the tasks that are late and the verdicts, and whether that verifies it. It
 /// counts at most one step for each task.
-pub(crate) fn verified<L: Ledger>(
+#[tactic(auto, unfolding(crate::specs::Commands::meaning_of))]
+pub(super) fn verified<L: Ledger>(
     alloc: Global,
     model: &ValidModel,
     steps: &mut Steps<L>,
 ) -> Result<Outcome, NoMemory>
-    ensures outcome { IfOk result (HasStatusAndText (verify_status model.now) (λ text. text ≡ verify_text model.now)) }
-    ensures steps { steps.new ≤ steps.old + length model.now.tasks }
+    ensures outcome { IfOk result (IsOutcomeOf Command.Verify (Model model.now)) }
+    ensures steps { TakesStepsOf Command.Verify (Model model.now) steps.old steps.new }
 {
     let findings = tighten(alloc, model, steps)?;
     Ok(Outcome {

@@ -6,50 +6,50 @@ ghost use Rattle.cl_edit.specs.declared.edit.Edit.{Edit};
 ghost use Rattle.cl_edit.specs.declared.edit.Edit.TheVariants.{Report};
 ghost use Rattle.cl_edit.specs.Ranges.{IsEditInRange};
 ghost use Rattle.cl_runs.specs.Run.{Run};
-ghost use Rattle.cl_top.specs.declared.command.Command.TheVariants.{OfModel, Replay};
-ghost use Rattle.cl_top.specs.declared.command.OfModel.TheVariants.{Analyse};
-ghost use Rattle.cl_top.specs.declared.outcome.Outcome.{Outcome};
-ghost use Rattle.cl_top.specs.Command.{File, command_of};
-ghost use Rattle.cl_top.specs.Commands.Edit.{AreAccepted};
-ghost use Rattle.cl_top.specs.Commands.Draw.{IsDrawn};
+ghost use Rattle.cl_top.specs.declared.command.Command.TheVariants.{Analyse, Replay};
+ghost use Rattle.cl_engine.specs.declared.outcome.Outcome.{Outcome};
+ghost use Rattle.cl_top.specs.declared.command.Command.{Command};
+ghost use Rattle.cl_engine.specs.Files.{File};
+ghost use Rattle.cl_engine.specs.Language.{files_of};
+ghost use Rattle.cl_top.specs.Command.{command_of};
+ghost use Rattle.cl_top.specs.Commands.{commands, SaysTheSame, of_run};
+ghost use Rattle.cl_top.specs.Commands.Edit.{AreAccepted, IsSafePiece};
 ghost use Rattle.cl_top.specs.Commands.Replay.{IsReplayed};
-ghost use Rattle.cl_top.specs.Files.{Fetched, EachFile, WasFetched, told_fetch};
-ghost use Rattle.cl_top.specs.Headline.{IsSafePiece};
+ghost use Rattle.cl_engine.specs.Fetched.{Fetched, EachFile, WasFetched, told_fetch};
 ghost use Rattle.cl_top.specs.Migrated.{IsMigratedFile};
-ghost use Rattle.cl_top.specs.declared.status.TheConstants.{DONE};
+ghost use Rattle.cl_engine.specs.declared.status.TheConstants.{DONE};
 ghost use Rattle.cl_top.specs.OfTrace.{IsOfRun};
-ghost use Rattle.cl_top.specs.Outcome.{HasOutcome, SaysTheSame};
+ghost use Rattle.cl_engine.specs.Outcome.{HasOutcome};
 ghost use Rattle.cl_top.specs.Reported.{IsAnalysisAfter};
 ghost use Rattle.cl_top.specs.Simulated.{IsSimulatedFile};
 
 /// Words whose files were all fetched have an outcome.
-#[tactic(auto, using(crate::proofs::OneOutcome::some_outcome))]
 pub fn words_have_an_outcome()
-    ensures { (words : List (List ℕ)) (gave : File → Fetched) → EachFile (command_of words) (λ file. WasFetched (gave file))
-        → (found : Outcome) × HasOutcome (command_of words) gave found }
+    ensures { (words : List (List ℕ)) (gave : File → Fetched) → EachFile (files_of commands words) (λ file. WasFetched (gave file))
+        → (found : Outcome) × HasOutcome commands (command_of words) gave found }
 {}
 
 /// Two outcomes of the same words, whose files gave the same, say the same.
-#[tactic(auto, using(crate::proofs::OneOutcome::same_outcome))]
+#[tactic(auto, using(crate::proofs::Answers::same_outcome))]
 pub fn outcomes_say_the_same()
-    ensures { (words : List (List ℕ)) (gave : File → Fetched) (one other : Outcome) → HasOutcome (command_of words) gave one
-        → HasOutcome (command_of words) gave other → SaysTheSame (command_of words) one other }
+    ensures { (words : List (List ℕ)) (gave : File → Fetched) (one other : Outcome) → HasOutcome commands (command_of words) gave one
+        → HasOutcome commands (command_of words) gave other → SaysTheSame (command_of words) one other }
 {}
 
-/// A run has one answer to each command on it: its replay, or its picture from one tick to another or the refusal of that
-/// window; or the first rule that it breaks.
+/// A run has one answer to each command on it: its replay, whatever the model, and for a valid model what comes of it by
+/// any of these commands; or the first rule that it breaks.
 pub fn runs_are_answered_in_one_way()
     ensures replayed { (model : SystemModel) (run : Run) (one other : Outcome) → IsOfRun model (IsReplayed model) run one
         → IsOfRun model (IsReplayed model) run other → one ≡ other }
-    ensures drawn { (model : SystemModel) → IsValid model → (run : Run) (from to : ℕ) (one other : Outcome) → IsOfRun model (IsDrawn from to model) run one
-        → IsOfRun model (IsDrawn from to model) run other → one ≡ other }
+    ensures each { (asked : Command) (model : SystemModel) → IsValid model → (run : Run) (one other : Outcome)
+        → IsOfRun model (of_run asked model) run one → IsOfRun model (of_run asked model) run other → one ≡ other }
 {}
 
 /// A file that holds what `migrate` made of another is analysed as that one.
 #[tactic(auto, using(crate::proofs::AnalysedAlike::analysed_alike))]
 pub fn migrated_files_are_analysed_alike()
     ensures { (contents migrated : ℕ → List ℕ) (found : Outcome) → IsMigratedFile contents migrated
-        → HasOutcome (Some (OfModel Analyse)) (told_fetch contents) found ↔ HasOutcome (Some (OfModel Analyse)) (told_fetch migrated) found }
+        → HasOutcome commands (Some Analyse) (told_fetch contents) found ↔ HasOutcome commands (Some Analyse) (told_fetch migrated) found }
 {}
 
 /// Of a list of edits in range, so many are accepted, and the text is the pieces that they have written, joined, with
@@ -72,5 +72,5 @@ pub fn reports_of_edits_are_safe()
 /// file, it is the trace of a run, and the run is legal.
 pub fn simulations_can_be_replayed()
     ensures { (contents : ℕ → List ℕ) (ticks seed : ℕ) (found : Outcome) → IsSimulatedFile contents ticks seed
-        → HasOutcome (Some Replay) (told_fetch contents) found → found.status ≡ DONE }
+        → HasOutcome commands (Some Replay) (told_fetch contents) found → found.status ≡ DONE }
 {}

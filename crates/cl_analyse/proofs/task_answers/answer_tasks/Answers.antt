@@ -8,6 +8,7 @@ use Rattle.cl_model.specs.declared.model.SystemModel.{SystemModel}
 use Rattle.cl_runs.specs.SystemOf.{system_of}
 use Rattle.cl_runs.specs.TaskTiming.{Timing, timing_at, no_timing}
 use Rattle.cl_runs.proofs.ModelSystem.{count_is}
+use Rattle.cl_resp.specs.declared.question.Block.{Block}
 use Rattle.cl_resp.specs.declared.question.Question.{Question}
 use Rattle.cl_resp.specs.Question.{either_question}
 use Rattle.cl_resp.specs.Response.{response_to}
@@ -18,8 +19,8 @@ use Rattle.cl_analyse.proofs.TaskAnswers.{AreAnswered, none_answered, one_answer
 use Rattle.cl_analyse.proofs.task_answers.answer_tasks.Goals as goal
 
 -- the answer to a question of a task
-abbrev answer_of : SystemModel → (own : Bool) → Timing → TaskAnswer
-answer_of model own timing = answer_with (response_to (either_question own (system_of model) timing))
+abbrev answer_of : SystemModel → (blocking : Block) → Timing → TaskAnswer
+answer_of model blocking timing = answer_with (response_to (either_question blocking (system_of model) timing))
 
 module _ (model : SystemModel) (order items : List ℕ) (permuted : IsPermutation (range_with_len 0 (length model.tasks)) order) (is : items ≡ order) where
   -- each task is an item
@@ -31,12 +32,12 @@ module _ (model : SystemModel) (order items : List ℕ) (permuted : IsPermutatio
   as_many : length items ≡ length model.tasks
   as_many = ap length is ∙ length_permutation (range_with_len 0 (length model.tasks)) order permuted ∙ length-range_with_len 0 (length model.tasks)
 
-  known : (own : Bool) (index : ℕ) → index < length items → get_or items index 0 < length model.tasks
-  known own index within = omega (arith, known_along (answer_of model own) (system_of model).tasks items each_task index within, count_is model)
+  known : (blocking : Block) (index : ℕ) → index < length items → get_or items index 0 < length model.tasks
+  known blocking index within = omega (arith, known_along (answer_of model blocking) (system_of model).tasks items each_task index within, count_is model)
 
 pub loop-task-init : goal.loop-task-init
 loop-task-init g c = record {
-  answered = none_answered (answer_of c.args.model.now c.args.own) (system_of c.args.model.now).tasks c.deref-task-items.result.now c.in_ok-answers.answers
+  answered = none_answered (answer_of c.args.model.now c.args.blocking) (system_of c.args.model.now).tasks c.deref-task-items.result.now c.in_ok-answers.answers
       (ap length c.in_ok-answers.ensures.late ∙ length-replicate (length c.args.model.now.tasks) Late ∙ sym (count_is c.args.model.now));
   last = tt;
   steps = omega arith;
@@ -44,7 +45,7 @@ loop-task-init g c = record {
 
 pub ask_either-requires : goal.ask_either-requires
 ask_either-requires g c =
-    known c.args.model.now c.in_ok-order.order.items c.deref-task-items.result.now c.in_ok-order.ensures c.deref-task-items.ensures.value c.args.own c.loop-task.task-index c.loop-task-test.true
+    known c.args.model.now c.in_ok-order.order.items c.deref-task-items.result.now c.in_ok-order.ensures c.deref-task-items.ensures.value c.args.blocking c.loop-task.task-index c.loop-task-test.true
 
 pub returns-in_err-question-clause-steps : goal.returns-in_err-question-clause-steps
 returns-in_err-question-clause-steps g c = omega (
@@ -56,12 +57,12 @@ returns-in_err-question-clause-steps g c = omega (
 
 pub answer_below-answer-requires-clause-task : goal.answer_below-answer-requires-clause-task
 answer_below-answer-requires-clause-task g c =
-    known c.args.model.now c.in_ok-order.order.items c.deref-task-items.result.now c.in_ok-order.ensures c.deref-task-items.ensures.value c.args.own c.loop-task.task-index c.loop-task-test.true
+    known c.args.model.now c.in_ok-order.order.items c.deref-task-items.result.now c.in_ok-order.ensures c.deref-task-items.ensures.value c.args.blocking c.loop-task.task-index c.loop-task-test.true
 
 pub item_mut-requires : goal.item_mut-requires
 item_mut-requires g c = omega (
   arith,
-  known c.args.model.now c.in_ok-order.order.items c.deref-task-items.result.now c.in_ok-order.ensures c.deref-task-items.ensures.value c.args.own c.loop-task.task-index c.loop-task-test.true,
+  known c.args.model.now c.in_ok-order.order.items c.deref-task-items.result.now c.in_ok-order.ensures c.deref-task-items.ensures.value c.args.blocking c.loop-task.task-index c.loop-task-test.true,
   c.loop-task.invariant.answered.one_a_task,
   count_is c.args.model.now,
 )
@@ -71,13 +72,13 @@ loop-task-preserved g c =
     let task = get_or c.deref-task-items.result.now c.loop-task.task-index 0 in
     let within : task < length (system_of c.args.model.now).tasks = omega (
       arith,
-      known c.args.model.now c.in_ok-order.order.items c.deref-task-items.result.now c.in_ok-order.ensures c.deref-task-items.ensures.value c.args.own c.loop-task.task-index c.loop-task-test.true,
+      known c.args.model.now c.in_ok-order.order.items c.deref-task-items.result.now c.in_ok-order.ensures c.deref-task-items.ensures.value c.args.blocking c.loop-task.task-index c.loop-task-test.true,
       count_is c.args.model.now,
     ) in
-    let is : c.answer_below-answer.result ≡ answer_of c.args.model.now c.args.own (timing_at (system_of c.args.model.now) task) =
+    let is : c.answer_below-answer.result ≡ answer_of c.args.model.now c.args.blocking (timing_at (system_of c.args.model.now) task) =
     c.answer_below-answer.ensures.answer ∙ ap (λ (q : Question). answer_with (response_to q)) c.in_ok-question.ensures.question in
     record {
-      answered = one_answered (answer_of c.args.model.now c.args.own) (system_of c.args.model.now).tasks c.deref-task-items.result.now c.loop-task.task-index
+      answered = one_answered (answer_of c.args.model.now c.args.blocking) (system_of c.args.model.now).tasks c.deref-task-items.result.now c.loop-task.task-index
           c.loop-task.answers _ c.answer_below-answer.result c.loop-task.invariant.answered within is (search rules);
       last = c.answer_below-answer.ensures.last;
       steps = omega (arith, c.loop-task.invariant.steps, c.answer_below-answer.ensures.steps);
@@ -89,8 +90,8 @@ returns-clause-answers g c =
     let items = c.deref-task-items.result.now in
     let each = each_task model c.in_ok-order.order.items items c.in_ok-order.ensures c.deref-task-items.ensures.value in
     let done : c.loop-task.task-index ≡ length items = omega (arith, c.loop-task-test.false, c.loop-task.auto.task-index-end) in
-    all_answered (answer_of model c.args.own) (system_of model).tasks items each c.loop-task.answers
-    (subst (λ index. AreAnswered (answer_of model c.args.own) (system_of model).tasks items index c.loop-task.answers) done c.loop-task.invariant.answered)
+    all_answered (answer_of model c.args.blocking) (system_of model).tasks items each c.loop-task.answers
+    (subst (λ index. AreAnswered (answer_of model c.args.blocking) (system_of model).tasks items index c.loop-task.answers) done c.loop-task.invariant.answered)
 
 pub returns-clause-steps : goal.returns-clause-steps
 returns-clause-steps g c = omega (

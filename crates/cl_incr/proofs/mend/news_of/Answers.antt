@@ -2,9 +2,9 @@ use Rattle.std.proofs.Common.{◌≡◌, ℕ, ◌<◌, ◌⊎◌, List, length, 
 use Rattle.std.specs.Prelude.{All, Contains}
 use Rattle.std.proofs.lemmas.List.Elements.{All-contains}
 use Rattle.cl_runs.specs.SystemOf.{system_of}
+use Rattle.cl_runs.specs.Requirements.{required_chain, requirement_at}
 use Rattle.cl_bound.specs.declared.answer.TaskAnswer.{TaskAnswer}
 use Rattle.cl_bound.specs.Answers.{answer_at, answers_of}
-use Rattle.cl_analyse.specs.Verdicts.{required_chain, requirement_at}
 use Rattle.cl_incr.specs.Changed.{IsChangedChain}
 use Rattle.cl_incr.specs.Touched.{HasSameAnswer, AreAnswersBut, StandBut}
 use Rattle.cl_incr.specs.Inner.Listed.{listed, AreListedBelow}

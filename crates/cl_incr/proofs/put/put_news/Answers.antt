@@ -2,7 +2,8 @@ use Rattle.std.proofs.Common.{◌≡◌, ℕ, ◌<◌, ◌⊎◌, List, length, 
 use Rattle.std.specs.Prelude.{All, Contains}
 use Rattle.std.proofs.lemmas.List.{length-map}
 use Rattle.cl_model.specs.declared.model.SystemModel.{SystemModel}
-use Rattle.cl_analyse.specs.Verdicts.{verdict_at, verdict_of, requirement_at}
+use Rattle.cl_runs.specs.Requirements.{requirement_at}
+use Rattle.cl_analyse.specs.Verdicts.{verdict_at, verdict_of}
 use Rattle.cl_analyse.specs.ChainAnswers.{chain_answer_of}
 use Rattle.cl_analyse.specs.declared.findings.Findings.{Findings}
 use Rattle.cl_analyse.specs.Findings.{AreFindings}

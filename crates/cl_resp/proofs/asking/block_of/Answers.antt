@@ -11,6 +11,6 @@ returns c =
     let others = c.tasks_of_core-other-items.result.now in
     let all : take c.loop-other.other-index others ≡ others = take_all c.loop-other.other-index others (omega (arith, c.loop-other-test.false)) in
     c.loop-other.invariant
-    ∙ ap (λ list. greatest_by (hold_at model) (filter (may_hold model c.args.own c.args.task) list))
+    ∙ ap (λ list. greatest_by (hold_at model) (filter (may_hold model c.args.blocking c.args.task) list))
     (all ∙ c.tasks_of_core-other-items.ensures.tasks ∙ ap (tasks_of_core model) c.core_of.ensures.core)
-    ∙ sym (block_is model c.args.own c.args.task)
+    ∙ sym (block_is model c.args.blocking c.args.task)

@@ -6,4 +6,4 @@ use Rattle.cl_resp.proofs.asking.block_of.Given as goal
 
 -- the longest hold of the tasks so far that may
 abbrev pub invariant-loop-other : goal.invariant-loop-other
-invariant-loop-other l = l.block ≡ greatest_by (hold_at l.model) (filter (may_hold l.model l.own l.task) (take l.other-index l.other-items))
+invariant-loop-other l = l.block ≡ greatest_by (hold_at l.model) (filter (may_hold l.model l.blocking l.task) (take l.other-index l.other-items))

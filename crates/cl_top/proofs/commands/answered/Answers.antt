@@ -1,29 +1,27 @@
-use Rattle.std.proofs.Common.{sym, subst}
-use Rattle.std.specs.Prelude.{IfOk}
-use Rattle.cl_top.specs.declared.command.OfModel.{OfModel}
-use Rattle.cl_top.specs.OfModel.{IsAnswer}
+use Rattle.std.proofs.Common.{refl}
+use Rattle.std.specs.Result.{IfOk}
+use Rattle.cl_engine.specs.Content.{content_of}
+use Rattle.cl_top.specs.declared.command.Command.TheVariants as command
+use Rattle.cl_top.specs.Commands.{IsOutcomeOf, TakesStepsOf}
+use Rattle.cl_top.proofs.Answers.{as_asked}
 use Rattle.cl_top.proofs.commands.answered.Goals as goal
 
-pub returns-in-Analyse-clause-outcome : goal.returns-in-Analyse-clause-outcome
-returns-in-Analyse-clause-outcome g c = subst (λ (asked : OfModel). IfOk c.analysed.result (IsAnswer asked c.args.model.now)) (sym c.in-Analyse.is) c.analysed.ensures.outcome
+pub returns-in-Generate-clause-outcome : goal.returns-in-Generate-clause-outcome
+returns-in-Generate-clause-outcome g c = as_asked (λ asked content. IfOk c.generated.result (IsOutcomeOf asked content)) c.args.asked (command.Generate c.in-Generate.seed c.in-Generate.tasks) (content_of c.args.given)
+    c.in-Generate.is refl c.requires.fits c.generated.ensures
 
-pub returns-in-Migrate-clause-outcome : goal.returns-in-Migrate-clause-outcome
-returns-in-Migrate-clause-outcome g c = subst (λ (asked : OfModel). IfOk c.migrated.result (IsAnswer asked c.args.model.now)) (sym c.in-Migrate.is) c.migrated.ensures
+pub returns-in-Survey-clause-outcome : goal.returns-in-Survey-clause-outcome
+returns-in-Survey-clause-outcome g c = as_asked (λ asked content. IfOk c.surveyed.result (IsOutcomeOf asked content)) c.args.asked (command.Survey c.in-Survey.seed c.in-Survey.tasks) (content_of c.args.given)
+    c.in-Survey.is refl c.requires.fits c.surveyed.ensures.outcome
 
-pub returns-in-Cut-clause-outcome : goal.returns-in-Cut-clause-outcome
-returns-in-Cut-clause-outcome g c = subst (λ (asked : OfModel). IfOk c.cut.result (IsAnswer asked c.args.model.now)) (sym c.in-Cut.is) c.cut.ensures
+pub returns-in-Help-clause-outcome : goal.returns-in-Help-clause-outcome
+returns-in-Help-clause-outcome g c = as_asked (λ asked content. IfOk c.helped.result (IsOutcomeOf asked content)) c.args.asked command.Help (content_of c.args.given)
+    c.in-Help.is refl c.requires.fits c.helped.ensures
 
-pub returns-in-Order-clause-outcome : goal.returns-in-Order-clause-outcome
-returns-in-Order-clause-outcome g c = subst (λ (asked : OfModel). IfOk c.ordered.result (IsAnswer asked c.args.model.now)) (sym c.in-Order.is) c.ordered.ensures
+pub returns-in-Version-clause-outcome : goal.returns-in-Version-clause-outcome
+returns-in-Version-clause-outcome g c = as_asked (λ asked content. IfOk c.named_version.result (IsOutcomeOf asked content)) c.args.asked command.Version (content_of c.args.given)
+    c.in-Version.is refl c.requires.fits c.named_version.ensures
 
-pub returns-in-Headroom-clause-outcome : goal.returns-in-Headroom-clause-outcome
-returns-in-Headroom-clause-outcome g c = subst (λ (asked : OfModel). IfOk c.headroom.result (IsAnswer asked c.args.model.now)) (sym c.in-Headroom.is) c.headroom.ensures
-
-pub returns-in-Tighten-clause-outcome : goal.returns-in-Tighten-clause-outcome
-returns-in-Tighten-clause-outcome g c = subst (λ (asked : OfModel). IfOk c.tightened.result (IsAnswer asked c.args.model.now)) (sym c.in-Tighten.is) c.tightened.ensures.outcome
-
-pub returns-in-Verify-clause-outcome : goal.returns-in-Verify-clause-outcome
-returns-in-Verify-clause-outcome g c = subst (λ (asked : OfModel). IfOk c.verified.result (IsAnswer asked c.args.model.now)) (sym c.in-Verify.is) c.verified.ensures.outcome
-
-pub returns-in-Explain-clause-outcome : goal.returns-in-Explain-clause-outcome
-returns-in-Explain-clause-outcome g c = subst (λ (asked : OfModel). IfOk c.explained.result (IsAnswer asked c.args.model.now)) (sym c.in-Explain.is) c.explained.ensures.outcome
+pub returns-in-Survey-clause-steps : goal.returns-in-Survey-clause-steps
+returns-in-Survey-clause-steps g c = as_asked (λ asked content. TakesStepsOf asked content c.args.steps.now c.surveyed.new.steps) c.args.asked
+    (command.Survey c.in-Survey.seed c.in-Survey.tasks) (content_of c.args.given) c.in-Survey.is refl c.requires.fits c.surveyed.ensures.steps

@@ -1,6 +1,6 @@
-use Rattle.std.proofs.Common.{false}
+use Rattle.cl_resp.specs.declared.question.Block.TheVariants.{OfLower}
 use Rattle.cl_resp.proofs.Questions.{questions_in_range}
 use Rattle.cl_resp.proofs.laws.questions.tight_questions_are_in_range.Goals as goal
 
 pub returns : goal.returns
-returns c = questions_in_range false
+returns c = questions_in_range OfLower

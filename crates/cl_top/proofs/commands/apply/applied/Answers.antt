@@ -3,11 +3,13 @@ use Rattle.std.proofs.lemmas.Result.{IfOk-weaker}
 use Rattle.std.specs.Prelude.{Err}
 use Rattle.cl_model.specs.declared.refusal.Code.TheVariants.{E1}
 use Rattle.cl_model.specs.Place.{top}
+use Rattle.cl_top.specs.Commands.{meaning_of}
 use Rattle.cl_top.specs.Commands.Edit.{edits_refused}
 use Rattle.cl_top.proofs.Applied.{applied_of}
 use Rattle.cl_top.proofs.commands.apply.applied.Goals as goal
 
 pub returns-in-Ok : goal.returns-in-Ok
+unfolding meaning_of
 returns-in-Ok c = IfOk-weaker c.apply_lines.result _ _ (λ outcome is.
     let listed = c.in-Ok.ensures.lines in
     inl (record {
@@ -17,6 +19,7 @@ returns-in-Ok c = IfOk-weaker c.apply_lines.result _ _ (λ outcome is.
     })) c.apply_lines.ensures
 
 pub returns-in-Err-BadLine : goal.returns-in-Err-BadLine
+unfolding meaning_of
 returns-in-Err-BadLine c = IfOk-weaker c.bad_line.result _ _ (λ outcome is. inr (record {
   number = c.in-Err-BadLine.line;
   bad = c.in-Err-BadLine.ensures.bad_line c.in-Err-BadLine.line (ap Err c.in-Err-BadLine.field-0-is);

@@ -4,8 +4,9 @@ use Rattle.std.specs.Prelude.{Err}
 use Rattle.cl_model.specs.declared.model.SystemModel.{SystemModel}
 use Rattle.cl_write.specs.Texts.{IsTextOf}
 use Rattle.cl_top.specs.declared.commands.apply.Next.{Next}
-use Rattle.cl_top.specs.declared.outcome.Outcome.{Outcome}
-use Rattle.cl_top.specs.Done.{IsDone}
+use Rattle.cl_engine.specs.declared.outcome.Outcome.{Outcome}
+use Rattle.cl_engine.specs.Done.{IsDone}
+use Rattle.cl_top.specs.Commands.{meaning_of}
 use Rattle.cl_top.specs.Commands.Edit.{edits_refused}
 use Rattle.cl_top.specs.Inner.Applying.{MakesNext, LinesApplyTo}
 use Rattle.cl_top.proofs.LinesLeft.{all_apply, next_shorter, one_applied, one_refused, none_left}
@@ -15,6 +16,7 @@ pub loop-changed-init : goal.loop-changed-init
 loop-changed-init c = all_apply c.args.model c.args.lines c.requires
 
 pub returns-in-Ok-Last : goal.returns-in-Ok-Last
+unfolding meaning_of
 returns-in-Ok-Last c = IfOk-weaker c.migrated.result _ _ (λ outcome is.
     let next = subst (λ (made : Next). MakesNext c.loop-changed.model c.loop-changed.lines c.apply_next.new.lines made) c.in-Ok-Last.field-0-is c.in-Ok-Last.ensures.made in
     none_left c.args.model c.args.lines c.loop-changed.number c.loop-changed.model c.loop-changed.lines c.loop-changed.invariant

@@ -1,5 +1,5 @@
 use Rattle.std.proofs.Common.{◌≡◌, Option, None, sym, ap, subst}
-use Rattle.std.specs.Prelude.{List, IfOk}
+use Rattle.std.specs.Prelude.{IfOk}
 use Rattle.cl_model.specs.declared.model.SystemModel.{SystemModel}
 use Rattle.cl_model.specs.declared.refusal.Refusal.{Refusal}
 use Rattle.cl_model.specs.Reading.{document_of}
@@ -7,7 +7,7 @@ use Rattle.cl_model.specs.Refusals.{first}
 use Rattle.cl_model.specs.Validity.{refusal_of}
 use Rattle.cl_explain.specs.Accepted.{accepted_text}
 use Rattle.cl_top.specs.Commands.Check.{ValidityChecks}
-use Rattle.cl_top.specs.Done.{IsDone}
+use Rattle.cl_engine.specs.Done.{IsDone}
 use Rattle.cl_top.proofs.commands.check.checked_model.Goals as goal
 
 -- nothing refuses a valid model, and what is known of it is what is known of the one that was read

@@ -1,24 +1,28 @@
 use Rattle.std.proofs.Common.{ℕ, ap, ◌∙◌, inl, inr}
 use Rattle.std.proofs.lemmas.Result.{IfOk-weaker}
-use Rattle.std.specs.Prelude.{Ok, Err}
+use Rattle.std.specs.Prelude.{Err}
 use Rattle.cl_model.specs.declared.refusal.Code.TheVariants.{E1}
 use Rattle.cl_model.specs.Place.{top}
+use Rattle.cl_top.specs.Commands.{meaning_of}
 use Rattle.cl_top.specs.Commands.Edit.{edits_refused}
 use Rattle.cl_top.proofs.EditSteps.{few_of_text, few_of_none}
 use Rattle.cl_top.proofs.commands.edit.edited.Goals as goal
 
 pub returns-in-Ok-clause-outcome : goal.returns-in-Ok-clause-outcome
+unfolding meaning_of
 returns-in-Ok-clause-outcome g c = IfOk-weaker c.report_edited.result _ _ (λ outcome is.
     let listed = c.in-Ok.ensures.lines in
     inl (record { edits = listed.0; are = listed.1; edited_to = is listed.0 listed.1.listed.lines listed.2 })) c.report_edited.ensures.outcome
 
 pub returns-in-Ok-clause-steps : goal.returns-in-Ok-clause-steps
+unfolding meaning_of
 returns-in-Ok-clause-steps g c =
     let listed = c.in-Ok.ensures.lines in
     few_of_text c.args.model c.args.text.now listed.0 c.args.steps.now c.report_edited.new.steps listed.1
     (c.report_edited.ensures.steps listed.0 listed.1.listed.lines listed.2)
 
 pub returns-in-Err-BadLine-clause-outcome : goal.returns-in-Err-BadLine-clause-outcome
+unfolding meaning_of
 returns-in-Err-BadLine-clause-outcome g c = IfOk-weaker c.bad_line.result _ _ (λ outcome is. inr (record {
   number = c.in-Err-BadLine.line;
   bad = c.in-Err-BadLine.ensures.bad_line c.in-Err-BadLine.line (ap Err c.in-Err-BadLine.field-0-is);
@@ -26,7 +30,9 @@ returns-in-Err-BadLine-clause-outcome g c = IfOk-weaker c.bad_line.result _ _ (�
 })) c.bad_line.ensures
 
 pub returns-in-Err-BadLine-clause-steps : goal.returns-in-Err-BadLine-clause-steps
-returns-in-Err-BadLine-clause-steps g c = few_of_none (Ok c.args.model) c.args.text.now c.args.steps.now
+unfolding meaning_of
+returns-in-Err-BadLine-clause-steps g c = few_of_none c.args.model c.args.text.now c.args.steps.now
 
 pub returns-clause-steps : goal.returns-clause-steps
-returns-clause-steps g c = few_of_none (Ok c.args.model) c.args.text.now c.args.steps.now
+unfolding meaning_of
+returns-clause-steps g c = few_of_none c.args.model c.args.text.now c.args.steps.now

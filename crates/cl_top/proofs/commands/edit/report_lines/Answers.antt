@@ -1,13 +1,13 @@
 use Rattle.std.proofs.Common.{◌+◌, refl, sym, ap, ◌∙◌, subst}
 use Rattle.std.proofs.lemmas.Result.{IfOk-weaker}
-use Rattle.std.specs.Prelude.{ℕ, List, Option, Some, Err}
+use Rattle.std.specs.Prelude.{ℕ, List, Option, Err}
 use Rattle.cl_edit.specs.declared.edit.Edit.{Edit}
 use Rattle.cl_edit.specs.Listed.{GivesNext}
-use Rattle.cl_top.specs.declared.outcome.Outcome.{Outcome}
+use Rattle.cl_engine.specs.declared.outcome.Outcome.{Outcome}
 use Rattle.cl_top.specs.Commands.Edit.{edits_refused, behind}
 use Rattle.cl_top.specs.Inner.Edits.{LinesEditTo}
 use Rattle.cl_top.proofs.LinesLeft.{next_in_range, next_shorter}
-use Rattle.cl_top.proofs.LinesMade.{none_made, next_made, next_refused, next_asked, none_left, no_more_asked}
+use Rattle.cl_top.proofs.LinesMade.{none_made, next_made, next_refused, next_asked, no_more_asked}
 use Rattle.cl_top.proofs.commands.edit.report_lines.Goals as goal
 
 pub loop-text-init : goal.loop-text-init

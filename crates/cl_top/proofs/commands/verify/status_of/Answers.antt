@@ -1,6 +1,6 @@
 use Rattle.std.proofs.Common.{sym, ap, ◌∙◌}
 use Rattle.cl_tight.specs.TightFindings.{is_verified}
-use Rattle.cl_top.proofs.ModelAnswers.{verified_ends, unverified_ends}
+use Rattle.cl_top.proofs.VerifyStatus.{verified_ends, unverified_ends}
 use Rattle.cl_top.proofs.commands.verify.status_of.Goals as goal
 
 pub returns-then-is_verified : goal.returns-then-is_verified

@@ -1,0 +1,168 @@
+-- What the words come to, why, and what is left, by what was opened.
+use Rattle.std.proofs.Common.{◌≡◌, ◌≢◌, ◌⊎◌, ℕ, ◌≤◌, inl, inr, List, [], Option, Some, None, refl, sym, ap, ◌∙◌, subst, arith}
+use Rattle.cl_io.specs.Counts.{Rose}
+use Rattle.cl_engine.specs.declared.files.Files.{Files}
+use Rattle.cl_engine.specs.declared.given.Given.{Given}
+use Rattle.cl_engine.specs.declared.opening.Opened.{Opened}
+use Rattle.cl_engine.specs.declared.opening.Opened.TheVariants as opened
+use Rattle.cl_engine.specs.declared.outcome.Outcome.{Outcome}
+use Rattle.cl_engine.specs.declared.status.TheConstants.{NO_MEMORY}
+use Rattle.cl_engine.specs.Calls.{ShelfCall, SinkCall}
+use Rattle.cl_engine.specs.Content.{Content, content_of, Means, Fits}
+use Rattle.cl_engine.specs.Fetched.{Unasked, EachFile, FileGave, TellsFiles, WaitsForModel}
+use Rattle.cl_engine.specs.Files.{File, files_named, word}
+use Rattle.cl_engine.specs.Inner.Leaving.{LeavesRest, Cause, IsCaused}
+use Rattle.cl_engine.specs.Inner.Opened.{AreOpenedAs, HaveOpened, LeavesOthers}
+use Rattle.cl_engine.specs.SoundCall.{IsSoundCall}
+use Rattle.cl_engine.specs.Language.{Language, MayEnd, files_asked, files_of}
+use Rattle.cl_engine.specs.Outcome.{words_refused, Opens}
+use Rattle.cl_engine.specs.Run.{ComesAs, ComesTo, IsOutOfMemory}
+use Rattle.cl_engine.specs.Steps.{TakesOfContent, AreFewSteps}
+use Rattle.cl_engine.proofs.Comings.{stops_cause, ended_cause}
+use Rattle.cl_engine.proofs.Endings.{Carried, counted_rose, words_refused_by, no_command_ends, read_fault_ends, long_file_ends, model_refused_ends, write_fault_cuts, no_memory_ends, other_status_ends, unfailed_ends}
+use Rattle.cl_engine.proofs.Openings.{gives_open, gives_fit, stops_open}
+use Rattle.cl_engine.proofs.Tellings.{gives_mean, told_ends, told_keeps}
+
+module _ {C : Type 0} (language : Language C) (words : List (List ℕ)) (shelf : ShelfCall) where
+  -- ---- words that are no command
+
+  module _ (none : language.spelled words ≡ None) where
+    pub refused_comes : (found : Outcome) → found ≡ words_refused → ComesTo language words shelf found
+    refused_comes found is = subst (λ (c : Option C). ComesAs language c words shelf found) (sym none)
+        (record { gave = λ _. Unasked; files = tt; waits = λ _. tt; follows = is })
+
+    pub refused_caused : (found : Outcome) → found ≡ words_refused → IsCaused language words shelf found
+    refused_caused found is = inl (none, is)
+
+  -- ---- nothing is touched
+
+  few_of_none : (command : Option C) (contents : ℕ → List ℕ) (steps : ℕ) → AreFewSteps language command contents steps steps
+  few_of_none None contents steps = omega arith
+  few_of_none (Some asked) contents steps = inl (omega arith)
+
+  pub rest_untouched : shelf.held_after ≡ shelf.held → shelf.faults_after ≡ shelf.faults → shelf.longest_after ≡ shelf.longest → (steps : ℕ) → LeavesRest language words shelf steps steps
+  rest_untouched held faults longest steps = record {
+    same = λ name. ap (λ f. f name) held;
+    other_faults = λ name beside. ap (λ f. f name) faults;
+    other_longest = λ name beside. ap (λ f. f name) longest;
+    few_steps = λ contents tells. few_of_none (language.spelled words) contents steps;
+  }
+
+  -- ---- a command
+
+  module _ (asked : C) (spelled : language.spelled words ≡ Some asked) (named : Files) (is_named : named ≡ language.files asked) where
+    each_named : (P : File → Type 0) → EachFile (files_of language words) P → EachFile (files_named named) P
+    each_named P each = subst (λ (n : Files). EachFile (files_named n) P) (sym is_named) (subst (λ (c : Option C). EachFile (files_asked language c) P) spelled each)
+
+    files_are : files_named named ≡ files_of language words
+    files_are = ap files_named is_named ∙ ap (files_asked language) (sym spelled)
+
+    module _ (opens : Opened) (has : HaveOpened named words shelf opens) where
+      comes_of : (found : Outcome) → Opens named has.gave (language.comes_to asked) found → ComesTo language words shelf found
+      comes_of found follows = subst (λ (c : Option C). ComesAs language c words shelf found) (sym spelled) (record {
+        gave = has.gave;
+        files = subst (λ (n : Files). EachFile (files_named n) (FileGave words shelf has.gave)) is_named has.may;
+        waits = subst (λ (n : Files). WaitsForModel (files_named n) words shelf has.gave) is_named has.waits;
+        follows = subst (λ (n : Files). Opens n has.gave (language.comes_to asked) found) is_named follows;
+      })
+
+      cause_of : (found : Outcome) → Cause (files_named named) words shelf found → IsCaused language words shelf found
+      cause_of found cause = inr (subst (λ files. Cause files words shelf found) files_are cause)
+
+      -- what the files hold
+      module _ (given : Given) (is : opens ≡ opened.Held given) where
+        pub given_comes : (found : Outcome) → language.comes_to asked (content_of given) found → ComesTo language words shelf found
+        given_comes found comes = comes_of found (gives_open found named has.gave (language.comes_to asked) (content_of given) (subst (AreOpenedAs named has.gave) is has.are) comes)
+
+        pub given_fits : Fits (language.files asked) (content_of given)
+        given_fits = subst (λ (n : Files). Fits n (content_of given)) is_named (gives_fit named has.gave (content_of given) (subst (AreOpenedAs named has.gave) is has.are))
+
+        pub given_caused : (found : Outcome) → MayEnd (language.files asked) found.status → IsCaused language words shelf found
+        given_caused found may = cause_of found (ended_cause named words shelf found (subst (λ (n : Files). MayEnd n found.status) (sym is_named) may))
+
+        -- the steps of what they hold, where the shelf tells them
+        pub given_steps : (steps steps_after : ℕ) → language.takes asked (content_of given) steps steps_after → (contents : ℕ → List ℕ)
+            → TellsFiles (files_of language words) words shelf.held contents → AreFewSteps language (language.spelled words) contents steps steps_after
+        given_steps steps steps_after takes contents tells = subst (λ (c : Option C). AreFewSteps language c contents steps steps_after) (sym spelled) (inr (record {
+          content = content_of given;
+          means = subst (λ (n : Files). Means n contents (content_of given)) is_named
+              (gives_mean words shelf contents has.gave named (content_of given) has.may (each_named _ tells) (subst (AreOpenedAs named has.gave) is has.are));
+          takes = takes;
+        }))
+
+      -- the outcome in the place of what comes next
+      module _ (found : Outcome) (is : opens ≡ opened.Stopped found) where
+        pub stopped_comes : ComesTo language words shelf found
+        stopped_comes = comes_of found (stops_open found named has.gave (language.comes_to asked) (subst (AreOpenedAs named has.gave) is has.are))
+
+        pub stopped_caused : IsCaused language words shelf found
+        stopped_caused = cause_of found (stops_cause words shelf has.gave found named has.may has.waits (subst (AreOpenedAs named has.gave) is has.are))
+
+    -- what is left
+    module _ (leaves : LeavesOthers (files_named named) words shelf) (steps steps_after : ℕ) where
+      pub rest_left : ((contents : ℕ → List ℕ) → TellsFiles (files_of language words) words shelf.held contents → AreFewSteps language (language.spelled words) contents steps steps_after)
+          → LeavesRest language words shelf steps steps_after
+      rest_left few = record {
+        same = leaves.same;
+        other_faults = λ name beside. (leaves.others name (each_named _ beside)).faults;
+        other_longest = λ name beside. (leaves.others name (each_named _ beside)).longest;
+        few_steps = few;
+      }
+
+      -- without a step
+      pub stopped_left : steps_after ≡ steps → LeavesRest language words shelf steps steps_after
+      stopped_left none = rest_left (λ contents tells. subst (λ n. AreFewSteps language (language.spelled words) contents steps n) (sym none) (few_of_none (language.spelled words) contents steps))
+
+  -- ---- what the call keeps
+
+  module _ {S K : Type 0} (before after : S) (sink : SinkCall K) (steps steps_after status : ℕ) (leaves : LeavesRest language words shelf steps steps_after)
+      (unasked : language.spelled words ≡ None → after ≡ before) where
+    pub kept : (found : Outcome) → ComesTo language words shelf found → IsCaused language words shelf found → Carried sink found status
+        → IsSoundCall language words shelf before after sink steps steps_after status
+    kept found comes caused carried = record {
+      ends = inr (record { found = found; comes_to = comes; carried = carried });
+      held = leaves.same;
+      other_faults = leaves.other_faults;
+      other_longest = leaves.other_longest;
+      unasked = unasked;
+      few_steps = leaves.few_steps;
+      words_refused = words_refused_by language words shelf found sink status caused carried;
+      no_command = no_command_ends language words shelf found sink status caused comes carried;
+      read_fault = read_fault_ends language words shelf found sink status caused carried;
+      long_file = long_file_ends language words shelf found sink status caused carried;
+      model_refused = model_refused_ends language words shelf found sink status caused carried;
+      write_fault = λ is. counted_rose _ _ (write_fault_cuts language words shelf found sink status caused carried is).once;
+      failed_once = λ is. (write_fault_cuts language words shelf found sink status caused carried is).once;
+      failed_last = λ is. (write_fault_cuts language words shelf found sink status caused carried is).last;
+      unfailed = unfailed_ends language words shelf found sink status caused carried;
+      out_of_memory = no_memory_ends language words shelf found sink status caused carried;
+      other_status = other_status_ends language words shelf found sink status caused carried;
+      told_files = λ contents tells. inr (told_ends words shelf contents language sink found status comes carried tells);
+      told = λ none unfailed contents tells. inr (told_keeps words shelf contents language sink found status comes carried tells none unfailed);
+    }
+
+    -- where memory ran out
+    pub kept_without_memory : status ≡ NO_MEMORY → sink.after ≡ sink.before → IsSoundCall language words shelf before after sink steps steps_after status
+    kept_without_memory is uncalled =
+        let out : IsOutOfMemory sink status = record { fault_status = is; uncalled = uncalled } in
+        record {
+          ends = inl out;
+          held = leaves.same;
+          other_faults = leaves.other_faults;
+          other_longest = leaves.other_longest;
+          unasked = unasked;
+          few_steps = leaves.few_steps;
+          words_refused = λ other. absurd (omega (arith, is, other));
+          no_command = λ none. inr (inr is);
+          read_fault = λ other. absurd (omega (arith, is, other));
+          long_file = λ other. absurd (omega (arith, is, other));
+          model_refused = λ other. absurd (omega (arith, is, other));
+          write_fault = λ other. absurd (omega (arith, is, other));
+          failed_once = λ other. absurd (omega (arith, is, other));
+          failed_last = λ other. absurd (omega (arith, is, other));
+          unfailed = λ other. ap sink.faults uncalled;
+          out_of_memory = λ _. uncalled;
+          other_status = λ other. omega (arith, is, other);
+          told_files = λ contents tells. inl out;
+          told = λ none unfailed contents tells. inl out;
+        }

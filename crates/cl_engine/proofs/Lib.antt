@@ -1,0 +1,10 @@
+pub mod Openings
+pub mod TwoCalls
+pub mod OpenedFiles
+pub mod Comings
+pub mod Endings
+pub mod Tellings
+pub mod Answered
+pub mod Starts
+pub mod Numbers
+pub mod Outcomes

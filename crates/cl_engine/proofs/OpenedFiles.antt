@@ -1,0 +1,147 @@
+-- What the opening of each kind of files gives, and leaves.
+use Rattle.std.proofs.Common.{◌≡◌, ◌≢◌, ℕ, inl, inr, List, [], ◌∷◌, Vec, cond, nat_eq, refl, sym, ap, ◌∙◌, subst, arith}
+use Rattle.std.specs.List.{AllByRecursion}
+use Rattle.std.specs.declared.alloc.Global.{Global}
+use Rattle.cl_model.specs.declared.model.SystemModel.{SystemModel}
+use Rattle.cl_engine.specs.declared.files.Files.{Files}
+use Rattle.cl_engine.specs.declared.files.Files.TheVariants as files
+use Rattle.cl_engine.specs.declared.files.TheConstants.{FILE_LIMIT}
+use Rattle.cl_engine.specs.declared.given.Given.TheVariants as held
+use Rattle.cl_engine.specs.declared.outcome.Outcome.{Outcome}
+use Rattle.cl_engine.specs.declared.opening.FileFetch.{FileFetch}
+use Rattle.cl_engine.specs.declared.opening.FileFetch.TheVariants as fetch
+use Rattle.cl_engine.specs.declared.opening.OpenedModel.{OpenedModel}
+use Rattle.cl_engine.specs.declared.opening.OpenedModel.TheVariants as model_opened
+use Rattle.cl_engine.specs.declared.opening.Opened.{Opened}
+use Rattle.cl_engine.specs.declared.opening.Opened.TheVariants as opened
+use Rattle.cl_engine.specs.Calls.{ShelfCall, FetchesAlone}
+use Rattle.cl_engine.specs.Content.{Content, Model, ModelAnd, content_of, MeansModel}
+use Rattle.cl_engine.specs.Fetched.{Fetched, Unasked, Bytes, MayGive, EachFile, FileGave, NoneAfter, WaitsForModel}
+use Rattle.cl_engine.specs.Files.{File, model_file, second_file, files_named, word}
+use Rattle.cl_engine.specs.Inner.Opened.{NoNext, given, IsOpenedAs, IsSecondAs, HasOpened, HasOpenedSecond, GivesModel, GivesContent, AreOpenedAs, HaveOpened, LeavesOthers}
+use Rattle.cl_engine.specs.Outcome.{read_fault, long_file, OpensTo, Opens}
+use Rattle.cl_engine.proofs.Openings.{gives_model, gives_accepted, model_stops, next_model, stops_more}
+use Rattle.cl_engine.proofs.TwoCalls.{Follows, through, LeavesTwo, fetches_two, first_may, second_may}
+
+-- ---- what is left
+
+module _ (words : List (List ℕ)) where
+  -- no fetch
+  pub none_fetched : (shelf : ShelfCall) → shelf.held_after ≡ shelf.held → shelf.faults_after ≡ shelf.faults → shelf.longest_after ≡ shelf.longest
+      → LeavesOthers [] words shelf
+  none_fetched shelf held faults longest = record {
+    same = λ name. ap (λ f. f name) held;
+    others = λ name beside. record { faults = ap (λ f. f name) faults; longest = ap (λ f. f name) longest };
+  }
+
+  -- one
+  pub one_fetched : (shelf : ShelfCall) → FetchesAlone shelf (word words 1) → LeavesOthers (model_file ∷ []) words shelf
+  one_fetched shelf alone = record {
+    same = alone.same;
+    others = λ name beside. record { faults = alone.faults.others name beside.0; longest = alone.longest.others name beside.0 };
+  }
+
+  -- one of two
+  pub first_fetched : (shelf : ShelfCall) (limit : ℕ) → FetchesAlone shelf (word words 1) → LeavesOthers (model_file ∷ second_file limit ∷ []) words shelf
+  first_fetched shelf limit alone = record {
+    same = alone.same;
+    others = λ name beside. record { faults = alone.faults.others name beside.0; longest = alone.longest.others name beside.0 };
+  }
+
+  -- two
+  pub both_fetched : (one two : ShelfCall) (limit : ℕ) → Follows one two → FetchesAlone one (word words 1) → FetchesAlone two (word words 2)
+      → LeavesOthers (model_file ∷ second_file limit ∷ []) words (through one two)
+  both_fetched one two limit joins alone later =
+      let leaves = fetches_two one two joins (word words 1) (word words 2) alone later in
+      record { same = leaves.same; others = λ name beside. leaves.others name beside.0 beside.1.0 }
+
+-- ---- what is given
+
+module _ (words : List (List ℕ)) (shelf : ShelfCall) where
+  none_after_one : NoneAfter (model_file ∷ []) words shelf 1
+  none_after_one = (λ less. absurd (omega (arith, less)), tt)
+
+  -- no file
+  pub nothing_opened : HaveOpened files.Nothing words shelf (opened.Held held.Nothing)
+  nothing_opened = record { gave = λ _. Unasked; may = tt; waits = λ _. tt; are = tt }
+
+  pub nothing_of : (named : Files) → named ≡ files.Nothing → HaveOpened named words shelf (opened.Held held.Nothing)
+  nothing_of named is = subst (λ (n : Files). HaveOpened n words shelf (opened.Held held.Nothing)) (sym is) nothing_opened
+
+  -- the bytes of a file
+  module _ (fetched : FileFetch) (may : MayGive shelf (word words 1) FILE_LIMIT (given fetched)) where
+    pub content_opened : (bytes : Vec ℕ Global) → fetched ≡ fetch.Bytes bytes → HaveOpened files.Content words shelf (opened.Held (held.Content bytes))
+    content_opened bytes is = record { gave = λ _. given fetched; may = (may, tt); waits = λ _. none_after_one; are = ap given is }
+
+    content_stops : (other : FileFetch) (found : Outcome) → fetched ≡ other → OpensTo 1 (given other) NoNext found → HaveOpened files.Content words shelf (opened.Stopped found)
+    content_stops other found is stops = record {
+      gave = λ _. given fetched;
+      may = (may, tt);
+      waits = λ _. none_after_one;
+      are = subst (λ (f : FileFetch). OpensTo 1 (given f) NoNext found) (sym is) stops;
+    }
+
+    pub content_fault : (found : Outcome) → fetched ≡ fetch.Fault → found ≡ read_fault 1 → HaveOpened files.Content words shelf (opened.Stopped found)
+    content_fault found is fault = content_stops fetch.Fault found is fault
+
+    pub content_long : (found : Outcome) → fetched ≡ fetch.TooLong → found ≡ long_file 1 → HaveOpened files.Content words shelf (opened.Stopped found)
+    content_long found is long = content_stops fetch.TooLong found is long
+
+  -- the model of a file
+  module _ (gives : OpenedModel) (has : HasOpened shelf (word words 1) gives) where
+    pub model_opens : (model : SystemModel) → gives ≡ model_opened.Valid model → HaveOpened files.Model words shelf (opened.Held (held.Model model))
+    model_opens model is = record {
+      gave = λ _. has.fetch;
+      may = (has.may, tt);
+      waits = λ _. none_after_one;
+      are = gives_model has.fetch model (subst (IsOpenedAs has.fetch) is has.is);
+    }
+
+    pub model_none : (found : Outcome) → gives ≡ model_opened.Stopped found → HaveOpened files.Model words shelf (opened.Stopped found)
+    model_none found is = record {
+      gave = λ _. has.fetch;
+      may = (has.may, tt);
+      waits = λ _. none_after_one;
+      are = model_stops has.fetch found (subst (IsOpenedAs has.fetch) is has.is);
+    }
+
+-- what two fetches gave: that of the first file, and that of the second
+abbrev both : (first second : Fetched) → File → Fetched
+both first second file = cond (nat_eq file.place 1) first second
+
+module _ (words : List (List ℕ)) (limit : ℕ) where
+  -- the model is opened, and then the second file
+  pub both_open : (one two : ShelfCall) → Follows one two → FetchesAlone one (word words 1) → FetchesAlone two (word words 2)
+      → (gives : OpenedModel) → HasOpened one (word words 1) gives → (model : SystemModel) → gives ≡ model_opened.Valid model
+      → (opens : Opened) → HasOpenedSecond two (word words 2) limit model opens → HaveOpened (files.ModelAnd limit) words (through one two) opens
+  both_open one two joins alone later gives has model valid opens second = record {
+    gave = both has.fetch second.fetch;
+    may = (
+      first_may one two joins (word words 1) (word words 2) alone later FILE_LIMIT has.fetch has.may,
+      (second_may one two joins (word words 1) (word words 2) alone later limit second.fetch second.may, tt),
+    );
+    waits = λ refused. absurd (refused (gives_accepted has.fetch model gives_it));
+    are = by_second opens second.is;
+  }
+    where
+      gives_it : GivesModel has.fetch model
+      gives_it = gives_model has.fetch model (subst (IsOpenedAs has.fetch) valid has.is)
+
+      by_second : (opens : Opened) → IsSecondAs model second.fetch opens → AreOpenedAs (files.ModelAnd limit) (both has.fetch second.fetch) opens
+      by_second (opened.Held given) (text, is, gave) =
+          subst (λ (content : Content). GivesContent (files.ModelAnd limit) (both has.fetch second.fetch) content) (sym is) (gives_it, gave)
+      by_second (opened.Stopped found) is =
+          next_model found has.fetch model (λ m. OpensTo 2 second.fetch NoNext) gives_it is
+
+  -- the model stops the command
+  pub first_stops : (shelf : ShelfCall) → FetchesAlone shelf (word words 1) → (gives : OpenedModel) → HasOpened shelf (word words 1) gives
+      → (found : Outcome) → gives ≡ model_opened.Stopped found → HaveOpened (files.ModelAnd limit) words shelf (opened.Stopped found)
+  first_stops shelf alone gives has found stopped = record {
+    gave = both has.fetch Unasked;
+    may = (has.may, (tt, tt));
+    waits = λ refused. (
+      λ less. absurd (omega (arith, less)),
+      (λ less apart. record { faults = alone.faults.others (word words 2) apart; longest = alone.longest.others (word words 2) apart }, tt),
+    );
+    are = stops_more found has.fetch (λ m. OpensTo 2 Unasked NoNext) (model_stops has.fetch found (subst (IsOpenedAs has.fetch) stopped has.is));
+  }

@@ -1,0 +1,163 @@
+-- Outcomes of files that are open: there is one, two say the same, and one of status 0 is that of what the files hold.
+use Rattle.std.proofs.Common.{◌≡◌, ℕ, ◌≤◌, Bool, true, false, List, Option, Some, None, Result, Ok, Err, refl, sym, ap, ◌∙◌, subst, arith, length}
+use Rattle.std.specs.Prelude.{nat_lt, if◌then◌else◌}
+use Rattle.cl_model.specs.declared.model.SystemModel.{SystemModel}
+use Rattle.cl_model.specs.declared.refusal.Refusal.{Refusal}
+use Rattle.cl_model.specs.AreNamed.{AreNamed}
+use Rattle.cl_model.specs.Reading.{model_of}
+use Rattle.cl_model.specs.Validity.{refusal_of, IsValid}
+use Rattle.cl_model.proofs.ReadModels.{read_named}
+use Rattle.cl_engine.specs.declared.files.Files.{Files}
+use Rattle.cl_engine.specs.declared.files.Files.TheVariants as files
+use Rattle.cl_engine.specs.declared.files.TheConstants.{FILE_LIMIT}
+use Rattle.cl_engine.specs.declared.outcome.Outcome.{Outcome}
+use Rattle.cl_engine.specs.declared.status.TheConstants.{DONE}
+use Rattle.cl_engine.specs.Content.{Content, Nothing, Bytes as Whole, Model, ModelAnd, Fits, MeansModel, Means}
+use Rattle.cl_engine.specs.Fetched.{Fetched, Unasked, Bytes, Fault, TooLong, EachFile, WasFetched, told_fetch}
+use Rattle.cl_engine.specs.Files.{File, model_file, second_file, files_named}
+use Rattle.cl_engine.specs.Outcome.{read_fault, long_file, model_refused, ValidatesTo, ReadsTo, OpensTo, Opens}
+use Rattle.cl_engine.proofs.Openings.{valid_read}
+
+-- the model of a file that was opened is valid, and its names are names
+abbrev pub IsOpened : Content → Type 0
+IsOpened Nothing = Unit {0}
+IsOpened (Whole bytes) = Unit {0}
+IsOpened (Model model) = IsValid model × AreNamed model
+IsOpened (ModelAnd model text) = IsValid model × AreNamed model
+
+good_model : (bytes : List ℕ) (model : SystemModel) → MeansModel bytes model → IsValid model × AreNamed model
+good_model bytes model is = (valid_read bytes model is, read_named bytes model is.means)
+
+abbrev pub SomeOutcome : (Outcome → Type 0) → Type 0
+SomeOutcome P = (found : Outcome) × P found
+
+-- ---- there is an outcome
+
+module _ (next : SystemModel → Outcome → Type 0) (some : (model : SystemModel) → IsValid model × AreNamed model → SomeOutcome (next model)) where
+  some_validated : (bytes : List ℕ) (model : SystemModel) (refusal : Option Refusal) → model_of bytes ≡ Ok model → refusal_of model ≡ refusal → SomeOutcome (ValidatesTo model refusal next)
+  some_validated bytes model None means none = some model (good_model bytes model (record { means = means; unrefused = none }))
+  some_validated bytes model (Some refusal) means is = (model_refused refusal, refl)
+
+  some_read : (bytes : List ℕ) (read : Result SystemModel Refusal) → model_of bytes ≡ read → SomeOutcome (ReadsTo read next)
+  some_read bytes (Ok model) means = some_validated bytes model (refusal_of model) means refl
+  some_read bytes (Err refusal) means = (model_refused refusal, refl)
+
+some_file : (place : ℕ) (fetch : Fetched) → WasFetched fetch → (next : List ℕ → Outcome → Type 0) → ((bytes : List ℕ) → SomeOutcome (next bytes)) → SomeOutcome (OpensTo place fetch next)
+some_file place Unasked fetched next some = absurd fetched
+some_file place Fault fetched next some = (read_fault place, refl)
+some_file place TooLong fetched next some = (long_file place, refl)
+some_file place (Bytes bytes) fetched next some = some bytes
+
+module _ (gave : File → Fetched) (next : Content → Outcome → Type 0) where
+  pub some_opens : (named : Files) → EachFile (files_named named) (λ file. WasFetched (gave file))
+      → ((content : Content) → Fits named content → IsOpened content → SomeOutcome (next content)) → SomeOutcome (Opens named gave next)
+  unfolding Fits
+  some_opens files.Nothing fetched some = some Nothing tt tt
+  some_opens files.Content fetched some = some_file 1 (gave model_file) fetched.0 (λ bytes. next (Whole bytes)) (λ bytes. some (Whole bytes) tt tt)
+  some_opens files.Model fetched some =
+      some_file 1 (gave model_file) fetched.0 (λ bytes. ReadsTo (model_of bytes) (λ model. next (Model model)))
+      (λ bytes. some_read (λ model. next (Model model)) (λ model good. some (Model model) tt good) bytes (model_of bytes) refl)
+  some_opens (files.ModelAnd limit) fetched some =
+      let second : SystemModel → Outcome → Type 0 = λ model. OpensTo 2 (gave (second_file limit)) (λ text. next (ModelAnd model text)) in
+      some_file 1 (gave model_file) fetched.0 (λ bytes. ReadsTo (model_of bytes) second)
+      (λ bytes. some_read second (λ model good. some_file 2 (gave (second_file limit)) fetched.1.0 (λ text. next (ModelAnd model text)) (λ text. some (ModelAnd model text) tt good))
+      bytes (model_of bytes) refl)
+
+-- ---- two outcomes say the same
+
+module _ (Same : Outcome → Outcome → Type 0) (equal : (one other : Outcome) → one ≡ other → Same one other) (one other : Outcome) where
+  module _ (next : SystemModel → Outcome → Type 0) (same : (model : SystemModel) → IsValid model × AreNamed model → next model one → next model other → Same one other) where
+    same_validated : (bytes : List ℕ) (model : SystemModel) (refusal : Option Refusal) → model_of bytes ≡ Ok model → refusal_of model ≡ refusal → ValidatesTo model refusal next one
+        → ValidatesTo model refusal next other → Same one other
+    same_validated bytes model None means none h k = same model (good_model bytes model (record { means = means; unrefused = none })) h k
+    same_validated bytes model (Some refusal) means is h k = equal one other (h ∙ sym k)
+
+    same_read : (bytes : List ℕ) (read : Result SystemModel Refusal) → model_of bytes ≡ read → ReadsTo read next one → ReadsTo read next other → Same one other
+    same_read bytes (Ok model) means h k = same_validated bytes model (refusal_of model) means refl h k
+    same_read bytes (Err refusal) means h k = equal one other (h ∙ sym k)
+
+  same_file : (place : ℕ) (fetch : Fetched) (next : List ℕ → Outcome → Type 0) → ((bytes : List ℕ) → next bytes one → next bytes other → Same one other)
+      → OpensTo place fetch next one → OpensTo place fetch next other → Same one other
+  same_file place Unasked next same h k = absurd h
+  same_file place Fault next same h k = equal one other (h ∙ sym k)
+  same_file place TooLong next same h k = equal one other (h ∙ sym k)
+  same_file place (Bytes bytes) next same h k = same bytes h k
+
+  module _ (gave : File → Fetched) (next : Content → Outcome → Type 0) (same : (content : Content) → IsOpened content → next content one → next content other → Same one other) where
+    pub same_opens : (named : Files) → Opens named gave next one → Opens named gave next other → Same one other
+    same_opens files.Nothing h k = same Nothing tt h k
+    same_opens files.Content h k = same_file 1 (gave model_file) (λ bytes. next (Whole bytes)) (λ bytes. same (Whole bytes) tt) h k
+    same_opens files.Model h k =
+        same_file 1 (gave model_file) (λ bytes. ReadsTo (model_of bytes) (λ model. next (Model model)))
+        (λ bytes. same_read (λ model. next (Model model)) (λ model. same (Model model)) bytes (model_of bytes) refl) h k
+    same_opens (files.ModelAnd limit) h k =
+        let second : SystemModel → Outcome → Type 0 = λ model. OpensTo 2 (gave (second_file limit)) (λ text. next (ModelAnd model text)) in
+        same_file 1 (gave model_file) (λ bytes. ReadsTo (model_of bytes) second)
+        (λ bytes. same_read second (λ model good. same_file 2 (gave (second_file limit)) (λ text. next (ModelAnd model text)) (λ text. same (ModelAnd model text) good))
+        bytes (model_of bytes) refl) h k
+
+-- ---- an outcome of status 0
+
+status_of : (found other : Outcome) → found ≡ other → found.status ≡ other.status
+status_of found other is = ap (λ (o : Outcome). o.status) is
+
+-- what a fetch of these bytes gave is these bytes
+same_bytes : (limit : ℕ) (content bytes : List ℕ) → (if nat_lt limit (length content) then TooLong else Bytes content) ≡ Bytes bytes → bytes ≡ content
+same_bytes limit content bytes is = by_test (nat_lt limit (length content)) is
+  where
+    equal : (xs ys : List ℕ) → Bytes xs ≡ Bytes ys → xs ≡ ys
+    equal xs ys same = cc
+
+    by_test : (test : Bool) → (if test then TooLong else Bytes content) ≡ Bytes bytes → bytes ≡ content
+    by_test true is = absurd cc
+    by_test false is = sym (equal content bytes is)
+
+module _ (found : Outcome) (done : found.status ≡ DONE) where
+  -- the bytes of a file
+  done_file : (place : ℕ) (fetch : Fetched) (next : List ℕ → Outcome → Type 0) → OpensTo place fetch next found → (bytes : List ℕ) × (fetch ≡ Bytes bytes) × next bytes found
+  done_file place Unasked next opens = absurd opens
+  done_file place Fault next opens = absurd (omega (arith, done, status_of found (read_fault place) opens))
+  done_file place TooLong next opens = absurd (omega (arith, done, status_of found (long_file place) opens))
+  done_file place (Bytes bytes) next opens = (bytes, refl, opens)
+
+  done_validated : (bytes : List ℕ) (model : SystemModel) (refusal : Option Refusal) (next : SystemModel → Outcome → Type 0) → model_of bytes ≡ Ok model → refusal_of model ≡ refusal
+      → ValidatesTo model refusal next found → (m : SystemModel) × MeansModel bytes m × next m found
+  done_validated bytes model None next means none is = (model, record { means = means; unrefused = none }, is)
+  done_validated bytes model (Some refusal) next means some is = absurd (omega (arith, done, status_of found (model_refused refusal) is))
+
+  done_read : (bytes : List ℕ) (read : Result SystemModel Refusal) (next : SystemModel → Outcome → Type 0) → model_of bytes ≡ read
+      → ReadsTo read next found → (m : SystemModel) × MeansModel bytes m × next m found
+  done_read bytes (Ok model) next means is = done_validated bytes model (refusal_of model) next means refl is
+  done_read bytes (Err refusal) next means is = absurd (omega (arith, done, status_of found (model_refused refusal) is))
+
+  -- the model of a file
+  pub done_model : (fetch : Fetched) (next : SystemModel → Outcome → Type 0) → OpensTo 1 fetch (λ bytes. ReadsTo (model_of bytes) next) found
+      → (bytes : List ℕ) × (fetch ≡ Bytes bytes) × ((m : SystemModel) × MeansModel bytes m × next m found)
+  done_model fetch next opens = let (bytes, gave, reads) = done_file 1 fetch (λ bytes. ReadsTo (model_of bytes) next) opens in (bytes, gave, done_read bytes (model_of bytes) next refl reads)
+
+-- what told files hold, where a command did what it says, and what comes next of it
+pub record IsOfTold (named : Files) (contents : ℕ → List ℕ) (next : Content → Outcome → Type 0) (found : Outcome) : Type 0 where
+  pub content : Content
+  pub means : Means named contents content
+  pub opened : IsOpened content
+  pub comes : next content found
+
+module _ (contents : ℕ → List ℕ) (next : Content → Outcome → Type 0) (found : Outcome) (done : found.status ≡ DONE) where
+  told_model : (n : SystemModel → Outcome → Type 0) → OpensTo 1 (told_fetch contents model_file) (λ bytes. ReadsTo (model_of bytes) n) found
+      → (m : SystemModel) × MeansModel (contents 1) m × n m found
+  told_model n opens =
+      let (bytes, gave, (m, means, comes)) = done_model found done (told_fetch contents model_file) n opens in
+      (m, subst (λ (b : List ℕ). MeansModel b m) (same_bytes FILE_LIMIT (contents 1) bytes gave) means, comes)
+
+  pub opens_of_told : (named : Files) → Opens named (told_fetch contents) next found → IsOfTold named contents next found
+  opens_of_told files.Nothing opens = record { content = Nothing; means = tt; opened = tt; comes = opens }
+  opens_of_told files.Content opens =
+      let (bytes, gave, comes) = done_file found done 1 (told_fetch contents model_file) (λ bytes. next (Whole bytes)) opens in
+      record { content = Whole bytes; means = same_bytes FILE_LIMIT (contents 1) bytes gave; opened = tt; comes = comes }
+  opens_of_told files.Model opens =
+      let (m, means, comes) = told_model (λ m. next (Model m)) opens in
+      record { content = Model m; means = means; opened = good_model (contents 1) m means; comes = comes }
+  opens_of_told (files.ModelAnd limit) opens =
+      let (m, means, reads) = told_model (λ m. OpensTo 2 (told_fetch contents (second_file limit)) (λ text. next (ModelAnd m text))) opens in
+      let (text, gave, comes) = done_file found done 2 (told_fetch contents (second_file limit)) (λ text. next (ModelAnd m text)) reads in
+      record { content = ModelAnd m text; means = (means, same_bytes limit (contents 2) text gave); opened = good_model (contents 1) m means; comes = comes }

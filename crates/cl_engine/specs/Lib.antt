@@ -1,0 +1,13 @@
+pub mod Files
+pub mod Words
+pub mod Content
+pub mod Language
+pub mod Calls
+pub mod Fetched
+pub mod Done
+pub mod Outcome
+pub mod Steps
+pub mod Run
+pub mod SoundCall
+pub mod Edges
+pub mod Inner

@@ -1,0 +1,57 @@
+//! What a command is given of its files.
+ghost use Rattle.std.specs.Prelude.{◌≡◌, ℕ};
+ghost use Rattle.cl_engine.specs.declared.files.Files.TheVariants as files;
+ghost use Rattle.cl_engine.specs.Content.{Bytes, Model, ModelAnd, content_of, Fits};
+
+use cl_model::ValidModel;
+
+/// What the files of a command hold.
+#[derive(Drop)]
+pub enum Given {
+    /// It names none.
+    Nothing,
+    /// The bytes of its file.
+    Content(Vec<u8>),
+    /// The valid model of its file.
+    Model(ValidModel),
+    /// The valid model of the first, and the bytes of the second.
+    ModelAnd(ValidModel, Vec<u8>),
+}
+
+impl Given {
+    /// The bytes of the one file of a command that looks into it.
+    #[tactic(auto, unfolding(crate::specs::Content::Fits))]
+    pub fn bytes(self) -> Vec<u8>
+        requires { Fits files.Content (content_of self) }
+        ensures { content_of self ≡ Bytes result.items }
+    {
+        match self {
+            Given::Content(bytes) => bytes,
+            _ => unreachable!(),
+        }
+    }
+
+    /// The model of the one file of a command on a model.
+    #[tactic(auto, unfolding(crate::specs::Content::Fits))]
+    pub fn model(self) -> ValidModel
+        requires { Fits files.Model (content_of self) }
+        ensures { content_of self ≡ Model result }
+    {
+        match self {
+            Given::Model(model) => model,
+            _ => unreachable!(),
+        }
+    }
+
+    /// The model and the bytes of a command on a model and a second file.
+    #[tactic(auto, unfolding(crate::specs::Content::Fits))]
+    pub fn both(self) -> (ValidModel, Vec<u8>)
+        requires { (limit : ℕ) × Fits (files.ModelAnd limit) (content_of self) }
+        ensures { content_of self ≡ ModelAnd result.0 result.1.items }
+    {
+        match self {
+            Given::ModelAnd(model, text) => (model, text),
+            _ => unreachable!(),
+        }
+    }
+}

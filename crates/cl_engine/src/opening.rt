@@ -1,0 +1,202 @@
+//! The opening of a command's files: what a fetch gave, the valid model that a file holds, and a second file beside it.
+ghost use Rattle.std.specs.Prelude.{◌≡◌, ◌<◌, ◌≤◌, length, IfOk};
+ghost use Rattle.cl_model.specs.Ranges.{IsInRange};
+ghost use Rattle.cl_model.specs.Reading.{model_of};
+ghost use Rattle.cl_model.specs.Validity.{refusal_of};
+ghost use Rattle.cl_engine.specs.declared.files.Files.TheVariants as files;
+ghost use Rattle.cl_engine.specs.Calls.{shelf_call, FetchesAlone};
+ghost use Rattle.cl_engine.specs.Fetched.{Bytes, MayGive};
+ghost use Rattle.cl_engine.specs.Files.{word, files_named, file_count};
+ghost use Rattle.cl_engine.specs.Inner.Opened.{given, IsOpenedAs, IsValidatedAs, HasOpened, HasOpenedSecond, HaveOpened, LeavesOthers};
+
+use crate::words::word_at;
+use crate::{FILE_LIMIT, Files, Given, Outcome};
+use cl_io::{FetchFault, Shelf, Words};
+use cl_model::{SystemModel, ValidModel};
+use cl_read::{ReadFault, read_model};
+use cl_time::NoMemory;
+use cl_valid::{ValidFault, validate};
+use std::alloc::Global;
+
+/// What the fetch of a file gave.
+#[derive(Drop)]
+pub(crate) enum FileFetch {
+    Bytes(Vec<u8>),
+    Fault,
+    TooLong,
+}
+
+/// What the opening of a model gave.
+#[derive(Drop)]
+pub(crate) enum OpenedModel {
+    Valid(ValidModel),
+    /// There is none, and this is the outcome of the command.
+    Stopped(Outcome),
+}
+
+/// What the opening of a command's files gave.
+#[derive(Drop)]
+pub(crate) enum Opened {
+    /// What they hold.
+    Held(Given),
+    /// One of them can't be opened, and this is the outcome of the command.
+    Stopped(Outcome),
+}
+
+/// Opens the files that the words behind the verb name: the model file first, and a second file only where there is a
+/// valid model.
+pub(crate) fn open<S: Shelf>(
+    alloc: Global,
+    words: &Words,
+    named: Files,
+    shelf: &mut S,
+) -> Result<Opened, NoMemory>
+    requires { file_count named < length words.now }
+    ensures leaves { LeavesOthers (files_named named) words.now (shelf_call S.held S.faults S.longest shelf.old shelf.new) }
+    ensures opened { IfOk result (HaveOpened named words.now (shelf_call S.held S.faults S.longest shelf.old shelf.new)) }
+{
+    match named {
+        Files::Nothing => Ok(Opened::Held(Given::Nothing)),
+        Files::Content => open_content(alloc, words, shelf),
+        Files::Model => open_alone(alloc, words, shelf),
+        Files::ModelAnd { limit } => open_two(alloc, words, limit, shelf),
+    }
+}
+
+/// Opens the one file of a command that looks into it.
+fn open_content<S: Shelf>(alloc: Global, words: &Words, shelf: &mut S) -> Result<Opened, NoMemory>
+    requires { 1 < length words.now }
+    ensures leaves { FetchesAlone (shelf_call S.held S.faults S.longest shelf.old shelf.new) (word words.now 1) }
+    ensures opened { IfOk result
+        (HaveOpened files.Content words.now (shelf_call S.held S.faults S.longest shelf.old shelf.new)) }
+{
+    match fetch_file(alloc, words, 1, FILE_LIMIT, shelf)? {
+        FileFetch::Bytes(bytes) => Ok(Opened::Held(Given::Content(bytes))),
+        FileFetch::Fault => Ok(Opened::Stopped(Outcome::read_fault(alloc, 1)?)),
+        FileFetch::TooLong => Ok(Opened::Stopped(Outcome::long_file(alloc, 1)?)),
+    }
+}
+
+/// Opens the one file of a command on a model.
+fn open_alone<S: Shelf>(alloc: Global, words: &Words, shelf: &mut S) -> Result<Opened, NoMemory>
+    requires { 1 < length words.now }
+    ensures leaves { FetchesAlone (shelf_call S.held S.faults S.longest shelf.old shelf.new) (word words.now 1) }
+    ensures opened { IfOk result
+        (HaveOpened files.Model words.now (shelf_call S.held S.faults S.longest shelf.old shelf.new)) }
+{
+    match open_model(alloc, words, shelf)? {
+        OpenedModel::Valid(model) => Ok(Opened::Held(Given::Model(model))),
+        OpenedModel::Stopped(outcome) => Ok(Opened::Stopped(outcome)),
+    }
+}
+
+/// Opens a model file, and where there is a valid model the file behind it.
+fn open_two<S: Shelf>(
+    alloc: Global,
+    words: &Words,
+    limit: u64,
+    shelf: &mut S,
+) -> Result<Opened, NoMemory>
+    requires { 2 < length words.now }
+    ensures leaves { LeavesOthers (files_named (files.ModelAnd limit)) words.now (shelf_call S.held S.faults S.longest shelf.old shelf.new) }
+    ensures opened { IfOk result
+        (HaveOpened (files.ModelAnd limit) words.now (shelf_call S.held S.faults S.longest shelf.old shelf.new)) }
+{
+    match open_model(alloc, words, shelf)? {
+        OpenedModel::Valid(model) => open_second(alloc, words, limit, model, shelf),
+        OpenedModel::Stopped(outcome) => Ok(Opened::Stopped(outcome)),
+    }
+}
+
+/// Opens the second file beside a valid model.
+fn open_second<S: Shelf>(
+    alloc: Global,
+    words: &Words,
+    limit: u64,
+    model: ValidModel,
+    shelf: &mut S,
+) -> Result<Opened, NoMemory>
+    requires { 2 < length words.now }
+    ensures leaves { FetchesAlone (shelf_call S.held S.faults S.longest shelf.old shelf.new) (word words.now 2) }
+    ensures opened { IfOk result
+        (HasOpenedSecond (shelf_call S.held S.faults S.longest shelf.old shelf.new) (word words.now 2) limit model) }
+{
+    match fetch_file(alloc, words, 2, limit, shelf)? {
+        FileFetch::Bytes(text) => Ok(Opened::Held(Given::ModelAnd(model, text))),
+        FileFetch::Fault => Ok(Opened::Stopped(Outcome::read_fault(alloc, 2)?)),
+        FileFetch::TooLong => Ok(Opened::Stopped(Outcome::long_file(alloc, 2)?)),
+    }
+}
+
+/// Fetches the file that the word at a place names, of at most so many bytes.
+fn fetch_file<S: Shelf>(
+    alloc: Global,
+    words: &Words,
+    place: usize,
+    limit: u64,
+    shelf: &mut S,
+) -> Result<FileFetch, NoMemory>
+    requires { place < length words.now }
+    ensures leaves { FetchesAlone (shelf_call S.held S.faults S.longest shelf.old shelf.new) (word words.now place) }
+    ensures gave { IfOk result (λ fetch.
+        MayGive (shelf_call S.held S.faults S.longest shelf.old shelf.new) (word words.now place) limit (given fetch)) }
+{
+    match shelf.fetch(alloc, word_at(words, place), limit) {
+        Ok(bytes) => Ok(FileFetch::Bytes(bytes)),
+        Err(FetchFault::Failed) => Ok(FileFetch::Fault),
+        Err(FetchFault::Long { .. }) => Ok(FileFetch::TooLong),
+        Err(FetchFault::NoMemory) => Err(NoMemory),
+    }
+}
+
+/// Opens the model file that the word behind the verb names: its valid model, or the outcome of its fault or its refusal.
+fn open_model<S: Shelf>(
+    alloc: Global,
+    words: &Words,
+    shelf: &mut S,
+) -> Result<OpenedModel, NoMemory>
+    requires { 1 < length words.now }
+    ensures leaves { FetchesAlone (shelf_call S.held S.faults S.longest shelf.old shelf.new) (word words.now 1) }
+    ensures opened { IfOk result (HasOpened (shelf_call S.held S.faults S.longest shelf.old shelf.new) (word words.now 1)) }
+{
+    let fetch = fetch_file(alloc, words, 1, FILE_LIMIT, shelf)?;
+    open_fetched(alloc, &fetch)
+}
+
+/// What the fetch of a model file comes to.
+fn open_fetched(alloc: Global, fetch: &FileFetch) -> Result<OpenedModel, NoMemory>
+    ensures { IfOk result (IsOpenedAs (given fetch.now)) }
+{
+    match fetch {
+        FileFetch::Bytes(bytes) => open_bytes(alloc, bytes.as_slice()),
+        FileFetch::Fault => Ok(OpenedModel::Stopped(Outcome::read_fault(alloc, 1)?)),
+        FileFetch::TooLong => Ok(OpenedModel::Stopped(Outcome::long_file(alloc, 1)?)),
+    }
+}
+
+/// What a model file of these bytes comes to.
+fn open_bytes(alloc: Global, bytes: &[u8]) -> Result<OpenedModel, NoMemory>
+    ensures { IfOk result (IsOpenedAs (Bytes bytes.now)) }
+{
+    match read_model(alloc, bytes) {
+        Ok(model) => open_read(alloc, model),
+        Err(ReadFault::Refused(refusal)) => {
+            Ok(OpenedModel::Stopped(Outcome::model_refused(alloc, refusal)?))
+        }
+        Err(ReadFault::NoMemory) => Err(NoMemory),
+    }
+}
+
+/// What a model that was read comes to.
+fn open_read(alloc: Global, model: SystemModel) -> Result<OpenedModel, NoMemory>
+    requires { IsInRange model }
+    ensures { IfOk result (IsValidatedAs model (refusal_of model)) }
+{
+    match validate(alloc, model) {
+        Ok(model) => Ok(OpenedModel::Valid(model)),
+        Err((_, ValidFault::Refused(refusal))) => {
+            Ok(OpenedModel::Stopped(Outcome::model_refused(alloc, refusal)?))
+        }
+        Err((_, ValidFault::NoMemory)) => Err(NoMemory),
+    }
+}

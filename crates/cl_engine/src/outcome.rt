@@ -1,0 +1,77 @@
+ghost use Rattle.std.specs.Prelude.{◌≡◌, ◌∷◌, [], ◌++◌, decimal, IfOk};
+ghost use Rattle.cl_text.specs.Line.{line};
+ghost use Rattle.cl_engine.specs.declared.status.TheConstants.{DONE};
+ghost use Rattle.cl_engine.specs.Outcome.{words_refused, read_fault, long_file, model_refused};
+
+use crate::status;
+use cl_model::Refusal;
+use cl_text::Text;
+use cl_time::NoMemory;
+use std::alloc::Global;
+
+/// What a command comes to: the number that it ends with, and the text that it writes.
+#[derive(Drop)]
+pub struct Outcome {
+    pub status: u8,
+    pub text: Text,
+}
+
+impl Outcome {
+    /// The command did what it says, with this text.
+    pub fn done(text: Text) -> Outcome
+        ensures { result ≡ record { status = DONE; text = text } }
+    {
+        Outcome {
+            status: status::DONE,
+            text,
+        }
+    }
+
+    fn of_line(alloc: Global, status: u8, words: &[u8]) -> Result<Outcome, NoMemory>
+        ensures { IfOk result (λ outcome. outcome ≡ record { status = status; text = line words.now }) }
+    {
+        let mut text = Text::new(alloc);
+        text.put(words)?;
+        text.put(b"\n")?;
+        Ok(Outcome { status, text })
+    }
+
+    fn of_file(alloc: Global, status: u8, words: &[u8], place: u64) -> Result<Outcome, NoMemory>
+        ensures { IfOk result (λ outcome. outcome ≡ record { status = status; text = line (words.now ++ decimal place) }) }
+    {
+        let mut text = Text::new(alloc);
+        text.put(words)?;
+        text.put_number(place)?;
+        text.put(b"\n")?;
+        Ok(Outcome { status, text })
+    }
+
+    /// The words are no command.
+    pub(crate) fn words_refused(alloc: Global) -> Result<Outcome, NoMemory>
+        ensures { IfOk result (λ outcome. outcome ≡ words_refused) }
+    {
+        Outcome::of_line(alloc, status::WORDS_REFUSED, b"words refused")
+    }
+
+    /// The file that the word at this place names couldn't be read.
+    pub(crate) fn read_fault(alloc: Global, place: u64) -> Result<Outcome, NoMemory>
+        ensures { IfOk result (λ outcome. outcome ≡ read_fault place) }
+    {
+        Outcome::of_file(alloc, status::READ_FAULT, b"read fault ", place)
+    }
+
+    /// The file that the word at this place names is longer than its limit.
+    pub(crate) fn long_file(alloc: Global, place: u64) -> Result<Outcome, NoMemory>
+        ensures { IfOk result (λ outcome. outcome ≡ long_file place) }
+    {
+        Outcome::of_file(alloc, status::LONG_FILE, b"long file ", place)
+    }
+
+    /// The model is refused.
+    pub fn model_refused(alloc: Global, refusal: Refusal) -> Result<Outcome, NoMemory>
+        ensures { IfOk result (λ outcome. outcome ≡ model_refused refusal) }
+    {
+        let words = format!(in alloc; "model refused {refusal}")?;
+        Outcome::of_line(alloc, status::MODEL_REFUSED, words.as_bytes())
+    }
+}

@@ -1,0 +1,69 @@
+-- What it means that a requirement of a model is kept or broken, and that a model is in time. Times are in ticks.
+use Rattle.std.specs.Prelude.{ℕ, ◌+◌, ◌<◌, ◌≤◌, List, [], length, slice_index_or, unwrap_or}
+use Rattle.cl_model.specs.declared.chain.LengthKind.{LengthKind}
+use Rattle.cl_model.specs.declared.chain.LengthKind.TheVariants.{Reaction, Age, Reduced}
+use Rattle.cl_model.specs.declared.chain.RequirementDef.{RequirementDef}
+use Rattle.cl_model.specs.declared.group.Group.{Group}
+use Rattle.cl_model.specs.declared.model.SystemModel.{SystemModel}
+use Rattle.cl_model.specs.ByNumber.{chain_named}
+use Rattle.cl_model.specs.Groups.{groups_at}
+use Rattle.cl_runs.specs.TaskTiming.{timing_at}
+use Rattle.cl_runs.specs.SystemOf.{system_of}
+use Rattle.cl_runs.specs.Table.{job_at}
+use Rattle.cl_runs.specs.Run.{Run, jobs_of}
+use Rattle.cl_runs.specs.Legal.{IsLegal}
+use Rattle.cl_runs.specs.Moments.{JobFinishes}
+use Rattle.cl_runs.specs.Chains.{Moments, JobChain, chain_length, IsForwardChain, IsAgeChain, IsReducedChain}
+use Rattle.cl_runs.specs.RunChains.{run_moments}
+
+-- ---- requirements by number
+
+-- stands for a requirement past the last one
+unfoldable pub no_requirement : RequirementDef
+no_requirement = record { name = []; chain = []; kind = Reaction; most = 0 }
+
+-- the requirement of a number
+abbrev pub requirement_at : SystemModel → ℕ → RequirementDef
+requirement_at model i = slice_index_or model.requirements i no_requirement
+
+-- the number of the chain that a requirement names
+abbrev pub required_chain : SystemModel → RequirementDef → ℕ
+required_chain model requirement = unwrap_or (chain_named model requirement.chain) 0
+
+-- ---- kept and broken
+
+-- a complete chain of a kind
+abbrev pub IsChainOfKind : LengthKind → Moments → List Group → JobChain → Type 0
+IsChainOfKind Reaction = IsForwardChain
+IsChainOfKind Age = IsAgeChain
+IsChainOfKind Reduced = IsReducedChain
+
+-- a complete chain of a run, of the chain and the kind that a requirement names
+abbrev pub IsRequiredChain : SystemModel → RequirementDef → Run → JobChain → Type 0
+IsRequiredChain model requirement run chain =
+    let groups = groups_at model (required_chain model requirement) in
+    IsChainOfKind requirement.kind (run_moments (system_of model) run) groups chain
+
+-- a requirement is kept: in every legal run no complete chain of its chain and kind is longer than it says
+abbrev pub IsKept : SystemModel → RequirementDef → Type 0
+IsKept model requirement = (run : Run) → IsLegal (system_of model) run
+    → (chain : JobChain) → IsRequiredChain model requirement run chain → chain_length chain ≤ requirement.most
+
+-- a requirement is broken: in some legal run a complete chain of its chain and kind is longer than it says
+pub record IsBroken (model : SystemModel) (requirement : RequirementDef) : Type 0 where
+  pub run : Run
+  pub legal : IsLegal (system_of model) run
+  pub chain : JobChain
+  pub complete : IsRequiredChain model requirement run chain
+  pub longer : requirement.most < chain_length chain
+
+-- ---- in time
+
+-- A model is in time: in every legal run, of any length, every job whose deadline lies within the run has finished by
+-- then, and each requirement is kept.
+pub record IsInTime (model : SystemModel) : Type 0 where
+  pub deadlines : (run : Run) → IsLegal (system_of model) run → (task job : ℕ) → task < length model.tasks → job < length (jobs_of run task)
+      → (job_at (jobs_of run task) job).arrival + (timing_at (system_of model) task).deadline ≤ run.table.ticks
+      → (finish : ℕ) × JobFinishes (system_of model) run task job finish
+      × (finish ≤ (job_at (jobs_of run task) job).arrival + (timing_at (system_of model) task).deadline)
+  pub requirements : (i : ℕ) → i < length model.requirements → IsKept model (requirement_at model i)

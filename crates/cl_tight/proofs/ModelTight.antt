@@ -1,0 +1,187 @@
+-- The tight bounds of timed periodic groups of a valid model, whose hyperperiod is within the limit, are their exact
+-- lengths.
+use Rattle.std.proofs.Common.{◌≡◌, ℕ, suc, ◌-◌, ◌*◌, ◌<◌, ◌≤◌, true, min, List, [], ◌∷◌, length, refl, sym, ap, subst, ◌∙◌, arith}
+use Rattle.std.specs.Prelude.{pos, All}
+use Rattle.std.specs.Int.{◌∣◌}
+use Rattle.std.proofs.lemmas.Bool.{and_parts}
+use Rattle.std.proofs.lemmas.Int.{ints}
+use Rattle.std.proofs.Math.Nat.{dvd-mul_left_of_dvd, dvd-mul_right, mul-pos, pos_of_dvd_of_pos}
+use Rattle.std.proofs.lemmas.List.{get_or_default}
+use Rattle.std.proofs.lemmas.List.Elements.{All-head, All-tail, All-cons, All-nil, All-weaker}
+use Rattle.cl_model.specs.declared.group.Group.{Group}
+use Rattle.cl_model.specs.declared.limits.TheConstants.{MOST_STEPS}
+use Rattle.cl_model.specs.declared.model.SystemModel.{SystemModel}
+use Rattle.cl_model.specs.declared.stimulus.StimulusKind.{StimulusKind}
+use Rattle.cl_model.specs.declared.stimulus.StimulusKind.TheVariants.{Periodic, Sporadic, Burst}
+use Rattle.cl_model.specs.Groups.{IsGroupOf, group_at, groups_at, no_group}
+use Rattle.cl_model.specs.Kinds.{is_timed, is_periodic}
+use Rattle.cl_model.specs.Timing.{least_distance, greatest_jitter}
+use Rattle.cl_model.specs.Validity.{IsValid}
+use Rattle.cl_runs.specs.Pattern.{first_least}
+use Rattle.cl_runs.specs.TaskTiming.{System, IsSound, timing_at}
+use Rattle.cl_runs.specs.SystemOf.{system_of}
+use Rattle.cl_runs.specs.Chains.{last_group}
+use Rattle.cl_runs.proofs.ModelSystem.{system_sound}
+use Rattle.cl_exact.specs.declared.limit.TheConstants.{MOST_FIRST_JOBS}
+use Rattle.cl_exact.specs.TimedPeriodic.{are_timed_periodic, is_timed_periodic_chain}
+use Rattle.cl_exact.specs.Hyperperiod.{period_of, IsHyperperiod, IsWithinLimit}
+use Rattle.cl_exact.specs.ExactLengths.{Witnesses, AreExactLengths}
+use Rattle.cl_exact.specs.Ties.{AreTied}
+use Rattle.cl_exact.proofs.ModelBeats.{AreTimedGroups, timed_chain, task_passes}
+use Rattle.cl_exact.proofs.ModelExact.{groups_are_tied}
+use Rattle.cl_bound.specs.declared.group_timing.GroupTiming.{GroupTiming}
+use Rattle.cl_bound.specs.Hops.{group_timing}
+use Rattle.cl_bound.specs.SettledChains.{IsGroupOfTask}
+use Rattle.cl_bound.proofs.AlongChains.{last_timing}
+use Rattle.cl_bound.proofs.ModelGroups.{group_of_system}
+use Rattle.cl_phase.specs.declared.pace.TheConstants.{MOST_ARRIVALS}
+use Rattle.cl_phase.specs.declared.pace.Pace.TheVariants.{Kept}
+use Rattle.cl_phase.specs.declared.stop.Stop.{Stop}
+use Rattle.cl_phase.specs.Walks.{pace_at}
+use Rattle.cl_phase.specs.TightBounds.{stops_of, span_of, tight_bounds}
+use Rattle.cl_tight.specs.ExactBounds.{AreLengthsOf}
+use Rattle.cl_tight.proofs.IdealSteps.{ideal_phase, IsIdealDelay}
+use Rattle.cl_tight.proofs.IdealStops.{IsTurning, paces, reads_at_once, writes_late, timed_delay, all_keep_phase}
+use Rattle.cl_tight.proofs.IdealWalks.{AreIdealStops}
+use Rattle.cl_phase.proofs.KeptWalks.{over_all, phases_agree}
+use Rattle.cl_phase.proofs.StopFacts.{length_stops, stop_delay, stops_step}
+use Rattle.cl_tight.proofs.TightExact.{lengths_are_exact}
+
+-- a pattern that is periodic has its period, its offset and some jitter
+periodic_parts : (pattern : StimulusKind) → is_periodic pattern ≡ true → pattern ≡ Periodic (least_distance pattern) (first_least pattern) (greatest_jitter pattern)
+periodic_parts (Periodic period offset jitter) passes = refl
+periodic_parts (Sporadic least greatest) passes = cc
+periodic_parts (Burst period offset count distance) passes = cc
+
+-- timed periodic groups of a sound system turn in each number of ticks that their periods divide
+module _ (system : System) (sound : IsSound system) (groups : List Group) (all : All (IsGroupOfTask system) groups)
+    (timed : are_timed_periodic system groups ≡ true) (ticks : ℕ) (divide : All (λ (group : Group). period_of system group ∣ ticks) groups) where
+  turning_at : (place : ℕ) → place < length groups → IsTurning system ticks (group_at groups place)
+  turning_at place within =
+      let task = (group_at groups place).task in
+      let parts = and_parts (is_timed (timing_at system task).access) (is_periodic (timing_at system task).pattern) (task_passes system groups place timed within) in
+      let is = sound.tasks task (all place no_group within).is_task in
+      record {
+        periodic = record {
+          jitter = greatest_jitter (timing_at system task).pattern;
+          periodic = periodic_parts (timing_at system task).pattern parts.1;
+          some_deadline = omega (arith, is.above_jitter);
+          soon = is.within_distance;
+        };
+        timed = parts.0;
+        divides = divide place no_group within;
+      }
+
+  turning : All (IsTurning system ticks) groups
+  turning place d within = subst (IsTurning system ticks) (get_or_default groups place no_group d within) (turning_at place within)
+
+-- some number of ticks is a common multiple of periods, so the least isn't 0
+common_multiple_of : (system : System) (groups : List Group) → All (λ (group : Group). 1 ≤ period_of system group) groups
+    → (ticks : ℕ) × (1 ≤ ticks) × All (λ (group : Group). period_of system group ∣ ticks) groups
+common_multiple_of system [] all = (1, omega arith, All-nil (λ (group : Group). period_of system group ∣ 1))
+common_multiple_of system (group ∷ later) all =
+    let period : ℕ = period_of system group in
+    let rest = common_multiple_of system later (All-tail (λ (other : Group). 1 ≤ period_of system other) group later all) in (
+      period * rest.0,
+      mul-pos (All-head (λ (other : Group). 1 ≤ period_of system other) group later all) rest.1,
+      All-cons (λ (other : Group). period_of system other ∣ period * rest.0) group later (dvd-mul_right period rest.0)
+          (All-weaker (λ (other : Group). period_of system other ∣ rest.0) (λ (other : Group). period_of system other ∣ period * rest.0)
+          (λ other divides. dvd-mul_left_of_dvd (period_of system other) divides period) later rest.2),
+    )
+
+some_hyperperiod : (system : System) (groups : List Group) → All (λ (group : Group). 1 ≤ period_of system group) groups → (ticks : ℕ)
+    → IsHyperperiod system groups ticks → 1 ≤ ticks
+some_hyperperiod system groups all ticks is =
+    let common = common_multiple_of system groups all in
+    pos_of_dvd_of_pos (is.least common.0 common.2) common.1
+
+-- from the earliest read of timed groups to their latest write, past their arrivals, is the last deadline
+span_is : (system : System) (responses : ℕ → ℕ) (first : Group) (later : List Group)
+    → ((place : ℕ) → place < length (first ∷ later) → is_timed (timing_at system (group_at (first ∷ later) place).task).access ≡ true)
+    → span_of system responses (first ∷ later) ≡ pos (timing_at system (last_group (first ∷ later)).task).deadline
+span_is system responses first later timed =
+    let last : ℕ = length later in
+    let same : last ≡ length (first ∷ later) - 1 = omega arith in
+    let ends = ap (λ (timing : GroupTiming). timing.write) (last_timing (group_timing system responses) first later)
+    ∙ writes_late system responses (group_at (first ∷ later) last) (timed last (omega arith))
+    ∙ ap (λ n. (timing_at system (group_at (first ∷ later) n).task).deadline) same in
+    omega (arith, ints, ends, reads_at_once system responses first (timed 0 (omega arith)))
+
+module _ (system : System) (sound : IsSound system) (responses : ℕ → ℕ) (first : Group) (later : List Group)
+    (all : All (IsGroupOfTask system) (first ∷ later)) (timed : are_timed_periodic system (first ∷ later) ≡ true) (ticks : ℕ) (some : 1 ≤ ticks)
+    (divide : All (λ (group : Group). period_of system group ∣ ticks) (first ∷ later)) (within : ticks ≤ MOST_ARRIVALS * period_of system first) where
+  abbrev groups : List Group
+  groups = first ∷ later
+
+  abbrev stops : List Stop
+  stops = stops_of system responses groups
+
+  turns : (place : ℕ) → place < length groups → IsTurning system ticks (group_at groups place)
+  turns = turning_at system sound groups all timed ticks divide
+
+  keeps : (place : ℕ) → place < length groups → pace_at stops place ≡ Kept (ideal_phase system (group_at groups place))
+  keeps place below = ap (λ found. pace_at found place)
+      (all_keep_phase system ticks some first (turns 0 (omega arith)) within responses later (turning system sound groups all timed ticks divide))
+      ∙ paces system responses groups place below
+
+  as_many : length stops ≡ length groups
+  as_many = length_stops system responses groups []
+
+  are_ideal : AreIdealStops system groups stops
+  are_ideal = record {
+    some = omega arith;
+    as_many = as_many;
+    periodic = λ place below. (turns place below).periodic;
+    paces = keeps;
+    leads = λ place below. (over_all system sound responses groups all place (ideal_phase system (group_at groups place))
+        (omega (arith, below, as_many)) (keeps place below) (pos 0)).leads;
+    delays = λ place below. subst (IsIdealDelay system (group_at groups place) (group_at groups (suc place))) (sym (stop_delay system responses groups [] place below))
+        (timed_delay system responses (group_at groups place) (group_at groups (suc place)) (turns place (omega (arith, below))).timed (turns (suc place) below).timed);
+  }
+
+  pub tight_is_exact : (exact : Witnesses) → AreExactLengths system groups exact → AreTied system groups exact
+      → AreLengthsOf (tight_bounds system responses groups) exact
+  tight_is_exact exact are_exact tied =
+      let span = span_of system responses groups in
+      let here : 0 < length groups = omega arith in
+      subst (λ bounds. AreLengthsOf bounds exact) (phases_agree system sound responses groups all 0 here (ideal_phase system first) (keeps 0 here))
+      (lengths_are_exact system groups stops (λ place below. stops_step system responses sound groups all [] place (omega (arith, below, as_many))) are_ideal
+      ticks (record { some = some; whole = λ place below. (turns place below).divides }) span (span_is system responses first later (λ place below. (turns place below).timed))
+      (λ place below. over_all system sound responses groups all place (ideal_phase system (group_at groups place)) (omega (arith, below, as_many)) (keeps place below) span)
+      exact are_exact tied 0 here)
+
+-- ---- groups of valid models
+
+first_within : (ticks one other : ℕ) → ticks ≤ MOST_FIRST_JOBS * min one other → ticks ≤ MOST_ARRIVALS * one
+first_within ticks one other within = omega (arith, within)
+
+module _ (model : SystemModel) (valid : IsValid model) where
+  abbrev system : System
+  system = system_of model
+
+  groups_tight : (responses : ℕ → ℕ) (groups : List Group) → AreTimedGroups model groups → IsWithinLimit system groups → (exact : Witnesses)
+      → AreExactLengths system groups exact → AreLengthsOf (tight_bounds system responses groups) exact
+  groups_tight responses [] are within exact are_exact = absurd (omega (arith, are.some))
+  groups_tight responses (first ∷ later) are within exact are_exact =
+      let sound = system_sound model valid in
+      let all = All-weaker (IsGroupOf model) (IsGroupOfTask system) (group_of_system model) (first ∷ later) are.of_tasks in
+      let ticks : ℕ = within.hyperperiod in
+      let divide = within.is_hyperperiod.multiple in
+      let turn = turning system sound (first ∷ later) all are.timed_periodic ticks divide in
+      let some = some_hyperperiod system (first ∷ later)
+      (All-weaker (IsTurning system ticks) (λ (group : Group). 1 ≤ period_of system group)
+      (λ group is. omega (arith, is.periodic.some_deadline, is.periodic.soon)) (first ∷ later) turn) ticks within.is_hyperperiod in
+      tight_is_exact system sound responses first later all are.timed_periodic ticks some divide
+      (first_within ticks (period_of system first) (period_of system (last_group (first ∷ later))) within.within) exact are_exact
+      (groups_are_tied model valid (first ∷ later) are exact are_exact)
+
+  pub tight_of_groups : (responses : ℕ → ℕ) (groups : List Group) → 0 < length groups → length groups ≤ MOST_STEPS → All (IsGroupOf model) groups
+      → are_timed_periodic system groups ≡ true → IsWithinLimit system groups → (exact : Witnesses)
+      → AreExactLengths system groups exact → AreLengthsOf (tight_bounds system responses groups) exact
+  tight_of_groups responses groups some few of_tasks timed =
+      groups_tight responses groups (record { some = some; few = few; of_tasks = of_tasks; timed_periodic = timed })
+
+  pub tight_of_chain : (responses : ℕ → ℕ) (chain : ℕ) → chain < length model.chains → is_timed_periodic_chain model chain ≡ true
+      → IsWithinLimit system (groups_at model chain) → (exact : Witnesses)
+      → AreExactLengths system (groups_at model chain) exact → AreLengthsOf (tight_bounds system responses (groups_at model chain)) exact
+  tight_of_chain responses chain below timed = groups_tight responses (groups_at model chain) (timed_chain model valid chain below timed)

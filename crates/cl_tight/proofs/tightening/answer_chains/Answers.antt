@@ -1,8 +1,0 @@
-use Rattle.std.proofs.Common.{arith}
-use Rattle.cl_tight.proofs.TightLists.{more_chains}
-use Rattle.cl_tight.proofs.tightening.answer_chains.Goals as goal
-
-pub loop-chain-preserved : goal.loop-chain-preserved
-loop-chain-preserved c =
-    more_chains c.args.model.now c.loop-chain.chain c.loop-chain.answers c.push.new.self c.answer_chain.result
-    (omega (arith, c.chains-chain-end.ensures.count)) c.loop-chain.invariant c.answer_chain.ensures c.in_ok-push.ensures.ok

@@ -1,0 +1,115 @@
+-- Each command is meant well.
+pub mod Alone
+pub mod OnModels
+pub mod Simulate
+pub mod Replay
+pub mod Draw
+pub mod Edit
+pub mod Apply
+pub mod Check
+use Rattle.std.proofs.Common.{◌≡◌, ℕ, ◌+◌, ◌<◌, ◌≤◌, List, [], ◌∷◌, length, Option, Some, None, subst, arith}
+use Rattle.std.proofs.lemmas.Bool.{cond_both}
+use Rattle.std.specs.Prelude.{codes}
+use Rattle.std.specs.Str.{bytes_eq}
+use Rattle.cl_gen.specs.declared.limits.TheConstants.{MOST_RUN_TICKS}
+use Rattle.cl_picture.specs.declared.window.TheConstants.{MOST_WINDOW}
+use Rattle.cl_engine.specs.Files.{file_count}
+use Rattle.cl_model.specs.declared.model.SystemModel.{SystemModel}
+use Rattle.cl_model.specs.Validity.{IsValid}
+use Rattle.cl_runs.specs.Legal.{IsLegal}
+use Rattle.cl_runs.specs.Run.{Run}
+use Rattle.cl_runs.specs.SystemOf.{system_of}
+use Rattle.cl_engine.specs.declared.outcome.Outcome.{Outcome}
+use Rattle.cl_top.specs.declared.command.Command.{Command}
+use Rattle.cl_top.specs.declared.command.Command.TheVariants as command
+use Rattle.cl_top.specs.declared.commands.help.TheConstants.{HELP, VERSION}
+use Rattle.cl_top.specs.Command.{files_read, upto, some_tasks, any_seed, whole, with_two_numbers, asks_help, asks_version, by_verb, command_of, AsksForFew}
+use Rattle.cl_top.specs.Commands.{meaning_of, of_run}
+use Rattle.cl_top.proofs.WellMeant.Alone.{saying_well, generating_well, surveying_well}
+use Rattle.cl_top.proofs.WellMeant.Apply.{applying_well}
+use Rattle.cl_top.proofs.WellMeant.Check.{checking_well}
+use Rattle.cl_top.proofs.WellMeant.Draw.{drawing_well, drawn_once}
+use Rattle.cl_top.proofs.WellMeant.Edit.{editing_well}
+use Rattle.cl_top.proofs.WellMeant.OnModels.{analysing_well, migrating_well, cutting_well, ordering_well, headroom_well, tightening_well, verifying_well, explaining_well}
+use Rattle.cl_top.proofs.WellMeant.Replay.{replaying_well, replayed_once}
+use Rattle.cl_top.proofs.WellMeant.Simulate.{simulating_well}
+use Rattle.cl_top.proofs.Meanings.{IsMeantWell}
+use Rattle.cl_top.proofs.Words.{IsFew, IsGood, whole_good, numbered_good}
+
+pub meant_well : (asked : Command) → IsMeantWell (files_read asked) (meaning_of asked) (AsksForFew asked)
+unfolding meaning_of AsksForFew
+meant_well command.Analyse = analysing_well
+meant_well command.Migrate = migrating_well
+meant_well command.Cut = cutting_well
+meant_well command.Order = ordering_well
+meant_well command.Headroom = headroom_well
+meant_well command.Tighten = tightening_well
+meant_well command.Verify = verifying_well
+meant_well command.Explain = explaining_well
+meant_well (command.Simulate ticks seed) = simulating_well ticks seed (AsksForFew (command.Simulate ticks seed))
+meant_well command.Replay = replaying_well
+meant_well (command.Draw from to) = drawing_well from to (AsksForFew (command.Draw from to))
+meant_well command.Edit = editing_well
+meant_well command.Apply = applying_well
+meant_well command.Check = checking_well
+meant_well (command.Generate seed tasks) = generating_well seed tasks
+meant_well (command.Survey seed tasks) = surveying_well seed tasks
+meant_well command.Help = saying_well HELP.now
+meant_well command.Version = saying_well VERSION.now
+
+-- what comes of a legal run is one outcome
+pub of_run_same : (asked : Command) (model : SystemModel) → IsValid model → (run : Run) → IsLegal (system_of model) run → (one other : Outcome)
+    → of_run asked model run one → of_run asked model run other → one ≡ other
+of_run_same command.Replay model valid run legal one other h k = replayed_once model run legal one other h k
+of_run_same (command.Draw from to) model valid run legal one other h k = drawn_once from to model valid run legal one other h k
+of_run_same asked model valid run legal one other h k = absurd h
+
+-- ---- the words of each command
+
+-- what holds of each command behind a verb, and of none, holds of the words
+module _ (P : Option Command → Type 0) (words : List (List ℕ)) (of_whole : (asked : Command) → AsksForFew asked → P (whole asked words))
+    (simulate : P (with_two_numbers command.Simulate 2 (upto MOST_RUN_TICKS) any_seed words)) (draw : P (with_two_numbers command.Draw 3 (upto MOST_WINDOW) (upto MOST_WINDOW) words))
+    (generate : P (with_two_numbers command.Generate 1 any_seed some_tasks words)) (survey : P (with_two_numbers command.Survey 1 any_seed some_tasks words)) (none : P None) where
+  each_verb : (verb : List ℕ) → P (by_verb verb words)
+  unfolding AsksForFew
+  each_verb verb =
+      cond_both (bytes_eq verb (codes "analyse")) _ _ P (λ _. of_whole command.Analyse tt) (λ _.
+      cond_both (bytes_eq verb (codes "migrate")) _ _ P (λ _. of_whole command.Migrate tt) (λ _.
+      cond_both (bytes_eq verb (codes "cut")) _ _ P (λ _. of_whole command.Cut tt) (λ _.
+      cond_both (bytes_eq verb (codes "order")) _ _ P (λ _. of_whole command.Order tt) (λ _.
+      cond_both (bytes_eq verb (codes "headroom")) _ _ P (λ _. of_whole command.Headroom tt) (λ _.
+      cond_both (bytes_eq verb (codes "tighten")) _ _ P (λ _. of_whole command.Tighten tt) (λ _.
+      cond_both (bytes_eq verb (codes "verify")) _ _ P (λ _. of_whole command.Verify tt) (λ _.
+      cond_both (bytes_eq verb (codes "explain")) _ _ P (λ _. of_whole command.Explain tt) (λ _.
+      cond_both (bytes_eq verb (codes "simulate")) _ _ P (λ _. simulate) (λ _.
+      cond_both (bytes_eq verb (codes "replay")) _ _ P (λ _. of_whole command.Replay tt) (λ _.
+      cond_both (bytes_eq verb (codes "draw")) _ _ P (λ _. draw) (λ _.
+      cond_both (bytes_eq verb (codes "edit")) _ _ P (λ _. of_whole command.Edit tt) (λ _.
+      cond_both (bytes_eq verb (codes "apply")) _ _ P (λ _. of_whole command.Apply tt) (λ _.
+      cond_both (bytes_eq verb (codes "generate")) _ _ P (λ _. generate) (λ _.
+      cond_both (bytes_eq verb (codes "survey")) _ _ P (λ _. survey) (λ _.
+      cond_both (bytes_eq verb (codes "check")) _ _ P (λ _. of_whole command.Check tt) (λ _.
+      cond_both (asks_help verb) _ _ P (λ _. of_whole command.Help tt) (λ _.
+      cond_both (asks_version verb) _ _ P (λ _. of_whole command.Version tt) (λ _. none))))))))))))))))))
+
+by_words : (words : List (List ℕ)) → IsGood AsksForFew words (command_of words)
+unfolding command_of AsksForFew
+by_words [] = tt
+by_words (verb ∷ rest) =
+    let words = verb ∷ rest in
+    each_verb (IsGood AsksForFew words) words (λ asked few. whole_good AsksForFew asked few words)
+    (numbered_good AsksForFew command.Simulate (upto MOST_RUN_TICKS) any_seed 2 (λ n m small low high. (small, omega arith)) words)
+    (numbered_good AsksForFew command.Draw (upto MOST_WINDOW) (upto MOST_WINDOW) 3 (λ n m small low high. (high, omega arith)) words)
+    (numbered_good AsksForFew command.Generate any_seed some_tasks 1 (λ n m small low high. ((low, high), omega arith)) words)
+    (numbered_good AsksForFew command.Survey any_seed some_tasks 1 (λ n m small low high. ((low, high), omega arith)) words)
+    tt verb
+
+module _ (words : List (List ℕ)) (asked : Command) (is : command_of words ≡ Some asked) where
+  good : AsksForFew asked × (file_count (files_read asked) < length words)
+  good = subst (IsGood AsksForFew words) is (by_words words)
+
+  pub asks_for_few : AsksForFew asked
+  asks_for_few = good.0
+
+  pub has_file_words : file_count (files_read asked) < length words
+  has_file_words = good.1

@@ -1,0 +1,90 @@
+-- The commands on a model that print one text of it.
+use Rattle.std.proofs.Common.{◌≡◌, ℕ, inl, inr, List, refl, sym, ◌∙◌, arith, subst}
+use Rattle.cl_model.specs.declared.model.SystemModel.{SystemModel}
+use Rattle.cl_model.specs.Validity.{IsValid}
+use Rattle.cl_cut.proofs.OneCutAnswer.{all_safe, all_no_worse}
+use Rattle.cl_designs.specs.Cuts.{IsCutTextOf}
+use Rattle.cl_designs.specs.Orders.{IsOrderTextOf}
+use Rattle.cl_designs.specs.Headroom.{IsHeadroomTextOf}
+use Rattle.cl_designs.proofs.OneText.{some_cut_text, some_order_text, some_headroom_text, one_cut_text, one_order_text, one_headroom_text}
+use Rattle.cl_explain.specs.Explanation.{explanation}
+use Rattle.cl_report.specs.Report.{IsReportOf}
+use Rattle.cl_report.specs.Tight.{tight_text, verify_text}
+use Rattle.cl_report.proofs.OneReport.{one_report}
+use Rattle.cl_tight.proofs.TightLaws.{tight_findings_safe, tight_findings_as_tight, verified_in_time}
+use Rattle.cl_write.specs.Texts.{IsTextOf}
+use Rattle.cl_write.proofs.SomeTexts.{some_text}
+use Rattle.cl_engine.specs.declared.files.Files.TheVariants as files
+use Rattle.cl_engine.specs.Content.{Content, Model}
+use Rattle.cl_engine.specs.Done.{HasStatusAndText, IsDone}
+use Rattle.cl_engine.specs.Language.{IsOfContent}
+use Rattle.cl_top.specs.declared.command.Command.TheVariants as command
+use Rattle.cl_top.specs.Commands.{meaning_of}
+use Rattle.cl_top.specs.Headline.{IsSafeReportOf, AreSafeCuts, IsSafeTightReport}
+use Rattle.cl_top.specs.Meaning.{printing, no_step, any_steps, at_most, model_steps, task_steps, entry_steps, no_promise, promises, equal, WritesTheSame}
+use Rattle.cl_top.specs.Verified.{verify_status}
+use Rattle.cl_top.proofs.Meanings.{IsMeantWell, same_parts, done_some, done_once, model_well}
+use Rattle.cl_top.proofs.SafeReport.{some_report, safe_report_of}
+use Rattle.cl_top.proofs.VerifyStatus.{verify_content, verified_at_done}
+
+-- a text of which each valid model has one
+module _ (IsText : SystemModel → (text : List ℕ) → Type 0) (takes : Content → (before after : ℕ) → Type 0) (safe : Content → (text : List ℕ) → Type 0)
+    (some : (model : SystemModel) → IsValid model → (text : List ℕ) × IsText model text)
+    (once : (model : SystemModel) → IsValid model → (one other : List ℕ) → IsText model one → IsText model other → one ≡ other)
+    (none : (model : SystemModel) (steps : ℕ) → takes (Model model) steps steps)
+    (holds : (model : SystemModel) → IsValid model → (text : List ℕ) → IsText model text → safe (Model model) text) where
+  printing_well : IsMeantWell files.Model (printing IsText takes safe) (Unit {0})
+  printing_well = model_well takes safe equal (Unit {0}) (λ one other is. is) (λ model. IsDone (IsText model))
+      (λ model valid named few. let text = some model valid in done_some (IsText model) text.0 text.1)
+      (λ model valid one other h k. done_once (IsText model) (once model valid) one other h k)
+      (λ model found is. inl is.status_is) none (λ model valid found is done. holds model valid found.text is.text_is)
+
+-- and one that is the very text of a function of the model
+module _ (text_of : SystemModel → List ℕ) (takes : Content → (before after : ℕ) → Type 0) (safe : Content → (text : List ℕ) → Type 0)
+    (none : (model : SystemModel) (steps : ℕ) → takes (Model model) steps steps)
+    (holds : (model : SystemModel) → IsValid model → (text : List ℕ) → text ≡ text_of model → safe (Model model) text) where
+  writing_well : IsMeantWell files.Model (printing (λ model text. text ≡ text_of model) takes safe) (Unit {0})
+  writing_well = printing_well (λ model text. text ≡ text_of model) takes safe (λ model valid. (text_of model, refl))
+      (λ model valid one other is likewise. is ∙ sym likewise) none holds
+
+pub analysing_well : IsMeantWell files.Model (meaning_of command.Analyse) (Unit {0})
+unfolding meaning_of
+analysing_well = printing_well IsReportOf (at_most model_steps) (promises IsSafeReportOf) some_report (λ model valid. one_report model) (λ model steps. omega arith)
+    (λ model valid text is. safe_report_of model text valid is)
+
+pub migrating_well : IsMeantWell files.Model (meaning_of command.Migrate) (Unit {0})
+unfolding meaning_of
+migrating_well = model_well no_step no_promise WritesTheSame (Unit {0}) (λ one other is. inl is) (λ model. IsDone (IsTextOf model))
+    (λ model valid named few. let text = some_text model valid.in_range named in done_some (IsTextOf model) text.0 text.1)
+    (λ model valid one other h k. inr (model, h, k)) (λ model found is. inl is.status_is) (λ model steps. omega arith) (λ model valid found is done. tt)
+
+pub cutting_well : IsMeantWell files.Model (meaning_of command.Cut) (Unit {0})
+unfolding meaning_of
+cutting_well = printing_well IsCutTextOf any_steps (promises AreSafeCuts) some_cut_text (λ model valid. one_cut_text model) (λ model steps. tt)
+    (λ model valid text is. record { cuts = is; safe = all_safe model valid is.answers is.are; no_worse = all_no_worse model valid is.answers is.are })
+
+pub ordering_well : IsMeantWell files.Model (meaning_of command.Order) (Unit {0})
+unfolding meaning_of
+ordering_well = printing_well IsOrderTextOf any_steps no_promise some_order_text one_order_text (λ model steps. tt) (λ model valid text is. tt)
+
+pub headroom_well : IsMeantWell files.Model (meaning_of command.Headroom) (Unit {0})
+unfolding meaning_of
+headroom_well = printing_well IsHeadroomTextOf any_steps no_promise some_headroom_text one_headroom_text (λ model steps. tt) (λ model valid text is. tt)
+
+pub tightening_well : IsMeantWell files.Model (meaning_of command.Tighten) (Unit {0})
+unfolding meaning_of
+tightening_well = writing_well tight_text (at_most task_steps) (promises IsSafeTightReport) (λ model steps. omega arith)
+    (λ model valid text is. record { printed = is; safe = tight_findings_safe model valid; as_tight = λ report found. tight_findings_as_tight model valid report found })
+
+pub explaining_well : IsMeantWell files.Model (meaning_of command.Explain) (Unit {0})
+unfolding meaning_of
+explaining_well = writing_well explanation (at_most entry_steps) no_promise (λ model steps. omega arith) (λ model valid text is. tt)
+
+pub verifying_well : IsMeantWell files.Model (meaning_of command.Verify) (Unit {0})
+unfolding meaning_of
+verifying_well = model_well (at_most task_steps) _ equal (Unit {0}) (λ one other is. is)
+    (λ model. HasStatusAndText (verify_status model) (λ text. text ≡ verify_text model))
+    (λ model valid named few. (record { status = verify_status model; text = verify_text model }, record { status_is = refl; text_is = refl }))
+    (λ model valid one other h k. same_parts one other (h.status_is ∙ sym k.status_is) (h.text_is ∙ sym k.text_is))
+    (λ model found is. subst IsOfContent (sym is.status_is) (verify_content model)) (λ model steps. omega arith)
+    (λ model valid found is done. verified_in_time model valid (verified_at_done model (sym is.status_is ∙ done)))

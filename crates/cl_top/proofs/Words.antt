@@ -1,0 +1,72 @@
+-- What words ask for that are a command: few enough, and a word for each file.
+use Rattle.std.proofs.Common.{◌≡◌, ℕ, zero, suc, ◌+◌, ◌<◌, ◌≤◌, leb, List, [], ◌∷◌, drop, Option, Some, None, refl, sym, ap, ◌∙◌, length, arith}
+use Rattle.std.specs.Prelude.{◌&&◌, ◌==◌, decimal}
+use Rattle.std.specs.Option.{option_map}
+use Rattle.std.specs.Str.{bytes_eq}
+use Rattle.std.proofs.lemmas.Bool.{cond_both, leb-true, eqb-true}
+use Rattle.cl_text.specs.Decimal.{number_of}
+use Rattle.cl_model.specs.declared.limits.TheConstants.{MOST_TASKS}
+use Rattle.cl_model.proofs.ListFacts.{both_pass}
+use Rattle.cl_engine.specs.declared.words.Bounds.{Bounds}
+use Rattle.cl_engine.specs.Files.{file_count}
+use Rattle.cl_engine.specs.Words.{number_within, both_numbers, two_numbers}
+use Rattle.cl_top.specs.declared.command.Command.{Command}
+use Rattle.cl_top.specs.Command.{files_read, whole, with_two_numbers}
+
+-- few tasks, and some
+abbrev pub IsFew : (tasks : ℕ) → Type 0
+IsFew tasks = (1 ≤ tasks) × (tasks ≤ MOST_TASKS)
+
+-- the words are a command that asks for few, with a word for each of its files
+abbrev pub IsGood : (Few : Command → Type 0) (words : List (List ℕ)) → Option Command → Type 0
+IsGood Few words None = Unit {0}
+IsGood Few words (Some asked) = Few asked × (file_count (files_read asked) < length words)
+
+pub whole_good : (Few : Command → Type 0) (asked : Command) → Few asked → (words : List (List ℕ)) → IsGood Few words (whole asked words)
+whole_good Few asked few words =
+    cond_both (length words == file_count (files_read asked) + 1) (Some asked) None (IsGood Few words) (λ is. (few, omega (arith, eqb-true _ _ is))) (λ other. tt)
+
+-- a number within bounds is within them
+module _ (bounds : Bounds) (word : List ℕ) (P : Option ℕ → Type 0) (each : (n : ℕ) → bounds.least ≤ n → n ≤ bounds.most → P (Some n)) (none : P None) where
+  number_good : P (number_within bounds word)
+  number_good =
+      let number = number_of word in
+      let same = bytes_eq word (decimal number) in
+      cond_both (same && leb number bounds.most && leb bounds.least number) (Some number) None P
+      (λ passes.
+      let low = both_pass (same && leb number bounds.most) (leb bounds.least number) passes in
+      let high = both_pass same (leb number bounds.most) low.0 in
+      each number (leb-true _ _ low.1) (leb-true _ _ high.1)) (λ fails. none)
+
+drop_none : (words : List (List ℕ)) → drop 0 words ≡ words
+drop_none [] = refl
+drop_none (word ∷ words) = refl
+
+-- words of which some are left are as many as those before and those left
+long_enough : (place : ℕ) (words : List (List ℕ)) (a : List ℕ) (left : List (List ℕ)) → drop place words ≡ a ∷ left → length words ≡ place + length (a ∷ left)
+long_enough zero words a left is = omega (arith, ap length (sym (drop_none words) ∙ is))
+long_enough (suc place) [] a left is = absurd cc
+long_enough (suc place) (word ∷ words) a left is = omega (arith, long_enough place words a left is)
+
+module _ (Few : Command → Type 0) (asked : ℕ → ℕ → Command) (one other : Bounds) (place : ℕ)
+    (each : (n m : ℕ) → n ≤ one.most → other.least ≤ m → m ≤ other.most → Few (asked n m) × (file_count (files_read (asked n m)) < place + 2)) where
+  pair_good : (words : List (List ℕ)) → place + 2 ≤ length words → (first second : List ℕ)
+      → IsGood Few words (option_map (λ numbers. asked numbers.0 numbers.1) (both_numbers (number_within one first) (number_within other second)))
+  pair_good words long first second =
+      number_good one first (λ n. IsGood Few words (option_map (λ numbers. asked numbers.0 numbers.1) (both_numbers n (number_within other second))))
+      (λ n low high. number_good other second (λ m. IsGood Few words (option_map (λ numbers. asked numbers.0 numbers.1) (both_numbers (Some n) m)))
+      (λ m above within. let good = each n m high above within in (good.0, omega (arith, good.1, long))) tt)
+      (none_good (number_within other second))
+    where
+      none_good : (m : Option ℕ) → IsGood Few words (option_map (λ numbers. asked numbers.0 numbers.1) (both_numbers None m))
+      none_good None = tt
+      none_good (Some m) = tt
+
+  of_left : (words left : List (List ℕ)) → drop place words ≡ left → IsGood Few words (option_map (λ numbers. asked numbers.0 numbers.1) (two_numbers one other left))
+  of_left words [] is = tt
+  of_left words (a ∷ []) is = tt
+  of_left words (a ∷ b ∷ []) is = pair_good words (omega (arith, long_enough place words a (b ∷ []) is)) a b
+  of_left words (a ∷ b ∷ c ∷ left) is = tt
+
+  pub numbered_good : (words : List (List ℕ)) → IsGood Few words (with_two_numbers asked place one other words)
+  numbered_good words = of_left words (drop place words) refl
