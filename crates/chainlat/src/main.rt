@@ -1,4 +1,5 @@
-//! `chainlat`: the end-to-end latency of cause-effect chains. The program's start is that of `cl_top`.
+//! `chainlat`: the program that bounds the end-to-end latency of cause-effect chains. It does what
+//! `start` of `cl_top` does.
 #![tactic(auto)]
 
 use cl_top::start;

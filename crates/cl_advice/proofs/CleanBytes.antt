@@ -77,3 +77,7 @@ string_printable bytes = AllPass-from_list_all is_printable (quoted bytes) (prin
 
 pub string_short : (bytes : List ℕ) → length (quoted bytes) ≤ MOST_SHOWN + 2
 string_short bytes = rw (length-append (0x22 ∷ shown_in MOST_QUOTED bytes) (0x22 ∷ [])) (omega (arith, shown_short bytes MOST_QUOTED))
+
+pub string_whole : (bytes : List ℕ) → length (flat_map shown_byte bytes) ≤ MOST_QUOTED
+    → quoted bytes ≡ 0x22 ∷ flat_map shown_byte bytes ++ 0x22 ∷ []
+string_whole bytes fits = ap (λ (inner : List ℕ). 0x22 ∷ inner ++ 0x22 ∷ []) (shown_whole bytes MOST_QUOTED fits)

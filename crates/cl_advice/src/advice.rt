@@ -21,10 +21,14 @@ use std::str;
 use toml::Table;
 use toml::de::Error;
 
-/// Puts what to mend in a model file of these bytes: what was found where it is refused, what is wanted there, and what
-/// to write. The model is the one that the bytes mean, where they are read as one and validity refuses it.
+/// Appends the advice on a refused model file of these bytes: the entry and the runnable that the
+/// refusal is about, the key, what was found there, what is wanted, what it clashes with, and what
+/// to write, each on a line of its own where there is something to say. `model` is the model that
+/// the bytes describe, where they are read as one and it isn't valid. Of bytes that are no
+/// document, the advice says what to write, at which line and column, and what is wrong there.
 ///
-/// `NoMemory` comes where there is no memory for the document or the text.
+/// Fails with `NoMemory` where there is no memory for the document or the text. Then the text ends
+/// with a prefix of the advice, possibly empty.
 pub fn put_advice(
     text: &mut Text,
     alloc: Global,
@@ -32,7 +36,8 @@ pub fn put_advice(
     model: Option<&SystemModel>,
     refusal: Refusal,
 ) -> Result<(), NoMemory>
-    ensures { OnOk result (AddsAdvice (document_of bytes.now) (option_copied model.entry) refusal text.old text.new) }
+    ensures { OnOk result
+        (AddsAdvice (document_of bytes.now) (option_copied model.entry) refusal text.old text.new) }
 {
     match str::from_utf8(bytes) {
         Ok(document) => put_of_text(text, alloc, document, model, refusal),
@@ -40,7 +45,7 @@ pub fn put_advice(
     }
 }
 
-/// Puts what to mend in a document of this text.
+/// Appends the advice on a document of this text.
 fn put_of_text(
     text: &mut Text,
     alloc: Global,
@@ -48,7 +53,8 @@ fn put_of_text(
     model: Option<&SystemModel>,
     refusal: Refusal,
 ) -> Result<(), NoMemory>
-    ensures { OnOk result (AddsAdvice (parse_document document.now) (option_copied model.entry) refusal text.old text.new) }
+    ensures { OnOk result
+        (AddsAdvice (parse_document document.now) (option_copied model.entry) refusal text.old text.new) }
 {
     match toml::table_from_str(alloc, document) {
         Ok(table) => put_of_table(text, &table, model, refusal),
@@ -62,7 +68,7 @@ fn put_of_text(
     }
 }
 
-/// Puts what the parser says of a text that is no document.
+/// Appends what the parser says of a text that is no document.
 fn put_of_error(text: &mut Text, document: &str, error: Error) -> Result<(), NoMemory>
     requires { IsWithin document.now error }
     ensures { OnOk result (AddsUnread text.old text.new) }
@@ -74,14 +80,15 @@ fn put_of_error(text: &mut Text, document: &str, error: Error) -> Result<(), NoM
     put_unread(text, document.as_bytes(), start, error.message())
 }
 
-/// Puts what to mend in a document.
+/// Appends the advice on a document.
 fn put_of_table(
     text: &mut Text,
     table: &Table,
     model: Option<&SystemModel>,
     refusal: Refusal,
 ) -> Result<(), NoMemory>
-    ensures { OnOk result (text.new ≡ text.old ++ advice_text (table_view table.now) (option_copied model.entry) refusal) }
+    ensures { OnOk result
+        (text.new ≡ text.old ++ advice_text (table_view table.now) (option_copied model.entry) refusal) }
 {
     put_entry(text, table, refusal.place)?;
     put_runnable(text, table, refusal.place)?;

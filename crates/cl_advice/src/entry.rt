@@ -1,4 +1,4 @@
-//! The lines of the entry and of the runnable that a place lies in.
+//! The lines of the entry and of the runnable that contain a place.
 ghost use Rattle.std.specs.Prelude.{◌≡◌, ◌++◌, Some, OnOk, option_map};
 ghost use Rattle.toml.specs.Data.{string};
 ghost use Rattle.toml.specs.View.{view, table_view};
@@ -10,7 +10,7 @@ use cl_text::Text;
 use cl_time::NoMemory;
 use toml::{Table, Value};
 
-/// Puts a word where it is a name, and else `-`.
+/// Appends a word if it is a name, and else `-`.
 fn put_name(text: &mut Text, word: &[u8]) -> Result<(), NoMemory>
     ensures { OnOk result (text.new ≡ text.old ++ name_or_dash (Some (string word.now))) }
 {
@@ -20,9 +20,10 @@ fn put_name(text: &mut Text, word: &[u8]) -> Result<(), NoMemory>
     }
 }
 
-/// Puts the name that a value is, and `-` in the place of what is none.
+/// Appends a value if it is a string that is a name, and else `-`.
 fn put_name_or_dash(text: &mut Text, value: Option<&Value>) -> Result<(), NoMemory>
-    ensures { OnOk result (text.new ≡ text.old ++ name_or_dash (option_map (λ value. view value.now) value.entry)) }
+    ensures { OnOk result
+        (text.new ≡ text.old ++ name_or_dash (option_map (λ value. view value.now) value.entry)) }
 {
     match value {
         Some(Value::String(word)) => put_name(text, word.as_bytes()),
@@ -30,9 +31,10 @@ fn put_name_or_dash(text: &mut Text, value: Option<&Value>) -> Result<(), NoMemo
     }
 }
 
-/// Puts the name of a table.
+/// Appends the name of a table, or `-` where it has none.
 fn put_table_name(text: &mut Text, value: Option<&Value>) -> Result<(), NoMemory>
-    ensures { OnOk result (text.new ≡ text.old ++ table_name (option_map (λ value. view value.now) value.entry)) }
+    ensures { OnOk result
+        (text.new ≡ text.old ++ table_name (option_map (λ value. view value.now) value.entry)) }
 {
     match value {
         Some(value) => put_name_or_dash(text, value.get(Key::Name.word())),
@@ -40,9 +42,10 @@ fn put_table_name(text: &mut Text, value: Option<&Value>) -> Result<(), NoMemory
     }
 }
 
-/// Puts what follows the title of the line of a table: its name and its number.
+/// Appends the rest of the line of a table: its name, and its number counted from 1.
 fn put_numbered(text: &mut Text, value: Option<&Value>, number: u32) -> Result<(), NoMemory>
-    ensures { OnOk result (text.new ≡ text.old ++ numbered_words (option_map (λ value. view value.now) value.entry) number) }
+    ensures { OnOk result
+        (text.new ≡ text.old ++ numbered_words (option_map (λ value. view value.now) value.entry) number) }
 {
     text.put(b" ")?;
     put_table_name(text, value)?;
@@ -51,7 +54,7 @@ fn put_numbered(text: &mut Text, value: Option<&Value>, number: u32) -> Result<(
     text.put(b"\n")
 }
 
-/// Puts the line of the entry of a section that a place lies in, where it lies in one.
+/// Appends the line of the entry of a section that contains a place, if there is one.
 pub(crate) fn put_entry(text: &mut Text, table: &Table, place: Place) -> Result<(), NoMemory>
     ensures { OnOk result (text.new ≡ text.old ++ entry_line (table_view table.now) place) }
 {
@@ -65,7 +68,7 @@ pub(crate) fn put_entry(text: &mut Text, table: &Table, place: Place) -> Result<
     }
 }
 
-/// Puts the line of the runnable that a place lies in, where it lies in one.
+/// Appends the line of the runnable that contains a place, if there is one.
 pub(crate) fn put_runnable(text: &mut Text, table: &Table, place: Place) -> Result<(), NoMemory>
     ensures { OnOk result (text.new ≡ text.old ++ runnable_line (table_view table.now) place) }
 {

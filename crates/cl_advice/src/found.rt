@@ -1,4 +1,4 @@
-//! The lines of the key that a refusal is about, and of what stands there.
+//! The lines of the key that a refusal is about, and of the value there.
 ghost use Rattle.std.specs.Prelude.{◌≡◌, ◌++◌, if◌then◌else◌, codes, decimal, OnOk};
 ghost use Rattle.std.specs.Fmt.{signed_decimal};
 ghost use Rattle.toml.specs.View.{view, table_view};
@@ -12,7 +12,7 @@ use cl_time::NoMemory;
 use itoa::Buffer;
 use toml::{Table, Value};
 
-/// Puts the line of the key that a refusal is about, where there is one.
+/// Appends the line of the key that a refusal is about, if there is one.
 pub(crate) fn put_key(text: &mut Text, table: &Table, refusal: Refusal) -> Result<(), NoMemory>
     ensures { OnOk result (text.new ≡ text.old ++ key_line (table_view table.now) refusal) }
 {
@@ -26,7 +26,7 @@ pub(crate) fn put_key(text: &mut Text, table: &Table, refusal: Refusal) -> Resul
     }
 }
 
-/// Puts a whole number.
+/// Appends a whole number.
 fn put_integer(text: &mut Text, number: i64) -> Result<(), NoMemory>
     ensures { OnOk result (text.new ≡ text.old ++ signed_decimal number) }
 {
@@ -34,7 +34,7 @@ fn put_integer(text: &mut Text, number: i64) -> Result<(), NoMemory>
     text.put(buffer.format(number).as_bytes())
 }
 
-/// Puts how long an array is.
+/// Appends the length of an array.
 fn put_array(text: &mut Text, length: usize) -> Result<(), NoMemory>
     ensures { OnOk result (text.new ≡ text.old ++ (codes "array of " ++ decimal length)) }
 {
@@ -42,7 +42,7 @@ fn put_array(text: &mut Text, length: usize) -> Result<(), NoMemory>
     text.put_number(length as u64)
 }
 
-/// Puts true or false.
+/// Appends `true` or `false`.
 fn put_boolean(text: &mut Text, boolean: bool) -> Result<(), NoMemory>
     ensures { OnOk result (text.new ≡ text.old ++ (if boolean then codes "true" else codes "false")) }
 {
@@ -53,7 +53,7 @@ fn put_boolean(text: &mut Text, boolean: bool) -> Result<(), NoMemory>
     }
 }
 
-/// Puts a value of a document.
+/// Appends what is shown of a value of a document.
 fn put_value(text: &mut Text, value: &Value) -> Result<(), NoMemory>
     ensures { OnOk result (text.new ≡ text.old ++ value_text (view value.now)) }
 {
@@ -68,7 +68,7 @@ fn put_value(text: &mut Text, value: &Value) -> Result<(), NoMemory>
     }
 }
 
-/// Puts the line of what stands at the place of a refusal, where something does.
+/// Appends the line of the value that a refusal is about, if there is one.
 pub(crate) fn put_found(text: &mut Text, table: &Table, refusal: Refusal) -> Result<(), NoMemory>
     ensures { OnOk result (text.new ≡ text.old ++ found_line (table_view table.now) refusal) }
 {

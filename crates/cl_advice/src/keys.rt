@@ -15,7 +15,7 @@ use crate::sites::{table_around, value_at, value_in};
 use cl_model::{Code, Key, Part, Place, Refusal};
 use toml::{Table, Value};
 
-/// The version of a document, 0 where none is there.
+/// Returns the version of a document, 0 where it has none.
 pub(crate) fn version_in(table: &Table) -> u64
     ensures { result ≡ version_in (table_view table.now) }
 {
@@ -25,7 +25,8 @@ pub(crate) fn version_in(table: &Table) -> u64
     }
 }
 
-/// The keys of a stimulus whose kind is a word.
+/// Returns the keys of a stimulus whose kind is this word: only `name` and `kind` where there is no
+/// such kind.
 fn kind_keys(version: u64, word: &str) -> &'static [Key]
     ensures { result.now ≡ key.Name ∷ key.Kind ∷ form_keys (meaning_of (stimulus_forms version) word.now) }
 {
@@ -44,7 +45,7 @@ fn kind_keys(version: u64, word: &str) -> &'static [Key]
     }
 }
 
-/// The keys of a stimulus.
+/// Returns the keys that a stimulus may have, by its kind.
 fn stimulus_keys(version: u64, table: &Table) -> &'static [Key]
     ensures { result.now ≡ part_keys version part.Stimulus (table_view table.now) }
 {
@@ -54,7 +55,7 @@ fn stimulus_keys(version: u64, table: &Table) -> &'static [Key]
     }
 }
 
-/// The keys of a task.
+/// Returns the keys that a task may have.
 pub(crate) fn task_keys() -> &'static [Key]
     ensures { result.now ≡ keys_of task_fields }
 {
@@ -69,7 +70,7 @@ pub(crate) fn task_keys() -> &'static [Key]
     ]
 }
 
-/// The keys of a runnable.
+/// Returns the keys that a runnable may have.
 pub(crate) fn runnable_keys() -> &'static [Key]
     ensures { result.now ≡ keys_of runnable_fields }
 {
@@ -83,7 +84,7 @@ pub(crate) fn runnable_keys() -> &'static [Key]
     ]
 }
 
-/// The keys of the top level.
+/// Returns the keys that the top level may have.
 fn top_keys() -> &'static [Key]
     ensures { result.now ≡ top_keys }
 {
@@ -99,7 +100,7 @@ fn top_keys() -> &'static [Key]
     ]
 }
 
-/// The keys that a table of a part may have.
+/// Returns the keys that a table of a part may have.
 fn part_keys(version: u64, part: Part, table: &Table) -> &'static [Key]
     ensures { result.now ≡ part_keys version part (table_view table.now) }
 {
@@ -113,7 +114,7 @@ fn part_keys(version: u64, part: Part, table: &Table) -> &'static [Key]
     }
 }
 
-/// The keys that the table around a place may have.
+/// Returns the keys that the table around a place may have.
 pub(crate) fn known_keys(version: u64, place: Place, table: &Table) -> &'static [Key]
     ensures { result.now ≡ known_keys version place (table_view table.now) }
 {
@@ -131,7 +132,7 @@ pub(crate) fn is_among(keys: &[Key], word: &str) -> bool
     keys.iter().any(|key| key.word() == word)
 }
 
-/// The first key of a table that is none of these, as the table has it.
+/// Finds the first key of a table that is none of these, as the table has it.
 fn other_word<'a>(keys: &[Key], table: &'a Table) -> Option<&'a String>
     ensures { option_copied result
         ≡ find (λ word. not (is_among keys.now (string_bytes word))) (words_in table.now) }
@@ -139,7 +140,7 @@ fn other_word<'a>(keys: &[Key], table: &'a Table) -> Option<&'a String>
     table.keys().find(|word| !is_among(keys, word.as_str()))
 }
 
-/// The first key of a table that is none of these.
+/// Finds the first key of a table that is none of these.
 fn unknown_among<'a>(keys: &[Key], table: &'a Table) -> Option<&'a str>
     ensures { option_map (λ word. word.now) result ≡ unknown_among keys.now (table_view table.now) }
 {
@@ -149,7 +150,7 @@ fn unknown_among<'a>(keys: &[Key], table: &'a Table) -> Option<&'a str>
     }
 }
 
-/// The first key of a table around a place that the reader doesn't know there.
+/// Finds the first key of `around`, the table around a place, that the reader doesn't know there.
 fn unknown_in<'a>(version: u64, place: Place, around: &'a Table) -> Option<&'a str>
     ensures { let ms = table_view around.now in
         option_map (λ word. word.now) result ≡ unknown_among (known_keys version place ms) ms }
@@ -157,7 +158,7 @@ fn unknown_in<'a>(version: u64, place: Place, around: &'a Table) -> Option<&'a s
     unknown_among(known_keys(version, place, around), around)
 }
 
-/// The first key of the table around a place that the reader doesn't know there.
+/// Finds the first key of the table around a place that the reader doesn't know there.
 pub(crate) fn unknown_key(table: &Table, place: Place) -> Option<&str>
     ensures { option_map (λ word. word.now) result ≡ unknown_key (table_view table.now) place }
 {
@@ -167,9 +168,10 @@ pub(crate) fn unknown_key(table: &Table, place: Place) -> Option<&str>
     }
 }
 
-/// What stands at that key.
+/// Finds the value at the first key of the table around a place that the reader doesn't know there.
 fn unknown_value(table: &Table, place: Place) -> Option<&Value>
-    ensures { option_map (λ value. view value.now) result ≡ unknown_value (table_view table.now) place }
+    ensures { option_map (λ value. view value.now) result
+        ≡ unknown_value (table_view table.now) place }
 {
     match table_around(table, place) {
         Some(around) => match unknown_in(version_in(table), place, around) {
@@ -180,7 +182,7 @@ fn unknown_value(table: &Table, place: Place) -> Option<&Value>
     }
 }
 
-/// The word of a key, where there is one.
+/// Returns the word of a key, if there is one.
 fn word_of(key: Option<Key>) -> Option<&'static str>
     ensures { option_map (λ word. word.now) result ≡ option_map key_text key }
 {
@@ -190,9 +192,10 @@ fn word_of(key: Option<Key>) -> Option<&'static str>
     }
 }
 
-/// The key that a refusal is about.
+/// Finds the key that a refusal is about: the unknown key for M4, and else the key of its place.
 pub(crate) fn refused_key(table: &Table, refusal: Refusal) -> Option<&str>
-    ensures { option_map (λ word. word.now) result ≡ refused_key (table_view table.now) refusal.place refusal.code }
+    ensures { option_map (λ word. word.now) result
+        ≡ refused_key (table_view table.now) refusal.place refusal.code }
 {
     match refusal.code {
         Code::M4 => unknown_key(table, refusal.place),
@@ -200,9 +203,11 @@ pub(crate) fn refused_key(table: &Table, refusal: Refusal) -> Option<&str>
     }
 }
 
-/// What stands at the place of a refusal.
+/// Finds the value that a refusal is about: that of the unknown key for M4, and else the value at
+/// its place.
 pub(crate) fn refused_value(table: &Table, refusal: Refusal) -> Option<&Value>
-    ensures { option_map (λ value. view value.now) result ≡ refused_value (table_view table.now) refusal.place refusal.code }
+    ensures { option_map (λ value. view value.now) result
+        ≡ refused_value (table_view table.now) refusal.place refusal.code }
 {
     match refusal.code {
         Code::M4 => unknown_value(table, refusal.place),

@@ -1,4 +1,4 @@
-//! What to mend in a model file that is refused: the lines that follow the refusal.
+//! Advice on a refused model file: the lines after the refusal, which say what to mend.
 #![tactic(auto)]
 
 mod advice;

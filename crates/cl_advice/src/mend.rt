@@ -14,7 +14,7 @@ use cl_text::Text;
 use cl_time::NoMemory;
 use toml::{Table, Value};
 
-/// What to write in the place of a key of a runnable.
+/// Says what to write instead of an unknown key of a runnable.
 fn runnable_key(word: &str) -> &'static [u8]
     ensures { result.now ≡ runnable_key_mend word.now }
 {
@@ -25,7 +25,7 @@ fn runnable_key(word: &str) -> &'static [u8]
     }
 }
 
-/// What to write in the place of a key of a task.
+/// Says what to write instead of an unknown key of a task.
 fn task_key(word: &str) -> &'static [u8]
     ensures { result.now ≡ task_key_mend word.now }
 {
@@ -36,7 +36,7 @@ fn task_key(word: &str) -> &'static [u8]
     }
 }
 
-/// What to write in the place of a key of the top level.
+/// Says what to write instead of an unknown key of the top level.
 fn top_key(word: &str) -> &'static [u8]
     ensures { result.now ≡ top_key_mend word.now }
 {
@@ -57,7 +57,7 @@ fn part_key(part: Part, word: &str) -> &'static [u8]
     }
 }
 
-/// What to write in the place of an unknown key.
+/// Says what to write instead of an unknown key in the table around a place.
 fn unknown(place: Place, word: &str) -> &'static [u8]
     ensures { result.now ≡ unknown_mend place word.now }
 {
@@ -68,7 +68,7 @@ fn unknown(place: Place, word: &str) -> &'static [u8]
     }
 }
 
-/// How the entries of a section are written.
+/// Says how the entries of a section are written.
 fn section(part: Part) -> &'static [u8]
     ensures { result.now ≡ section_mend part }
 {
@@ -83,7 +83,7 @@ fn section(part: Part) -> &'static [u8]
     }
 }
 
-/// How an array is written.
+/// Says how the array at a key is written, or that of a section where there is no key.
 fn array(part: Part, key: Option<Key>) -> &'static [u8]
     ensures { result.now ≡ array_mend part key }
 {
@@ -94,7 +94,7 @@ fn array(part: Part, key: Option<Key>) -> &'static [u8]
     }
 }
 
-/// How a kind of value is written.
+/// Says how a value of the wanted kind is written.
 fn kind(place: Place, want: Want) -> &'static [u8]
     ensures { result.now ≡ kind_mend place want }
 {
@@ -127,7 +127,7 @@ fn is_late_burst(table: &Table, place: Place) -> bool
     is_burst_word(value_in(table, place)) && version_in(table) == 1
 }
 
-/// What to write in the place of a word.
+/// Says what to write instead of a word that isn't known at a place.
 fn other_word(table: &Table, place: Place) -> &'static [u8]
     ensures { result.now ≡ word_mend (table_view table.now) place place.part }
 {
@@ -143,7 +143,8 @@ fn other_word(table: &Table, place: Place) -> &'static [u8]
     }
 }
 
-/// What to write, by a code that says it alone.
+/// Says what to write for a code that needs nothing else to say it: `None` for M4, M6 and M9, and
+/// for the codes of edits.
 fn code_words(code: Code) -> Option<&'static [u8]>
     ensures { option_map (λ words. words.now) result ≡ code_mend code }
 {
@@ -188,7 +189,7 @@ fn code_words(code: Code) -> Option<&'static [u8]>
     }
 }
 
-/// What to write in the place of an unknown key.
+/// Says what to write instead of the unknown key of the table around a place, if there is one.
 fn unknown_words(table: &Table, place: Place) -> Option<&'static [u8]>
     ensures { option_map (λ words. words.now) result ≡ mend_text (table_view table.now) place M4 }
 {
@@ -198,7 +199,7 @@ fn unknown_words(table: &Table, place: Place) -> Option<&'static [u8]>
     }
 }
 
-/// What to write, by the code of a refusal.
+/// Says what to write, by the code of a refusal.
 fn words(table: &Table, place: Place, code: Code) -> Option<&'static [u8]>
     ensures { option_map (λ words. words.now) result ≡ mend_text (table_view table.now) place code }
 {
@@ -210,9 +211,10 @@ fn words(table: &Table, place: Place, code: Code) -> Option<&'static [u8]>
     }
 }
 
-/// Puts the line of what to write, where there is one.
+/// Appends the line of what to write, if there is something.
 fn put_words(text: &mut Text, words: Option<&[u8]>) -> Result<(), NoMemory>
-    ensures { OnOk result (text.new ≡ text.old ++ mended_line (option_map (λ words. words.now) words.entry)) }
+    ensures { OnOk result
+        (text.new ≡ text.old ++ mended_line (option_map (λ words. words.now) words.entry)) }
 {
     match words {
         Some(words) => {
@@ -224,7 +226,7 @@ fn put_words(text: &mut Text, words: Option<&[u8]>) -> Result<(), NoMemory>
     }
 }
 
-/// Puts the line of what to write in the place of what is refused, where there is one.
+/// Appends the line of what to write instead of what is refused, if there is something.
 pub(crate) fn put_mend(text: &mut Text, table: &Table, refusal: Refusal) -> Result<(), NoMemory>
     ensures { OnOk result (text.new ≡ text.old ++ mend_line (table_view table.now) refusal) }
 {

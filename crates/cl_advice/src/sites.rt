@@ -1,4 +1,4 @@
-//! What stands at a place of a document.
+//! The values at places of a document.
 ghost use Rattle.std.specs.Prelude.{◌≡◌, option_map};
 ghost use Rattle.toml.specs.View.{view, table_view};
 ghost use Rattle.toml.specs.Data.{get_member, at, get, as_table};
@@ -9,9 +9,10 @@ ghost use Rattle.cl_advice.specs.Sites.{section_in, entry_in, runnables_around, 
 use cl_model::{Key, Part, Place};
 use toml::{Table, Value};
 
-/// The value at a word.
+/// Finds the value at the key that is this word.
 pub(crate) fn value_at<'a>(table: &'a Table, word: &str) -> Option<&'a Value>
-    ensures { option_map (λ value. view value.now) result ≡ get_member word.now (table_view table.now) }
+    ensures { option_map (λ value. view value.now) result
+        ≡ get_member word.now (table_view table.now) }
 {
     table.get(word)
 }
@@ -22,14 +23,14 @@ fn section_in(table: &Table, part: Part) -> Option<&Value>
     value_at(table, part.word())
 }
 
-/// The member of an array at a number.
+/// Finds the member of an array with this number.
 fn member_at(value: &Value, number: u32) -> Option<&Value>
     ensures { option_map (λ found. view found.now) result ≡ at number (view value.now) }
 {
     value.get(number as usize)
 }
 
-/// The entry of a section that a place lies in.
+/// Finds the entry of a section that contains a place.
 pub(crate) fn entry_in(table: &Table, place: Place) -> Option<&Value>
     ensures { option_map (λ value. view value.now) result ≡ entry_in (table_view table.now) place }
 {
@@ -42,9 +43,10 @@ pub(crate) fn entry_in(table: &Table, place: Place) -> Option<&Value>
     }
 }
 
-/// The runnables of the entry.
+/// Finds the runnables of the entry that contains a place.
 fn runnables_around(table: &Table, place: Place) -> Option<&Value>
-    ensures { option_map (λ value. view value.now) result ≡ runnables_around (table_view table.now) place }
+    ensures { option_map (λ value. view value.now) result
+        ≡ runnables_around (table_view table.now) place }
 {
     match entry_in(table, place) {
         Some(entry) => entry.get(Key::Runnable.word()),
@@ -52,9 +54,10 @@ fn runnables_around(table: &Table, place: Place) -> Option<&Value>
     }
 }
 
-/// The runnable of a task that a place lies in.
+/// Finds the runnable of a task that contains a place.
 pub(crate) fn runnable_around(table: &Table, place: Place) -> Option<&Value>
-    ensures { option_map (λ value. view value.now) result ≡ runnable_around (table_view table.now) place }
+    ensures { option_map (λ value. view value.now) result
+        ≡ runnable_around (table_view table.now) place }
 {
     match place.sub {
         Some(number) => match runnables_around(table, place) {
@@ -65,7 +68,7 @@ pub(crate) fn runnable_around(table: &Table, place: Place) -> Option<&Value>
     }
 }
 
-/// The table that a value is.
+/// Returns the table that a value is, if it is one.
 fn table_of(value: Option<&Value>) -> Option<&Table>
     ensures { option_map (λ table. table_view table.now) result
         ≡ option_and_then as_table (option_map (λ value. view value.now) value.entry) }
@@ -76,9 +79,10 @@ fn table_of(value: Option<&Value>) -> Option<&Table>
     }
 }
 
-/// The table that a place lies in: a runnable, an entry, or the whole document.
+/// Finds the table that contains a place: a runnable, an entry, or the whole document.
 pub(crate) fn table_around(table: &Table, place: Place) -> Option<&Table>
-    ensures { option_map (λ found. table_view found.now) result ≡ table_around (table_view table.now) place }
+    ensures { option_map (λ found. table_view found.now) result
+        ≡ table_around (table_view table.now) place }
 {
     if place.sub.is_some() {
         table_of(runnable_around(table, place))
@@ -89,9 +93,10 @@ pub(crate) fn table_around(table: &Table, place: Place) -> Option<&Table>
     }
 }
 
-/// What stands at a place without a key.
+/// Finds the value at a place without a key: a runnable, an entry or a section.
 fn value_around(table: &Table, place: Place) -> Option<&Value>
-    ensures { option_map (λ value. view value.now) result ≡ value_around (table_view table.now) place }
+    ensures { option_map (λ value. view value.now) result
+        ≡ value_around (table_view table.now) place }
 {
     if place.sub.is_some() {
         runnable_around(table, place)
@@ -102,9 +107,10 @@ fn value_around(table: &Table, place: Place) -> Option<&Value>
     }
 }
 
-/// What stands at a key of the table.
+/// Finds the value at a key of the table that contains a place.
 fn value_of_key(table: &Table, place: Place, key: Key) -> Option<&Value>
-    ensures { option_map (λ value. view value.now) result ≡ value_of_key (table_view table.now) place key }
+    ensures { option_map (λ value. view value.now) result
+        ≡ value_of_key (table_view table.now) place key }
 {
     match table_around(table, place) {
         Some(around) => value_at(around, key.word()),
@@ -112,7 +118,8 @@ fn value_of_key(table: &Table, place: Place, key: Key) -> Option<&Value>
     }
 }
 
-/// The member of an array, where one is asked for.
+/// Finds the member of an array with this number, or returns the value itself where there is no
+/// number.
 fn member_if(number: Option<u32>, value: Option<&Value>) -> Option<&Value>
     ensures { option_map (λ found. view found.now) result
         ≡ member_if number (option_map (λ value. view value.now) value.entry) }
@@ -126,7 +133,7 @@ fn member_if(number: Option<u32>, value: Option<&Value>) -> Option<&Value>
     }
 }
 
-/// What stands at a place.
+/// Finds the value at a place.
 pub(crate) fn value_in(table: &Table, place: Place) -> Option<&Value>
     ensures { option_map (λ value. view value.now) result ≡ value_in (table_view table.now) place }
 {

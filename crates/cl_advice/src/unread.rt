@@ -1,4 +1,4 @@
-//! The lines of bytes that are no document.
+//! The lines of bytes that aren't a document.
 ghost use Rattle.std.specs.Prelude.{◌≡◌, ◌≤◌, ◌++◌, length, OnOk};
 ghost use Rattle.cl_advice.specs.Advice.{at_line, message_line, unread_text, AddsUnread};
 
@@ -6,7 +6,8 @@ use crate::shown::put_shown;
 use cl_text::Text;
 use cl_time::NoMemory;
 
-/// The line and the column, both from 1, of the place behind some bytes. A column counts characters.
+/// Returns the line and the column, both counted from 1, of the position after some bytes. Columns
+/// count characters.
 fn position(before: &[u8]) -> (u64, u64) {
     let mut row = 1u64;
     let mut column = 1u64;
@@ -21,7 +22,7 @@ fn position(before: &[u8]) -> (u64, u64) {
     (row, column)
 }
 
-/// Puts the line of a place.
+/// Appends the line that gives a line and a column.
 fn put_at(text: &mut Text, row: u64, column: u64) -> Result<(), NoMemory>
     ensures { OnOk result (text.new ≡ text.old ++ at_line row column) }
 {
@@ -32,7 +33,7 @@ fn put_at(text: &mut Text, row: u64, column: u64) -> Result<(), NoMemory>
     text.put(b"\n")
 }
 
-/// Puts the line of a message.
+/// Appends the line of a message.
 fn put_message(text: &mut Text, message: &[u8]) -> Result<(), NoMemory>
     ensures { OnOk result (text.new ≡ text.old ++ message_line message.now) }
 {
@@ -41,7 +42,7 @@ fn put_message(text: &mut Text, message: &[u8]) -> Result<(), NoMemory>
     text.put(b"\n")
 }
 
-/// Puts what to write, at which line and column, and what is wrong there.
+/// Appends what to write, at which line and column, and what is wrong there.
 fn put_lines(text: &mut Text, row: u64, column: u64, message: &[u8]) -> Result<(), NoMemory>
     ensures { OnOk result (text.new ≡ text.old ++ unread_text row column message.now) }
 {
@@ -51,7 +52,7 @@ fn put_lines(text: &mut Text, row: u64, column: u64, message: &[u8]) -> Result<(
     Ok(())
 }
 
-/// Puts what is wrong at a place of the bytes.
+/// Appends the advice on bytes that aren't a document, where reading fails at byte `start`.
 pub(crate) fn put_unread(
     text: &mut Text,
     bytes: &[u8],

@@ -1,4 +1,4 @@
-//! What a place of a model file asks for.
+//! What the reader wants at a place of a model file.
 ghost use Rattle.std.specs.Prelude.{◌≡◌, Some, None};
 ghost use Rattle.cl_advice.specs.Wanted.{kind_want, key_want, section_want, keyless_want, want_at};
 
@@ -8,24 +8,24 @@ use cl_model::{
     MOST_RUNNABLES, MOST_STEPS, MOST_STIMULI, MOST_TASKS, MOST_TICKS, Part, Place,
 };
 
-/// What a place of a model file asks for.
+/// What the reader wants at a place of a model file.
 #[derive(Clone, Copy, Debug, PartialEq, Eq)]
 pub enum Want {
     /// A name.
     Name,
-    /// A whole number of a range.
+    /// A whole number from `low` to `high`.
     Number { low: u64, high: u64 },
     /// The word of the format.
     Format,
-    /// A kind of access.
+    /// The word of a kind of access.
     Access,
-    /// A kind of length.
+    /// The word of a kind of length.
     Length,
-    /// A kind of stimulus, of a version of the file.
+    /// The word of a kind of stimulus that files of this version have.
     Kind { version: u64 },
     /// True or false.
     Boolean,
-    /// An array, of at most so many entries.
+    /// An array of at most `limit` entries.
     Array { limit: usize },
     /// A table.
     Table,
@@ -59,7 +59,7 @@ impl Want {
         }
     }
 
-    /// What a key asks for, in a table of a part.
+    /// Returns what the reader wants at a key of a table of this part.
     fn of_key(version: u64, part: Part, key: Key) -> Want
         ensures { result ≡ key_want version part key }
     {
@@ -102,7 +102,7 @@ impl Want {
         }
     }
 
-    /// What a section asks for.
+    /// Returns what the reader wants at a section, or at the top level.
     fn of_section(part: Part) -> Want
         ensures { result ≡ section_want part }
     {
@@ -121,7 +121,7 @@ impl Want {
         }
     }
 
-    /// What a place without a key asks for.
+    /// Returns what the reader wants at a place without a key.
     fn keyless(place: Place) -> Want
         ensures { result ≡ keyless_want place }
     {
@@ -132,7 +132,7 @@ impl Want {
         }
     }
 
-    /// What a place asks for.
+    /// Returns what the reader wants at a place, in a file of this version.
     pub(crate) fn at(version: u64, place: Place) -> Want
         ensures { result ≡ want_at version place }
     {

@@ -14,7 +14,7 @@ use cl_text::Text;
 use cl_time::NoMemory;
 use toml::Table;
 
-/// Puts a range.
+/// Appends a range of whole numbers.
 fn put_range(text: &mut Text, low: u64, high: u64) -> Result<(), NoMemory>
     ensures { OnOk result (text.new ≡ text.old ++ range_text low high) }
 {
@@ -25,7 +25,7 @@ fn put_range(text: &mut Text, low: u64, high: u64) -> Result<(), NoMemory>
     Ok(())
 }
 
-/// The kinds of stimuli of a version.
+/// Returns the kinds of stimuli that files of this version have.
 fn kinds(version: u64) -> &'static [u8]
     ensures { result.now ≡ want_text (want.Kind version) }
 {
@@ -36,7 +36,7 @@ fn kinds(version: u64) -> &'static [u8]
     }
 }
 
-/// Puts a kind of value.
+/// Appends what is wanted.
 fn put_want(text: &mut Text, want: Want) -> Result<(), NoMemory>
     ensures { OnOk result (text.new ≡ text.old ++ want_text want) }
 {
@@ -53,7 +53,7 @@ fn put_want(text: &mut Text, want: Want) -> Result<(), NoMemory>
     }
 }
 
-/// Puts how many entries an array may have.
+/// Appends the most entries that an array may have.
 fn put_most(text: &mut Text, limit: usize) -> Result<(), NoMemory>
     ensures { OnOk result (text.new ≡ text.old ++ limit_text (want.Array limit)) }
 {
@@ -62,7 +62,7 @@ fn put_most(text: &mut Text, limit: usize) -> Result<(), NoMemory>
     text.put(b" entries")
 }
 
-/// Puts that an array may have fewer entries.
+/// Appends the most entries of an array that is wanted, or anything else that is.
 fn put_limit(text: &mut Text, want: Want) -> Result<(), NoMemory>
     ensures { OnOk result (text.new ≡ text.old ++ limit_text want) }
 {
@@ -72,7 +72,7 @@ fn put_limit(text: &mut Text, want: Want) -> Result<(), NoMemory>
     }
 }
 
-/// Puts a key behind others.
+/// Appends a comma and a key.
 fn put_other(text: &mut Text, key: Key) -> Result<(), NoMemory>
     ensures { OnOk result (text.new ≡ text.old ++ (codes ", " ++ key_text key)) }
 {
@@ -80,7 +80,7 @@ fn put_other(text: &mut Text, key: Key) -> Result<(), NoMemory>
     text.put(key.word().as_bytes())
 }
 
-/// Puts keys behind others.
+/// Appends a comma and a key for each of these keys.
 fn put_others(text: &mut Text, keys: &[Key]) -> Result<(), NoMemory>
     ensures { OnOk result (text.new ≡ text.old ++ flat_map (λ key. codes ", " ++ key_text key) keys.now) }
 {
@@ -90,16 +90,17 @@ fn put_others(text: &mut Text, keys: &[Key]) -> Result<(), NoMemory>
     Ok(())
 }
 
-/// Puts a key and others, with a comma between two.
+/// Appends a first key and others, with commas between them.
 fn put_joined(text: &mut Text, first: Key, others: &[Key]) -> Result<(), NoMemory>
-    ensures { OnOk result (text.new ≡ text.old ++ joined (key_text first ∷ map key_text others.now)) }
+    ensures { OnOk result
+        (text.new ≡ text.old ++ joined (key_text first ∷ map key_text others.now)) }
 {
     text.put(first.word().as_bytes())?;
     put_others(text, others)?;
     Ok(())
 }
 
-/// Puts keys with a comma between two.
+/// Appends keys, with commas between them.
 fn put_keys(text: &mut Text, keys: &[Key]) -> Result<(), NoMemory>
     ensures { OnOk result (text.new ≡ text.old ++ joined (map key_text keys.now)) }
 {
@@ -109,18 +110,20 @@ fn put_keys(text: &mut Text, keys: &[Key]) -> Result<(), NoMemory>
     }
 }
 
-/// Puts the line of the keys of a table.
+/// Appends the line of the keys that a table may have.
 fn put_keys_line(text: &mut Text, keys: &[Key]) -> Result<(), NoMemory>
-    ensures { OnOk result (text.new ≡ text.old ++ want_line (Some (one_of (map key_text keys.now)))) }
+    ensures { OnOk result
+        (text.new ≡ text.old ++ want_line (Some (one_of (map key_text keys.now)))) }
 {
     text.put(b"wanted one of ")?;
     put_keys(text, keys)?;
     text.put(b"\n")
 }
 
-/// Puts the line of the keys of the table around a place, where there is one.
+/// Appends the line of the keys that the table around a place may have, if there is such a table.
 fn put_known(text: &mut Text, table: &Table, place: Place) -> Result<(), NoMemory>
-    ensures { OnOk result (text.new ≡ text.old ++ wanted_line (table_view table.now) (record { code = M4; place = place })) }
+    ensures { OnOk result
+        (text.new ≡ text.old ++ wanted_line (table_view table.now) (record { code = M4; place = place })) }
 {
     match table_around(table, place) {
         Some(around) => put_keys_line(text, known_keys(version_in(table), place, around)),
@@ -128,7 +131,7 @@ fn put_known(text: &mut Text, table: &Table, place: Place) -> Result<(), NoMemor
     }
 }
 
-/// Puts the line of a kind of value.
+/// Appends the line of what is wanted.
 fn put_want_line(text: &mut Text, want: Want) -> Result<(), NoMemory>
     ensures { OnOk result (text.new ≡ text.old ++ want_line (Some (want_text want))) }
 {
@@ -137,7 +140,7 @@ fn put_want_line(text: &mut Text, want: Want) -> Result<(), NoMemory>
     text.put(b"\n")
 }
 
-/// Puts the line of fewer entries.
+/// Appends the line of the most entries of an array that is wanted.
 fn put_limit_line(text: &mut Text, want: Want) -> Result<(), NoMemory>
     ensures { OnOk result (text.new ≡ text.old ++ want_line (Some (limit_text want))) }
 {
@@ -146,7 +149,7 @@ fn put_limit_line(text: &mut Text, want: Want) -> Result<(), NoMemory>
     text.put(b"\n")
 }
 
-/// Puts the line of what is wanted, where something is.
+/// Appends the line of what is wanted where a file is refused, if there is something to say.
 pub(crate) fn put_wanted(text: &mut Text, table: &Table, refusal: Refusal) -> Result<(), NoMemory>
     ensures { OnOk result (text.new ≡ text.old ++ wanted_line (table_view table.now) refusal) }
 {

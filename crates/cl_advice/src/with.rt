@@ -1,4 +1,4 @@
-//! The lines of the other entries of a model that a refused one clashes with.
+//! The lines of the entries of a model with which a refused one clashes.
 ghost use Rattle.std.specs.Prelude.{◌≡◌, ◌<◌, ◌++◌, find, option_map, OnOk};
 ghost use Rattle.std.specs.Option.{option_and_then, option_copied};
 ghost use Rattle.cl_model.specs.Place.{part_text};
@@ -9,9 +9,10 @@ use cl_model::{Code, Key, List, Name, Part, Place, Refusal, RunnableDef, SystemM
 use cl_text::Text;
 use cl_time::NoMemory;
 
-/// Puts the line of one, where there is one.
+/// Appends the line of an entry of this section with this name, if there is a name.
 fn put_with(text: &mut Text, section: &[u8], name: Option<&Name>) -> Result<(), NoMemory>
-    ensures { OnOk result (text.new ≡ text.old ++ with_line section.now (option_copied name.entry)) }
+    ensures { OnOk result
+        (text.new ≡ text.old ++ with_line section.now (option_copied name.entry)) }
 {
     match name {
         Some(name) => {
@@ -25,7 +26,7 @@ fn put_with(text: &mut Text, section: &[u8], name: Option<&Name>) -> Result<(), 
     }
 }
 
-/// The item of a list at a number, where there are both.
+/// Returns the item of a list with this number, if there is a number and such an item.
 fn item_if<T>(items: &List<T>, number: Option<u32>) -> Option<&T>
     ensures { option_copied result ≡ item_if items.now number }
 {
@@ -36,7 +37,8 @@ fn item_if<T>(items: &List<T>, number: Option<u32>) -> Option<&T>
 }
 
 fn core_name(model: &SystemModel, place: Place) -> Option<&Name>
-    ensures { option_copied result ≡ option_map (λ core. core.name) (item_if model.now.cores place.item) }
+    ensures { option_copied result ≡ option_map
+        (λ core. core.name) (item_if model.now.cores place.item) }
 {
     match item_if(&model.cores, place.item) {
         Some(core) => Some(&core.name),
@@ -45,7 +47,8 @@ fn core_name(model: &SystemModel, place: Place) -> Option<&Name>
 }
 
 fn stimulus_name(model: &SystemModel, place: Place) -> Option<&Name>
-    ensures { option_copied result ≡ option_map (λ stimulus. stimulus.name) (item_if model.now.stimuli place.item) }
+    ensures { option_copied result ≡ option_map
+        (λ stimulus. stimulus.name) (item_if model.now.stimuli place.item) }
 {
     match item_if(&model.stimuli, place.item) {
         Some(stimulus) => Some(&stimulus.name),
@@ -54,7 +57,8 @@ fn stimulus_name(model: &SystemModel, place: Place) -> Option<&Name>
 }
 
 fn label_name(model: &SystemModel, place: Place) -> Option<&Name>
-    ensures { option_copied result ≡ option_map (λ label. label.name) (item_if model.now.labels place.item) }
+    ensures { option_copied result ≡ option_map
+        (λ label. label.name) (item_if model.now.labels place.item) }
 {
     match item_if(&model.labels, place.item) {
         Some(label) => Some(&label.name),
@@ -63,7 +67,8 @@ fn label_name(model: &SystemModel, place: Place) -> Option<&Name>
 }
 
 fn task_name(model: &SystemModel, place: Place) -> Option<&Name>
-    ensures { option_copied result ≡ option_map (λ task. task.name) (item_if model.now.tasks place.item) }
+    ensures { option_copied result ≡ option_map
+        (λ task. task.name) (item_if model.now.tasks place.item) }
 {
     match item_if(&model.tasks, place.item) {
         Some(task) => Some(&task.name),
@@ -72,7 +77,8 @@ fn task_name(model: &SystemModel, place: Place) -> Option<&Name>
 }
 
 fn chain_name(model: &SystemModel, place: Place) -> Option<&Name>
-    ensures { option_copied result ≡ option_map (λ chain. chain.name) (item_if model.now.chains place.item) }
+    ensures { option_copied result ≡ option_map
+        (λ chain. chain.name) (item_if model.now.chains place.item) }
 {
     match item_if(&model.chains, place.item) {
         Some(chain) => Some(&chain.name),
@@ -91,7 +97,8 @@ fn requirement_name(model: &SystemModel, place: Place) -> Option<&Name>
 }
 
 fn name_of(runnable: Option<&RunnableDef>) -> Option<&Name>
-    ensures { option_copied result ≡ option_map (λ runnable. runnable.name) (option_copied runnable.entry) }
+    ensures { option_copied result ≡ option_map
+        (λ runnable. runnable.name) (option_copied runnable.entry) }
 {
     match runnable {
         Some(runnable) => Some(&runnable.name),
@@ -99,7 +106,7 @@ fn name_of(runnable: Option<&RunnableDef>) -> Option<&Name>
     }
 }
 
-/// The runnable that a place lies in.
+/// Returns the runnable of a model that contains a place.
 fn runnable_of(model: &SystemModel, place: Place) -> Option<&RunnableDef>
     ensures { option_copied result ≡ runnable_of_place model.now place }
 {
@@ -109,7 +116,8 @@ fn runnable_of(model: &SystemModel, place: Place) -> Option<&RunnableDef>
     }
 }
 
-/// The labels that a runnable reads or writes, by a key.
+/// Returns the labels that a runnable reads where the key is `reads`, and else those that it
+/// writes.
 fn labels_under(key: Option<Key>, runnable: &RunnableDef) -> &List<Name>
     ensures { result.now ≡ labels_under key runnable.now }
 {
@@ -119,7 +127,7 @@ fn labels_under(key: Option<Key>, runnable: &RunnableDef) -> &List<Name>
     }
 }
 
-/// The label at a place.
+/// Returns the label of a model at a place.
 fn label_of(model: &SystemModel, place: Place) -> Option<&Name>
     ensures { option_copied result ≡ label_of_place model.now place }
 {
@@ -135,7 +143,7 @@ fn shares_priority(task: &TaskDef, other: &TaskDef) -> bool
     task.core == other.core && other.priority == task.priority
 }
 
-/// The first task of the same core and priority.
+/// Finds the first task of the same core and priority.
 fn rival_of<'a>(model: &'a SystemModel, task: &TaskDef) -> Option<&'a TaskDef>
     ensures { option_copied result ≡ rival_of model.now task.now }
 {
@@ -145,7 +153,7 @@ fn rival_of<'a>(model: &'a SystemModel, task: &TaskDef) -> Option<&'a TaskDef>
         .find(|other| shares_priority(task, other))
 }
 
-/// The name of the first task of the same core and priority as the one at a place.
+/// Finds the name of the first task with the core and the priority of the one at a place.
 fn rival_name(model: &SystemModel, place: Place) -> Option<&Name>
     ensures { option_copied result
         ≡ option_map (λ other. other.name) (option_and_then (rival_of model.now) (task_of_place model.now place)) }
@@ -165,14 +173,15 @@ fn writes(runnable: &RunnableDef, label: &Name) -> bool
     runnable.writes.iter().any(|written| label == written)
 }
 
-/// The first of the runnables that writes a label.
+/// Finds the first of the runnables that writes a label.
 fn writer_among<'a>(runnables: &'a [RunnableDef], label: &Name) -> Option<&'a RunnableDef>
-    ensures { option_copied result ≡ find (λ runnable. has_name label.now runnable.writes) runnables.now }
+    ensures { option_copied result ≡ find
+        (λ runnable. has_name label.now runnable.writes) runnables.now }
 {
     runnables.iter().find(|runnable| writes(runnable, label))
 }
 
-/// The first runnable of a model that writes a label.
+/// Finds the first runnable of a model that writes a label.
 fn writer_of<'a>(model: &'a SystemModel, label: &Name) -> Option<&'a RunnableDef>
     ensures { option_copied result ≡ writer_of model.now label.now }
 {
@@ -184,7 +193,7 @@ fn writer_of<'a>(model: &'a SystemModel, label: &Name) -> Option<&'a RunnableDef
     None
 }
 
-/// The name of the first runnable that writes the label at a place.
+/// Finds the name of the first runnable that writes the label at a place.
 fn writer_name(model: &SystemModel, place: Place) -> Option<&Name>
     ensures { option_copied result
         ≡ option_map (λ writer. writer.name) (option_and_then (writer_of model.now) (label_of_place model.now place)) }
@@ -198,7 +207,8 @@ fn writer_name(model: &SystemModel, place: Place) -> Option<&Name>
     }
 }
 
-/// The runnable of a chain at so many steps behind the spot of a place.
+/// Returns the name of a step of the chain at a place: the step whose number is the spot of the
+/// place plus `behind`.
 fn step_name(model: &SystemModel, place: Place, behind: usize) -> Option<&Name>
     requires { behind < 2 }
     ensures { option_copied result
@@ -213,7 +223,7 @@ fn step_name(model: &SystemModel, place: Place, behind: usize) -> Option<&Name>
     }
 }
 
-/// Puts the lines of the runnables of a hop.
+/// Appends the lines of the two runnables of the hop at a place.
 fn put_hop(text: &mut Text, model: &SystemModel, place: Place) -> Result<(), NoMemory>
     ensures { OnOk result (text.new ≡ text.old ++ handed_lines model.now place) }
 {
@@ -221,7 +231,7 @@ fn put_hop(text: &mut Text, model: &SystemModel, place: Place) -> Result<(), NoM
     put_with(text, b"runnable", step_name(model, place, 1))
 }
 
-/// Puts the lines of the entries of a model that the refused one clashes with.
+/// Appends the lines of the entries of a model with which the refused one clashes.
 fn put_lines_with(text: &mut Text, model: &SystemModel, refusal: Refusal) -> Result<(), NoMemory>
     ensures { OnOk result (text.new ≡ text.old ++ lines_with model.now refusal.place refusal.code) }
 {
@@ -242,7 +252,8 @@ fn put_lines_with(text: &mut Text, model: &SystemModel, refusal: Refusal) -> Res
     }
 }
 
-/// Puts the lines of what the refused entry clashes with, none where there is no model.
+/// Appends the lines of the entries with which the refused one clashes, none where there is no
+/// model.
 pub(crate) fn put_with_lines(
     text: &mut Text,
     model: Option<&SystemModel>,

@@ -11,10 +11,10 @@ use Rattle.cl_model.specs.declared.chain.ChainDef.{ChainDef}
 use Rattle.cl_model.specs.declared.group.Group.{Group}
 use Rattle.cl_model.specs.declared.group.Step.{Step}
 use Rattle.cl_model.specs.Groups.{is_inner, group_of_step, groups_from, groups, steps_of, groups_of}
+use Rattle.cl_runs.proofs.FirstFound.{none_passes, finds_none, finds_first}
 use Rattle.cl_bound.specs.declared.answer.TaskAnswer.{TaskAnswer}
 use Rattle.cl_bound.specs.Answers.{answer_at, is_late, NoneIsLate}
 use Rattle.cl_analyse.specs.ChainAnswers.{first_late}
-use Rattle.cl_resp.proofs.FirstFound.{none_passes, finds_none, finds_first}
 
 -- the first task along groups that is late, if there is one
 abbrev pub first_late_group : List TaskAnswer → List Group → Option ℕ

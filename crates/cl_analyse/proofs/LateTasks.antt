@@ -6,7 +6,7 @@ use Rattle.std.proofs.lemmas.List.{get_or-map}
 use Rattle.cl_runs.specs.TaskTiming.{System, timing_at, no_timing, IsSound}
 use Rattle.cl_resp.specs.declared.question.Question.{Question}
 use Rattle.cl_resp.specs.Question.{question_of}
-use Rattle.cl_resp.specs.Response.{busy_window, HasNoFixpoint}
+use Rattle.cl_resp.specs.Response.{busy_window, response_to, HasNoFixpoint}
 use Rattle.cl_resp.proofs.SettledTasks.{tasks_take_time}
 use Rattle.cl_resp.proofs.Windows.{no_window_no_fixpoint, no_fixpoint_no_window}
 use Rattle.cl_bound.specs.declared.answer.TaskAnswer.TheVariants as answer
@@ -25,6 +25,10 @@ module _ (jitter : ℕ) where
   no_window : (found : Option ℕ) → late_with found ≡ true → found ≡ None
   no_window None late = refl
   no_window (Some window) late = absurd (true≢false (sym late))
+
+-- a question without an answer has no fixpoint
+pub late_question : (question : Question) → is_late (answer_with (response_to question)) ≡ true → HasNoFixpoint question
+late_question question late = no_window_no_fixpoint question (no_window question.jitter (busy_window question) late)
 
 module _ (system : System) (i : ℕ) (within : i < length system.tasks) where
   -- the question of the task

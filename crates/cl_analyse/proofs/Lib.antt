@@ -7,3 +7,4 @@ pub mod KeptRequirements
 pub mod SafeFindings
 pub mod TimedChains
 pub mod SomeFindings
+pub mod InTime

@@ -21,9 +21,9 @@ use Rattle.cl_runs.proofs.ModelSystem.{count_is, system_sound}
 use Rattle.cl_runs.proofs.Extension.{some_legal}
 use Rattle.cl_runs.specs.Requirements.{required_chain, no_requirement, requirement_at, IsKept, IsBroken}
 use Rattle.cl_runs.specs.Responses.{AlwaysFinishesWithin}
+use Rattle.cl_runs.proofs.FirstFound.{first_found}
 use Rattle.cl_resp.specs.Response.{Response, IsSettled}
 use Rattle.cl_resp.proofs.BusyWindowTask.{settled_finish}
-use Rattle.cl_resp.proofs.FirstFound.{first_found}
 use Rattle.cl_bound.specs.declared.answer.TaskAnswer.{TaskAnswer}
 use Rattle.cl_bound.specs.declared.answer.TaskAnswer.TheVariants as answer
 use Rattle.cl_bound.specs.Answers.{answers_of, answer_at, is_late, response_in}
@@ -138,7 +138,7 @@ module _ (model : SystemModel) (valid : IsValid model) where
   -- ---- what the findings promise
 
   -- responses of settled tasks hold
-  responses_hold : (task : ℕ) (response : Response) → task < length model.tasks → answer_at (answers_of (system_of model)) task ≡ answer.Settled response
+  pub responses_hold : (task : ℕ) (response : Response) → task < length model.tasks → answer_at (answers_of (system_of model)) task ≡ answer.Settled response
       → AlwaysFinishesWithin (system_of model) task response.response
   responses_hold task response within is =
       let settled = settled_task (system_of model) task (task_of_system model task within) (ap is_late is) in
@@ -155,7 +155,7 @@ module _ (model : SystemModel) (valid : IsValid model) where
       (chain_settled chain none, own)
 
   -- bounds are safe
-  bounds_hold : (chain : ℕ) (bounds : Lengths) → chain < length model.chains → chain_answer_at (chain_answers_of model) chain ≡ Bounds bounds
+  pub bounds_hold : (chain : ℕ) (bounds : Lengths) → chain < length model.chains → chain_answer_at (chain_answers_of model) chain ≡ Bounds bounds
       → AreSafe (system_of model) (groups_at model chain) bounds
   bounds_hold chain bounds within is =
       let (settled, own) = bounds_given chain bounds within is in
@@ -318,6 +318,7 @@ module _ (model : SystemModel) (valid : IsValid model) where
     missing = λ chain task within is. missing_named chain task within (sym (ap (λ (answers : List ChainAnswer). chain_answer_at answers chain) found.chains) ∙ is);
     exact = λ chain within. exact_because chain within findings.exacts found.exacts;
     met = met_found findings found;
+    broken = broken_found findings found;
   }
 
   -- each exact length that is found is at most the bound that is found

@@ -5,7 +5,7 @@ use Rattle.cl_model.specs.ByNumber.{chain_at}
 use Rattle.cl_model.specs.Groups.{steps_of, step_at, groups_at}
 use Rattle.cl_runs.specs.TaskTiming.{timing_at}
 use Rattle.cl_runs.specs.SystemOf.{system_of}
-use Rattle.cl_runs.specs.Requirements.{requirement_at, IsKept}
+use Rattle.cl_runs.specs.Requirements.{requirement_at, IsKept, IsBroken}
 use Rattle.cl_runs.specs.Responses.{AlwaysFinishesWithin}
 use Rattle.cl_resp.specs.declared.question.Question.{Question}
 use Rattle.cl_resp.specs.Question.{question_of}
@@ -21,7 +21,7 @@ use Rattle.cl_exact.specs.RunPromises.{AreExactInRuns}
 use Rattle.cl_analyse.specs.declared.findings.ChainAnswer.TheVariants.{Bounds, Late}
 use Rattle.cl_analyse.specs.declared.findings.ExactAnswer.{ExactAnswer}
 use Rattle.cl_analyse.specs.declared.findings.ExactAnswer.TheVariants.{Exact, Past, NotTimed, ChainLate}
-use Rattle.cl_analyse.specs.declared.findings.Verdict.TheVariants.{Met}
+use Rattle.cl_analyse.specs.declared.findings.Verdict.TheVariants.{Met, Broken}
 use Rattle.cl_analyse.specs.declared.findings.Findings.{Findings}
 use Rattle.cl_analyse.specs.ChainAnswers.{chain_answer_at, exact_answer_at}
 use Rattle.cl_analyse.specs.Verdicts.{verdict_at}
@@ -65,7 +65,7 @@ pub record AreWithinBounds (lengths : Witnesses) (bounds : Lengths) : Type 0 whe
 -- The findings are safe. In every legal run of any length each job of a settled task finishes within its response, and
 -- each bound is at least the length of every complete chain of its kind. A bound is missing only where a task has no
 -- fixpoint within its deadline. Exact lengths are exact, and missing only for one of three reasons. What is found met
--- is kept.
+-- is kept, and what is found broken is broken in some legal run.
 pub record AreSafeFindings (model : SystemModel) (findings : Findings) : Type 0 where
   pub responses : (task : ℕ) (response : Response) → task < length model.tasks
       → answer_at findings.tasks task ≡ Settled response → AlwaysFinishesWithin (system_of model) task response.response
@@ -77,3 +77,5 @@ pub record AreSafeFindings (model : SystemModel) (findings : Findings) : Type 0 
       → IsExactBecause model chain (exact_answer_at findings.exacts chain)
   pub met : (i value : ℕ) → i < length model.requirements
       → verdict_at findings.verdicts i ≡ Met value → IsKept model (requirement_at model i)
+  pub broken : (i value : ℕ) → i < length model.requirements
+      → verdict_at findings.verdicts i ≡ Broken value → IsBroken model (requirement_at model i)

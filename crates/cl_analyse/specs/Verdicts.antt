@@ -1,5 +1,5 @@
 -- Requirements: the values that are found for them, and the verdicts.
-use Rattle.std.specs.Prelude.{ℕ, List, map, slice_index_or, Option, Some, None, nat_le, if◌then◌else◌}
+use Rattle.std.specs.Prelude.{ℕ, Bool, true, false, List, map, slice_index_or, Option, Some, None, nat_le, if◌then◌else◌}
 use Rattle.cl_model.specs.declared.model.SystemModel.{SystemModel}
 use Rattle.cl_model.specs.declared.chain.LengthKind.{LengthKind}
 use Rattle.cl_model.specs.declared.chain.LengthKind.TheVariants.{Reaction, Age, Reduced}
@@ -52,6 +52,12 @@ abbrev pub verdict_on : (most : ℕ) → (exact bound : Option ℕ) → Verdict
 verdict_on most (Some value) bound = if nat_le value most then Met value else Broken value
 verdict_on most None (Some value) = if nat_le value most then Met value else Unshown (Some value)
 verdict_on most None None = Unshown None
+
+-- whether a requirement is found met
+abbrev pub is_met : Verdict → Bool
+is_met (Met value) = true
+is_met (Broken value) = false
+is_met (Unshown value) = false
 
 -- the verdict on a requirement, by what was found of the chains
 unfoldable pub verdict_of :

@@ -20,16 +20,20 @@ use cl_time::{NoMemory, Steps};
 use std::alloc::Global;
 use std::sync::ledger::Ledger;
 
-/// What is found of a model: the response of each task, the bounds of each chain none of whose tasks is late, its exact
-/// lengths where its tasks are all periodic and timed, and the verdict on each requirement.
+/// Analyses a model: finds the response of each task, the bounds of each chain none of whose tasks
+/// is late, its exact lengths where its tasks are also all timed and periodic and its hyperperiod
+/// is within the limit, and the verdict on each requirement.
 ///
-/// In each legal run, of any length, each job of a task that is found settled finishes within its response of its
-/// arrival where the run lasts so long, and each bound and each exact length is at least the length of each complete
-/// chain of its kind. The witness of an exact length is such a chain, of that length, in each legal run that lasts to
-/// its end. A requirement that is found met is kept by each complete chain.
+/// In each legal run, of any length, each job of a settled task finishes at most the response after
+/// its arrival, if the run lasts until then, and each bound and each exact length is at least the
+/// length of each complete chain of its kind. The witness of an exact length is such a chain, of
+/// that length, in each legal run that lasts to its end or, for a reduced age, one period of its
+/// last task longer. A requirement that is found met is kept by each complete chain of its chain
+/// and kind.
 ///
-/// It counts a step for each task, for each chain that has bounds, and for each whose exact lengths are sought.
-/// `NoMemory` comes where there is no memory for the findings or for a question; it leaves nothing.
+/// It counts a step for each task, for each chain that has bounds, and for each whose exact lengths
+/// are sought. `NoMemory` comes where there is no memory for the findings, for a question or for
+/// the order in which tasks are asked; it leaves nothing.
 pub fn analyse<L: Ledger>(
     alloc: Global,
     model: &ValidModel,
@@ -51,7 +55,7 @@ pub fn analyse<L: Ledger>(
     })
 }
 
-/// The answers to the questions of all tasks.
+/// Answers the questions of all tasks.
 fn answer_plainly<L: Ledger>(
     alloc: Global,
     model: &ValidModel,
@@ -64,7 +68,7 @@ fn answer_plainly<L: Ledger>(
     answer_tasks(alloc, model, Block::WithOwn, steps)
 }
 
-/// The answers for all chains, from those for all tasks.
+/// Answers for all chains, from the answers for all tasks.
 fn answer_chains<L: Ledger>(
     alloc: Global,
     model: &ValidModel,
@@ -82,8 +86,9 @@ fn answer_chains<L: Ledger>(
     Ok(answers)
 }
 
-/// The answer for a chain, from those for all tasks: its bounds, which count a step, or the first of its tasks that is
-/// late, which counts none. It takes no memory.
+/// Answers for a chain, given by its number, from the answers for all tasks: finds its bounds,
+/// which counts a step, or the first of its tasks that is late, which counts none. It takes no
+/// memory.
 pub fn answer_chain<L: Ledger>(
     model: &ValidModel,
     chain: u32,
@@ -102,8 +107,9 @@ pub fn answer_chain<L: Ledger>(
     }
 }
 
-/// The first late task along the steps of a chain, by the answers for all tasks. There is none exactly where no task of
-/// the chain is late. It takes no memory.
+/// Finds the first late task along the steps of a chain, given by its number, by the answers for
+/// all tasks. It is `None` exactly where no task of the chain is late. A task without an answer
+/// counts as late. It takes no memory.
 pub fn first_late(model: &ValidModel, chain: u32, answers: &List<TaskAnswer>) -> Option<u32>
     requires { chain < length model.now.chains }
     ensures { result ≡ first_late answers.now (steps_of model.now (chain_at model.now chain)) }
@@ -117,7 +123,7 @@ pub fn first_late(model: &ValidModel, chain: u32, answers: &List<TaskAnswer>) ->
     None
 }
 
-/// Whether a task is late. One that has no answer counts as late.
+/// Checks whether a task is late. A task without an answer counts as late.
 fn task_is_late(answers: &List<TaskAnswer>, task: u32) -> bool
     ensures { result ≡ is_late (answer_at answers.now task) }
 {

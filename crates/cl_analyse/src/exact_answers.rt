@@ -10,7 +10,7 @@ use cl_time::{NoMemory, Steps};
 use std::alloc::Global;
 use std::sync::ledger::Ledger;
 
-/// The exact lengths of all chains, from the bounds of all chains.
+/// Finds the exact lengths of all chains, from the answers about the bounds of all chains.
 pub(crate) fn answer_exacts<L: Ledger>(
     alloc: Global,
     model: &ValidModel,
@@ -29,7 +29,9 @@ pub(crate) fn answer_exacts<L: Ledger>(
     Ok(answers)
 }
 
-/// The exact lengths of a chain, from what was found of its bounds. Seeking them counts a step; a chain that is late
+/// Finds the exact lengths of a chain, given by its number, or why there are none, from what was
+/// found of its bounds. Computing them counts a step, also where the hyperperiod turns out to
+/// exceed the limit. A chain that is late, or that has a task that isn't both timed and periodic,
 /// counts none. It takes no memory.
 pub fn answer_exact<L: Ledger>(
     model: &ValidModel,
@@ -48,7 +50,7 @@ pub fn answer_exact<L: Ledger>(
     }
 }
 
-/// The exact lengths of a chain none of whose tasks is late.
+/// Finds the exact lengths of a chain none of whose tasks is late.
 fn answer_timely<L: Ledger>(model: &ValidModel, chain: u32, steps: &mut Steps<L>) -> ExactAnswer
     requires { chain < length model.now.chains }
     ensures answer { IsTimelyAnswer model.now chain (is_timed_periodic_chain model.now chain) result }

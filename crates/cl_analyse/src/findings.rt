@@ -6,16 +6,17 @@ use cl_bound::{Bounds, TaskAnswer};
 use cl_exact::ExactLengths;
 use cl_model::{LengthKind, List};
 
-/// What is found of a chain.
+/// What is found of the bounds of a chain.
 #[derive(Clone, Copy, Debug, PartialEq, Eq)]
 pub enum ChainAnswer {
     Bounds(Bounds),
-    /// It has no bounds, since this task, the first such along its steps, is late.
+    /// It has no bounds: this task is late, the first such along its steps.
     Late { task: u32 },
 }
 
 impl ChainAnswer {
-    /// The bound on the lengths of a kind, in ticks. There is none exactly where a task of the chain is late.
+    /// Returns the bound on the lengths of a kind, in ticks. It is `None` exactly where a task of
+    /// the chain is late.
     pub fn value(&self, kind: LengthKind) -> Option<u64>
         ensures { result ≡ bound_value kind self.now }
     {
@@ -34,16 +35,18 @@ impl ChainAnswer {
 #[derive(Debug, PartialEq, Eq, Drop)]
 pub enum ExactAnswer {
     Exact(ExactLengths),
-    /// The periods of its tasks repeat together after more than this limit, in ticks, so no exact lengths were sought.
+    /// The hyperperiod of the chain exceeds this limit, in ticks, so no exact lengths were
+    /// computed. None of its tasks is late, and all are timed and periodic.
     Past { limit: u64 },
-    /// A task of the chain isn't both periodic and timed.
+    /// A task of the chain isn't both timed and periodic. None is late.
     NotTimed,
     /// A task of the chain is late.
     ChainLate,
 }
 
 impl ExactAnswer {
-    /// The exact length of a kind, in ticks. There is none exactly where exact lengths weren't found.
+    /// Returns the exact length of a kind, in ticks. It is `None` exactly where the chain has no
+    /// exact lengths here.
     pub fn value(&self, kind: LengthKind) -> Option<u64>
         ensures { result ≡ exact_value kind self.now }
     {
@@ -57,7 +60,7 @@ impl ExactAnswer {
         }
     }
 
-    /// An equal answer. It takes no memory.
+    /// Makes an equal copy. It takes no memory.
     pub fn copy(&self) -> ExactAnswer
         ensures { result ≡ self.now }
     {
@@ -70,26 +73,26 @@ impl ExactAnswer {
     }
 }
 
-/// Whether a requirement is kept. Values are in ticks.
+/// The verdict on a requirement. Values are in ticks.
 #[derive(Clone, Copy, Debug, PartialEq, Eq)]
 pub enum Verdict {
-    /// The value that was found is at most what is required.
+    /// The value, exact or a bound, is at most what is required.
     Met { value: u64 },
     /// The value exceeds what is required, and it is exact.
     Broken { value: u64 },
-    /// The value exceeds what is required, and it is a bound; or there is none.
+    /// The value exceeds what is required, but it is only a bound; or there is no value.
     Unshown { value: Option<u64> },
 }
 
 /// What is found of a model.
 #[derive(Debug, PartialEq, Eq, Drop)]
 pub struct Findings {
-    /// For each task, in file order.
+    /// The answer for each task, in file order.
     pub tasks: List<TaskAnswer>,
-    /// For each chain, in file order.
+    /// The bounds of each chain or its first late task, in file order.
     pub chains: List<ChainAnswer>,
-    /// For each chain, in file order.
+    /// The exact lengths of each chain or why there are none, in file order.
     pub exacts: List<ExactAnswer>,
-    /// For each requirement, in file order.
+    /// The verdict on each requirement, in file order.
     pub verdicts: List<Verdict>,
 }

@@ -8,8 +8,8 @@ use cl_model::{LengthKind, List, RequirementDef, ValidModel};
 use cl_time::NoMemory;
 use std::alloc::Global;
 
-/// The verdicts on all requirements, in file order, from what was found of all chains. `NoMemory` comes where there is
-/// no memory for them; it leaves nothing.
+/// Judges all requirements of the model, in file order, from what was found of all chains.
+/// `NoMemory` comes where there is no memory for the verdicts; it leaves nothing.
 pub fn judge_all(
     alloc: Global,
     model: &ValidModel,
@@ -25,7 +25,9 @@ pub fn judge_all(
     Ok(verdicts)
 }
 
-/// The verdict on a requirement, from what was found of all chains.
+/// Judges a requirement, from what was found of all chains: by the exact length of its chain and
+/// kind or, where there is none, by the bound. A requirement that names no chain of the model is
+/// judged by chain 0. It takes no memory.
 #[tactic(auto, unfolding(crate::specs::Verdicts::verdict_of))]
 pub fn judge(
     model: &ValidModel,
@@ -43,7 +45,7 @@ pub fn judge(
     )
 }
 
-/// The exact length of a kind that was found of a chain.
+/// Returns the exact length of a kind that was found of a chain.
 #[tactic(auto, using(std::proofs::lemmas::Option::gets))]
 fn exact_value(exacts: &List<ExactAnswer>, chain: u32, kind: LengthKind) -> Option<u64>
     ensures { result ≡ exact_value kind (exact_answer_at exacts.now chain) }
@@ -54,8 +56,9 @@ fn exact_value(exacts: &List<ExactAnswer>, chain: u32, kind: LengthKind) -> Opti
     }
 }
 
-/// The bound on the lengths of a kind that was found of a chain, in ticks, by the answers for all chains. There is none
-/// where a task of the chain is late, or where there is no chain of that number.
+/// Returns the bound on the lengths of a kind that was found of a chain, given by its number, in
+/// ticks, by the answers for all chains. It is `None` exactly where a task of the chain is late, or
+/// where there is no chain of that number.
 #[tactic(auto, using(std::proofs::lemmas::Option::gets))]
 pub fn bound_value(chains: &List<ChainAnswer>, chain: u32, kind: LengthKind) -> Option<u64>
     ensures { result ≡ bound_value kind (chain_answer_at chains.now chain) }
@@ -66,7 +69,8 @@ pub fn bound_value(chains: &List<ChainAnswer>, chain: u32, kind: LengthKind) -> 
     }
 }
 
-/// The verdict on a requirement of so many ticks at most, by the exact value and by the bound, where there are any.
+/// Judges a requirement of at most `most` ticks, by the exact value if there is one, and else by
+/// the bound. Without both nothing is shown.
 pub fn verdict_on(most: u64, exact: Option<u64>, bound: Option<u64>) -> Verdict
     ensures { result ≡ verdict_on most exact bound }
 {

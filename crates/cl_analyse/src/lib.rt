@@ -1,5 +1,5 @@
-//! The analysis of a model: the response of each task, the bounds and the exact lengths of each chain, and the verdict
-//! on each requirement.
+//! The analysis of a model: the response of each task, the bounds and the exact lengths of each
+//! chain, and the verdict on each requirement.
 #![tactic(auto)]
 
 mod analysing;

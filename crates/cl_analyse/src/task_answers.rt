@@ -16,8 +16,8 @@ use cl_time::{NoMemory, Steps};
 use std::alloc::Global;
 use std::sync::ledger::Ledger;
 
-/// The answer to the question of a task: its window and its response, in ticks, or that it is late. It counts one step
-/// and takes no memory.
+/// Answers the question of a task: finds its window and its response, in ticks, or that it is late.
+/// It counts one step and takes no memory.
 pub fn answer_question<L: Ledger>(question: &Question, steps: &mut Steps<L>) -> TaskAnswer
     requires { IsQuestionInRange question.now }
     ensures answer { result ≡ answer_with (response_to question.now) }
@@ -29,8 +29,10 @@ pub fn answer_question<L: Ledger>(question: &Question, steps: &mut Steps<L>) -> 
     }
 }
 
-/// The same for a question of a task of a model, found by `respond_below`: the tasks of a core are best asked from the
-/// top down.
+/// Answers a question of a task of a model by `respond_below`: the search begins where the last one
+/// came to, if that was for a task above this one with a block that isn't longer than
+/// `respond_below` allows. `last` then says how far this search came, so the tasks of a core are
+/// best asked from the top down. It counts one step and takes no memory.
 pub fn answer_below<L: Ledger>(
     model: &ValidModel,
     task: u32,
@@ -53,10 +55,10 @@ pub fn answer_below<L: Ledger>(
     }
 }
 
-/// The answers to a question of each task, in file order: to those whose blocks count a task's own runnables, or to the
-/// tight ones. The tasks of a core are asked from the top down, each from where the search for the one above it came
-/// to. It counts a step for each task. `NoMemory` comes where there is no memory for the answers or for a question; it
-/// leaves nothing.
+/// Answers a question of each task: the question whose block counts the task's own runnables too,
+/// or the tight one. The answers are in file order. The tasks of a core are asked from the top down
+/// by `answer_below`. It counts a step for each task. `NoMemory` comes where there is no memory for
+/// the answers, for a question or for the order in which tasks are asked; it leaves nothing.
 pub fn answer_tasks<L: Ledger>(
     alloc: Global,
     model: &ValidModel,
@@ -79,9 +81,10 @@ pub fn answer_tasks<L: Ledger>(
     Ok(answers)
 }
 
-/// That each task is late, until it is asked.
+/// One answer for each task, `Late` until it is computed.
 fn all_late(alloc: Global, model: &ValidModel) -> Result<List<TaskAnswer>, NoMemory>
-    ensures late { IfOk result (λ answers. answers ≡ replicate (length model.now.tasks) LateAnswer) }
+    ensures late { IfOk result
+        (λ answers. answers ≡ replicate (length model.now.tasks) LateAnswer) }
     ensures valid { IsValid model.now }
 {
     let mut answers = List::new(alloc);

@@ -1,4 +1,4 @@
-//! From the words of a question to the model that it is about.
+//! The way from the words of a question, by its model, to the call that answers it.
 ghost use Rattle.cl_model.specs.Ranges.{IsInRange};
 
 use crate::words::{refused, said, word};
@@ -12,10 +12,13 @@ use cl_valid::validate;
 use std::alloc::Global;
 use std::sync::ledger::Ledger;
 
-/// Answers `ask QUESTION MODEL`, with further words behind the name of the file, by lines.
+/// Answers `ask QUESTION MODEL` in lines. Further words of the question stand behind the name of
+/// the model's file.
 ///
-/// A question that there isn't, a file that isn't there, a refused model and a number of nothing are answered by a line
-/// that says so. `NoMemory` comes where there is no memory for a file, a model, an answer or what it takes to find it.
+/// A question that there isn't, a file that can't be fetched, a refused model or edit, a bad line
+/// of a trace or of a list of edits, an illegal run, and a word that spells no number or name that
+/// fits are answered by a line that says so. `NoMemory` comes where there is no memory for a file,
+/// a model, an answer or the work that finds it. Whatever comes, the shelf holds what it held.
 pub fn ask<S: Shelf, L: Ledger>(
     alloc: Global,
     words: &Words,
@@ -28,7 +31,7 @@ pub fn ask<S: Shelf, L: Ledger>(
     }
 }
 
-/// Why a file isn't there.
+/// Answers why a file couldn't be fetched.
 pub(crate) fn unfetched(alloc: Global, fault: FetchFault) -> Result<Text, NoMemory> {
     match fault {
         FetchFault::Failed => said(alloc, "no such file"),
@@ -37,7 +40,7 @@ pub(crate) fn unfetched(alloc: Global, fault: FetchFault) -> Result<Text, NoMemo
     }
 }
 
-/// The answer to a question on a text.
+/// Answers a question on the text of a model file.
 fn of_bytes<S: Shelf, L: Ledger>(
     alloc: Global,
     words: &Words,
@@ -52,7 +55,7 @@ fn of_bytes<S: Shelf, L: Ledger>(
     }
 }
 
-/// The answer to a question on the valid model of a text.
+/// Answers a question on the valid model of a text.
 fn of_text<S: Shelf, L: Ledger>(
     alloc: Global,
     words: &Words,
@@ -66,7 +69,7 @@ fn of_text<S: Shelf, L: Ledger>(
     }
 }
 
-/// The same, of a model that was read.
+/// Answers a question on a model that was read, where it is valid.
 fn of_model<S: Shelf, L: Ledger>(
     alloc: Global,
     words: &Words,
@@ -82,7 +85,7 @@ fn of_model<S: Shelf, L: Ledger>(
     }
 }
 
-/// The same, of a valid model.
+/// Answers a question on a valid model.
 fn of_valid<S: Shelf, L: Ledger>(
     alloc: Global,
     words: &Words,
@@ -104,7 +107,7 @@ fn of_valid<S: Shelf, L: Ledger>(
     }
 }
 
-/// The answer to a question on a valid model that counts no steps. A copy is asked.
+/// Answers a question on a valid model that counts no steps, by a copy of the model.
 fn of_model_alone(alloc: Global, words: &Words, model: &ValidModel) -> Result<Text, NoMemory> {
     match model.copy(alloc) {
         Ok(copy) => of_copy(alloc, words, &copy),
@@ -124,7 +127,8 @@ fn of_copy(alloc: Global, words: &Words, model: &ValidModel) -> Result<Text, NoM
     }
 }
 
-/// The answer to a question on a trace, too, whose file the word behind the model's names.
+/// Answers a question on a valid model and a trace, whose file is named by the word behind the
+/// model's.
 fn of_trace<S: Shelf>(
     alloc: Global,
     words: &Words,

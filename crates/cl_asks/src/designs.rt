@@ -1,4 +1,5 @@
-//! The best cuts, the best orders of the priorities, and how far execution times may grow.
+//! Questions on the best cuts, on the best orders of the priorities, and on how far execution times
+//! may grow.
 ghost use Rattle.std.specs.Prelude.{◌<◌, length};
 ghost use Rattle.cl_analyse.specs.Findings.{AreFindings};
 
@@ -13,7 +14,7 @@ use cl_tune::{OrderAnswer, headroom, order};
 use std::alloc::Global;
 use std::sync::ledger::Ledger;
 
-/// `cut MODEL CHAIN`: the best cut of a chain.
+/// Answers `cut MODEL CHAIN`: the best cut of a chain.
 pub(crate) fn cut<L: Ledger>(
     alloc: Global,
     words: &Words,
@@ -55,7 +56,7 @@ fn cut_by<L: Ledger>(
     Ok(text)
 }
 
-/// `cuts MODEL`: the best cuts of all chains.
+/// Answers `cuts MODEL`: the best cuts of all chains, in file order, a line each.
 pub(crate) fn cuts<L: Ledger>(
     alloc: Global,
     model: &ValidModel,
@@ -86,7 +87,7 @@ fn spelled(alloc: Global, cuts: &[CutAnswer]) -> Result<Text, NoMemory> {
     Ok(text)
 }
 
-/// Puts what a cut costs and the first group of each piece, or the task that is late, on a line.
+/// Puts the cost of a cut and the first group of each piece, or the task that is late, on a line.
 fn put_cut(text: &mut Text, cut: &CutAnswer) -> Result<(), NoMemory> {
     match cut {
         CutAnswer::Cut { bound, pieces } => put_pieces(text, *bound, pieces.as_slice()),
@@ -108,7 +109,8 @@ fn put_late(text: &mut Text, task: u32) -> Result<(), NoMemory> {
     text.put(b"\n")
 }
 
-/// `order MODEL`: the best priorities, in the order of the tasks, or the core that has none.
+/// Answers `order MODEL`: the best priorities, in the order of the tasks, or the core that has
+/// none.
 pub(crate) fn order_line<L: Ledger>(
     alloc: Global,
     model: &ValidModel,
@@ -132,7 +134,8 @@ fn put_priorities(text: &mut Text, priorities: &[u64]) -> Result<(), NoMemory> {
     put_numbers(text, priorities)
 }
 
-/// `headroom MODEL`: the greatest percentage of the execution times at which nothing is late.
+/// Answers `headroom MODEL`: the greatest percentage of the greatest execution times at which the
+/// model is in range, no task is late and each requirement is met, or `none`.
 pub(crate) fn headroom_line<L: Ledger>(
     alloc: Global,
     model: &ValidModel,

@@ -1,4 +1,4 @@
-//! The exact lengths of chains. Times are in ticks.
+//! Questions on the exact lengths of chains. Times are in ticks.
 ghost use Rattle.std.specs.Prelude.{◌≡◌, ◌<◌, length, true};
 ghost use Rattle.cl_exact.specs.TimedPeriodic.{is_timed_periodic_chain};
 
@@ -11,7 +11,8 @@ use cl_time::{NoMemory, Steps};
 use std::alloc::Global;
 use std::sync::ledger::Ledger;
 
-/// `exact MODEL CHAIN`: the exact reaction, the exact age and the exact reduced age of a chain, or why it has none.
+/// Answers `exact MODEL CHAIN`: the exact reaction, the exact age and the exact reduced age of a
+/// chain, a line each with its witness, or why it has none.
 pub(crate) fn exact_lines<L: Ledger>(
     alloc: Global,
     words: &Words,
@@ -41,7 +42,7 @@ fn of_chain<L: Ledger>(
     }
 }
 
-/// The lengths of a copy.
+/// Writes the exact lengths from a copy of them.
 fn spelled_by_copy(alloc: Global, lengths: &ExactLengths) -> Result<Text, NoMemory> {
     let copy = lengths.copy();
     spelled(alloc, &copy)
@@ -55,7 +56,7 @@ fn spelled(alloc: Global, lengths: &ExactLengths) -> Result<Text, NoMemory> {
     Ok(text)
 }
 
-/// Puts the length of a witness, its moments and its jobs, on a line.
+/// Puts the length of a witness, from when to when it lasts, and its jobs, on a line.
 fn put_witness(text: &mut Text, witness: &Witness) -> Result<(), NoMemory> {
     put_number(text, b"", witness.length)?;
     put_number(text, b" from ", witness.from)?;

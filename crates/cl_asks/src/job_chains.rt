@@ -1,4 +1,5 @@
-//! The job chains of a legal run, and when its jobs start and finish. Times are in ticks.
+//! Questions on the job chains of a legal run, and on when its jobs start and finish. Times are in
+//! ticks.
 ghost use Rattle.std.specs.Prelude.{◌<◌, length};
 ghost use Rattle.cl_runs.specs.SystemOf.{system_of};
 ghost use Rattle.cl_runs.specs.Legal.{IsLegal};
@@ -15,7 +16,7 @@ use cl_text::Text;
 use cl_time::NoMemory;
 use std::alloc::Global;
 
-/// The answer to a question on a legal run.
+/// Answers a question on a legal run.
 pub(crate) fn of_legal(
     alloc: Global,
     words: &Words,
@@ -31,7 +32,7 @@ pub(crate) fn of_legal(
     }
 }
 
-/// The answer to a question on the job chains of a chain of the model.
+/// Answers a question on the job chains of one chain of the model.
 fn of_some_chain(
     alloc: Global,
     words: &Words,
@@ -46,7 +47,8 @@ fn of_some_chain(
     }
 }
 
-/// `measure MODEL TRACE CHAIN`: what is measured. Every other question is on the job chain of one job.
+/// Answers `measure MODEL TRACE CHAIN`: what is measured of the chain. Every other question is on
+/// the job chain of one job.
 fn of_chain(
     alloc: Global,
     words: &Words,
@@ -79,8 +81,8 @@ fn of_some_job(
     }
 }
 
-/// `forward MODEL TRACE CHAIN JOB`: the forward chain of a first job. `backward MODEL TRACE CHAIN JOB`: the backward
-/// chain of a last job.
+/// Answers `forward MODEL TRACE CHAIN JOB`: the complete forward chain of a first job;
+/// or `backward MODEL TRACE CHAIN JOB`: the complete backward chain of a last job.
 fn of_job(
     alloc: Global,
     words: &Words,
@@ -104,7 +106,8 @@ fn one_chain(alloc: Global, chain: &Option<JobChain>) -> Result<Text, NoMemory> 
     Ok(text)
 }
 
-/// The longest chains, and how many complete ones there are in each direction.
+/// Writes the longest chain of each kind, a line each, and then how many complete forward and
+/// backward chains there are.
 fn measured(alloc: Global, measured: &Measured) -> Result<Text, NoMemory> {
     let mut text = Text::new(alloc);
     put_chain(&mut text, &measured.reaction)?;
@@ -116,7 +119,7 @@ fn measured(alloc: Global, measured: &Measured) -> Result<Text, NoMemory> {
     Ok(text)
 }
 
-/// Puts from where to where a chain lasts and its jobs, on a line.
+/// Puts the moments from which and to which a job chain lasts and its jobs, or `none`, on a line.
 fn put_chain(text: &mut Text, chain: &Option<JobChain>) -> Result<(), NoMemory> {
     let Some(chain) = chain else {
         return text.put(b"none\n");
@@ -128,7 +131,8 @@ fn put_chain(text: &mut Text, chain: &Option<JobChain>) -> Result<(), NoMemory> 
     text.put(b"\n")
 }
 
-/// `moments MODEL TRACE TASK`: when the first runnable of a task starts and finishes in each of its jobs.
+/// Answers `moments MODEL TRACE TASK`: when the first runnable of a task starts and finishes, a
+/// line for each of its jobs.
 fn of_task(
     alloc: Global,
     words: &Words,

@@ -1,4 +1,5 @@
-//! Questions on models, asked by words and answered by lines: what the cases of tests ask of single calls.
+//! Questions on models, asked by words and answered by lines, so that the cases of tests can ask
+//! single calls.
 #![tactic(auto)]
 
 mod asking;

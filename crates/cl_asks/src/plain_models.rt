@@ -10,7 +10,7 @@ use cl_valid::in_range;
 use cl_write::write_model;
 use std::alloc::Global;
 
-/// `read MODEL`: the model that a text means.
+/// Answers `read MODEL`: the model that a text means.
 pub(crate) fn read(alloc: Global, bytes: &[u8]) -> Result<Text, NoMemory> {
     match read_model(alloc, bytes) {
         Ok(model) => copied(alloc, &model),
@@ -18,7 +18,7 @@ pub(crate) fn read(alloc: Global, bytes: &[u8]) -> Result<Text, NoMemory> {
     }
 }
 
-/// A model, of which a copy is made.
+/// Writes a model by a copy of it.
 fn copied(alloc: Global, model: &SystemModel) -> Result<Text, NoMemory> {
     match model.copy(alloc) {
         Ok(copy) => printed(alloc, model, &copy),
@@ -26,7 +26,7 @@ fn copied(alloc: Global, model: &SystemModel) -> Result<Text, NoMemory> {
     }
 }
 
-/// A copy as it prints, which is equal to the model.
+/// Writes a copy of a model as it prints, or that it differs from the model.
 fn printed(alloc: Global, model: &SystemModel, copy: &SystemModel) -> Result<Text, NoMemory> {
     if copy != model {
         return said(alloc, "the copy differs");
@@ -34,7 +34,7 @@ fn printed(alloc: Global, model: &SystemModel, copy: &SystemModel) -> Result<Tex
     said(alloc, format!(in alloc; "{copy:?}")?.as_str())
 }
 
-/// `write MODEL`: the model of a text, written.
+/// Answers `write MODEL`: the text that is written of the model that a text means.
 pub(crate) fn written(alloc: Global, bytes: &[u8]) -> Result<Text, NoMemory> {
     match read_model(alloc, bytes) {
         Ok(model) => written_of(alloc, &model, bytes),
@@ -42,7 +42,7 @@ pub(crate) fn written(alloc: Global, bytes: &[u8]) -> Result<Text, NoMemory> {
     }
 }
 
-/// The text of a model, where it is in range.
+/// Writes the text of a model, or that the model isn't in range.
 fn written_of(alloc: Global, model: &SystemModel, bytes: &[u8]) -> Result<Text, NoMemory> {
     if !in_range(model) {
         return said(alloc, "out of range");
@@ -50,7 +50,7 @@ fn written_of(alloc: Global, model: &SystemModel, bytes: &[u8]) -> Result<Text, 
     compared(alloc, write_model(alloc, model)?, bytes)
 }
 
-/// A text that was written, or that it is the one that was read.
+/// Returns a text that was written, or a line that it equals the text that was read.
 pub(crate) fn compared(alloc: Global, text: Text, read: &[u8]) -> Result<Text, NoMemory> {
     if text.as_slice() == read {
         return said(alloc, "as it was read");

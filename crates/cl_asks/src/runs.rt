@@ -14,7 +14,7 @@ use cl_time::NoMemory;
 use cl_trace::{read_trace, write_trace};
 use std::alloc::Global;
 
-/// The answer to a question on a trace, or its first bad line.
+/// Answers a question on the run of a trace, or names the trace's first bad line.
 pub(crate) fn of_trace(
     alloc: Global,
     words: &Words,
@@ -27,7 +27,8 @@ pub(crate) fn of_trace(
     }
 }
 
-/// `trace MODEL TRACE`: the trace as it is written again. Every other question is on a legal run.
+/// Answers `trace MODEL TRACE`: the trace as it is written again. Every other question is on a
+/// legal run.
 fn of_run(
     alloc: Global,
     words: &Words,
@@ -43,7 +44,8 @@ fn of_run(
     }
 }
 
-/// `check MODEL TRACE`: that the run is legal, or the first rule that it breaks. An illegal run has no other answer.
+/// Answers `check MODEL TRACE`: that the run is legal, or the first rule that it breaks. That rule
+/// is also the answer to every other question on an illegal run.
 fn checked(
     alloc: Global,
     words: &Words,

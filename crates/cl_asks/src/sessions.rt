@@ -1,4 +1,4 @@
-//! Sessions over a model that is edited.
+//! Questions on sessions: a model with its findings while it is edited.
 ghost use Rattle.cl_edit.specs.Ranges.{IsEditInRange};
 
 use crate::asking::unfetched;
@@ -14,11 +14,16 @@ use cl_time::{NoMemory, Steps};
 use std::alloc::Global;
 use std::sync::ledger::Ledger;
 
-/// `session MODEL EDITS`: the report of a copy of a model as a session has edited it, or the first edit's refusal.
-/// `kept MODEL EDITS`: what came of each edit in such a session, and whether one that was refused, or for which there was
-/// no memory, has left the model and its report as they were; later edits are made all the same.
-/// `alike MODEL EDITS`: how many edits such a session has taken and refused, and of how many it says otherwise than a
-/// fresh analysis of the model that `apply_edit` makes.
+/// Answers a question on a session of a copy of the model, in which the edits of a list are made.
+///
+/// - `session MODEL EDITS`: the report after all edits, or the refusal of the first edit that is
+///   refused.
+/// - `kept MODEL EDITS`: for each edit, on a line, that it was taken; or that it was refused or
+///   found no memory, and whether that left the session's model and its report as they were. Later
+///   edits are made all the same.
+/// - `alike MODEL EDITS`: how many edits the session has taken and how many it has refused, and for
+///   how many its answer differs from that of a fresh analysis of the model that `apply_edit`
+///   makes.
 pub(crate) fn session_lines<S: Shelf, L: Ledger>(
     alloc: Global,
     words: &Words,
@@ -147,7 +152,7 @@ fn put_kept<L: Ledger>(
     }
 }
 
-/// Puts why an edit wasn't made, and whether the session is as it was.
+/// Puts why an edit wasn't made, and whether the session's model and its report are as they were.
 fn put_refused(
     alloc: Global,
     text: &mut Text,
@@ -170,7 +175,8 @@ fn put_refused(
     }
 }
 
-/// How many edits a session has taken and refused, and of how many it says otherwise than a fresh analysis.
+/// How many edits a session has taken and refused, and for how many its answer differs from that of
+/// a fresh analysis.
 #[derive(Clone, Copy)]
 struct Tally {
     taken: u64,
@@ -203,7 +209,7 @@ fn alike<L: Ledger>(
     Ok(text)
 }
 
-/// Makes an edit of a session, and of its model afresh, and counts what both come to.
+/// Makes an edit in a session, and afresh on the session's model, and counts what came of it.
 fn tallied<L: Ledger>(
     alloc: Global,
     session: &mut Session,
@@ -226,7 +232,7 @@ fn tallied<L: Ledger>(
     })
 }
 
-/// The report of a fresh analysis of the model that an edit makes, or its refusal.
+/// Writes the report of a fresh analysis of the model that an edit makes, or the edit's refusal.
 fn answer_afresh<L: Ledger>(
     alloc: Global,
     model: &ValidModel,

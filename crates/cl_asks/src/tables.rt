@@ -1,4 +1,4 @@
-//! Drawn job tables. Times are in ticks.
+//! Questions on drawn job tables. Times are in ticks.
 use crate::words::{no_such_number, number_at, put_number, put_numbers, said};
 use cl_gen::{DrawFault, MOST_RUN_TICKS, draw_table};
 use cl_io::Words;
@@ -8,7 +8,8 @@ use cl_text::Text;
 use cl_time::NoMemory;
 use std::alloc::Global;
 
-/// `table MODEL TICKS SEED`: the table that is drawn of so many ticks, with a line for the jobs of each task.
+/// Answers `table MODEL TICKS SEED`: the job table of so many ticks that the seed draws: a line
+/// with its ticks, and a line for the jobs of each task.
 pub(crate) fn table_lines(
     alloc: Global,
     words: &Words,
@@ -21,7 +22,7 @@ pub(crate) fn table_lines(
     }
 }
 
-/// `draw MODEL TICKS SEED`: whether such a table is drawn.
+/// Answers `draw MODEL TICKS SEED`: that such a table is drawn, or why there is none.
 pub(crate) fn draw_line(
     alloc: Global,
     words: &Words,
@@ -34,7 +35,8 @@ pub(crate) fn draw_line(
     }
 }
 
-/// The table of the ticks and the seed that the words name.
+/// Draws the table of the ticks and the seed that the words spell. `None` where a word spells no
+/// number, or where there are more than `MOST_RUN_TICKS` ticks.
 fn drawn(alloc: Global, words: &Words, model: &ValidModel) -> Result<Option<JobTable>, DrawFault> {
     match (number_at(words, 3), number_at(words, 4)) {
         (Some(ticks), Some(seed)) if ticks <= MOST_RUN_TICKS => {
@@ -44,7 +46,7 @@ fn drawn(alloc: Global, words: &Words, model: &ValidModel) -> Result<Option<JobT
     }
 }
 
-/// Why no table is drawn.
+/// Answers why no table is drawn.
 fn undrawn(alloc: Global, fault: DrawFault) -> Result<Text, NoMemory> {
     match fault {
         DrawFault::SimLimit { count } => {

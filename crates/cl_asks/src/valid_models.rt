@@ -1,4 +1,4 @@
-//! What a valid model answers of its tasks, cores and chains.
+//! Questions on the tasks, the cores and the chains of a valid model.
 ghost use Rattle.std.specs.Prelude.{◌<◌, length};
 
 use crate::words::{chain_at, no_such_number, put_number, said, task_at, word};
@@ -8,7 +8,8 @@ use cl_text::Text;
 use cl_time::NoMemory;
 use std::alloc::Global;
 
-/// `task MODEL TASK`: the core of a task, its stimulus, its deadline, its jitter, its time, and the tasks of its core.
+/// Answers `task MODEL TASK`: the core of a task, its stimulus, its deadline, its jitter, its time,
+/// and the tasks of its core.
 pub(crate) fn task_line(
     alloc: Global,
     words: &Words,
@@ -32,7 +33,7 @@ fn task_words(alloc: Global, model: &ValidModel, task: u32) -> Result<String, No
     Ok(format!(in alloc; "{core} {stimulus:?} {deadline} {jitter} {time} {tasks:?}")?)
 }
 
-/// `named MODEL NAME`: the numbers of the task and of the chain of a name.
+/// Answers `named MODEL NAME`: the numbers of the task and of the chain of a name.
 pub(crate) fn numbers_line(
     alloc: Global,
     words: &Words,
@@ -50,7 +51,8 @@ fn numbers_of(alloc: Global, model: &ValidModel, name: &Name) -> Result<String, 
     Ok(format!(in alloc; "{task:?} {chain:?}")?)
 }
 
-/// `group MODEL CHAIN`: how many groups a chain has, and each of them, asked one by one.
+/// Answers `group MODEL CHAIN`: how many groups a chain has, and each of them, asked for one by
+/// one.
 pub(crate) fn group_line(
     alloc: Global,
     words: &Words,
@@ -75,7 +77,7 @@ fn each_group(alloc: Global, model: &ValidModel, chain: u32) -> Result<Text, NoM
     Ok(text)
 }
 
-/// `groups MODEL CHAIN`: the same, of the groups as a slice.
+/// Answers `groups MODEL CHAIN`: the same as `group`, but by the slice of all groups.
 pub(crate) fn groups_line(
     alloc: Global,
     words: &Words,
@@ -97,7 +99,7 @@ fn all_groups(alloc: Global, groups: &[Group]) -> Result<Text, NoMemory> {
     Ok(text)
 }
 
-/// Puts the task of a group, and the places of its first and its last runnable.
+/// Puts the task of a group, and the indices of its first and its last runnable.
 fn put_group(text: &mut Text, group: Group) -> Result<(), NoMemory> {
     put_number(text, b", task ", u64::from(group.task))?;
     put_number(text, b" ", u64::from(group.first))?;

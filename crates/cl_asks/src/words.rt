@@ -1,4 +1,4 @@
-//! The words of a question, and the lines that many answers share.
+//! The words of a question, and the lines that several answers share.
 ghost use Rattle.std.specs.Prelude.{◌<◌, length, IfSome};
 
 use cl_io::Words;
@@ -7,17 +7,17 @@ use cl_text::{LinesFault, Text, read_decimal};
 use cl_time::NoMemory;
 use std::alloc::Global;
 
-/// The word at a place, which is empty past the last one.
+/// Returns the word at index `place`, empty past the last one.
 pub(crate) fn word(words: &Words, place: usize) -> &str {
     words.at(place).unwrap_or("")
 }
 
-/// The number that the word at a place spells.
+/// Reads the decimal number that the word at index `place` spells.
 pub(crate) fn number_at(words: &Words, place: usize) -> Option<u64> {
     read_decimal(word(words, place).as_bytes(), u64::MAX)
 }
 
-/// The number at a place, of one of so many things.
+/// Reads a number below `count` from the word at index `place`.
 pub(crate) fn number_below(words: &Words, place: usize, count: u32) -> Option<u32>
     ensures { IfSome result (λ number. number < count) }
 {
@@ -29,21 +29,21 @@ pub(crate) fn number_below(words: &Words, place: usize, count: u32) -> Option<u3
     }
 }
 
-/// The number of a chain at a place.
+/// Reads the number of a chain from the word at index `place`.
 pub(crate) fn chain_at(words: &Words, place: usize, model: &ValidModel) -> Option<u32>
     ensures { IfSome result (λ chain. chain < length model.now.chains) }
 {
     number_below(words, place, model.chains())
 }
 
-/// The number of a task at a place.
+/// Reads the number of a task from the word at index `place`.
 pub(crate) fn task_at(words: &Words, place: usize, model: &ValidModel) -> Option<u32>
     ensures { IfSome result (λ task. task < length model.now.tasks) }
 {
     number_below(words, place, model.tasks())
 }
 
-/// An answer of one line.
+/// Makes an answer of one line.
 pub(crate) fn said(alloc: Global, line: &str) -> Result<Text, NoMemory> {
     let mut text = Text::new(alloc);
     text.put(line.as_bytes())?;
@@ -51,12 +51,12 @@ pub(crate) fn said(alloc: Global, line: &str) -> Result<Text, NoMemory> {
     Ok(text)
 }
 
-/// What a question is answered whose words name no number that there is.
+/// Answers a question whose words spell no number that fits.
 pub(crate) fn no_such_number(alloc: Global) -> Result<Text, NoMemory> {
     said(alloc, "no such number")
 }
 
-/// Why a model is refused.
+/// Answers why a model or an edit is refused.
 pub(crate) fn refused(alloc: Global, fault: ModelFault) -> Result<Text, NoMemory> {
     match fault {
         ModelFault::Refused(refusal) => {
@@ -66,7 +66,7 @@ pub(crate) fn refused(alloc: Global, fault: ModelFault) -> Result<Text, NoMemory
     }
 }
 
-/// The first bad line of a text of edits or of a trace.
+/// Answers which line of a list of edits or of a trace is the first bad one.
 pub(crate) fn unread(alloc: Global, fault: LinesFault) -> Result<Text, NoMemory> {
     match fault {
         LinesFault::BadLine { line } => said(alloc, format!(in alloc; "bad line {line}")?.as_str()),

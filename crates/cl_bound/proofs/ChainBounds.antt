@@ -71,7 +71,7 @@ module _ (system : System) (sound : IsSound system) (responses : ℕ → ℕ) (f
       ≤ℤ (pos (arrival run (first ∷ groups) chain.jobs 0) +ℤ hops forward_hop (group_timing system responses first) (map (group_timing system responses) groups))
   forward_along chain complete = telescope forward_hop (group_timing system responses) first groups (arrival run (first ∷ groups) chain.jobs) (λ i h.
       forward_arrival system sound responses (group_at (first ∷ groups) i) (group_at (first ∷ groups) (suc i)) (timely i (omega arith)) (timely (suc i) h)
-      run legal (slice_index chain.jobs i) (slice_index chain.jobs (suc i)) (complete.not_first (suc i) h) (complete.linked i h) (complete.written (suc i) h))
+      run legal (slice_index chain.jobs i) (slice_index chain.jobs (suc i)) (complete.not_first (suc i) h) (complete.linked i h))
 
   backward_along : (jobs : List ℕ) → AreBackwardLinks (run_moments system run) (first ∷ groups) jobs
       → pos (arrival run (first ∷ groups) jobs (length groups))

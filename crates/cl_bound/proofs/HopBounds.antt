@@ -1,4 +1,4 @@
--- Hops bound the arrivals of neighbouring jobs of chains: by the delay, over the greatest distance of one of the groups.
+-- Hops bound the arrivals of neighbouring jobs of chains: by the lag, over the greatest distance of one of the groups.
 use Rattle.std.proofs.Common.{◌≡◌, ℕ, ℤ, pos, suc, ◌+◌, ◌-◌, ◌<◌, ◌≤◌, inl, inr, length, ap, subst, arith}
 use Rattle.std.specs.Prelude.{◌+ℤ◌, ◌-ℤ◌, ◌≤ℤ◌}
 use Rattle.std.proofs.lemmas.Bool.{cases_lt}
@@ -8,43 +8,43 @@ use Rattle.cl_runs.specs.TaskTiming.{System, IsSound}
 use Rattle.cl_runs.specs.Table.{job_at}
 use Rattle.cl_runs.specs.Run.{Run, jobs_of}
 use Rattle.cl_runs.specs.Legal.{IsLegal}
-use Rattle.cl_runs.specs.Chains.{HasWritten, IsEarliestReader, IsLatestWriter}
+use Rattle.cl_runs.specs.Chains.{IsEarliestReader, IsLatestWriter}
 use Rattle.cl_runs.specs.RunChains.{run_moments}
 use Rattle.cl_runs.proofs.RunArrivals.{next_within}
 use Rattle.cl_runs.proofs.MomentFacts.{reads_below}
 use Rattle.cl_runs.proofs.Agreement.{arrival_kept, reads_kept, write_returns}
 use Rattle.cl_runs.specs.Responses.{IsTimely}
-use Rattle.cl_bound.specs.Hops.{group_timing, delay, forward_hop, backward_hop}
+use Rattle.cl_bound.specs.Hops.{group_timing, lag, forward_hop, backward_hop}
 use Rattle.cl_bound.proofs.LaterRuns.{NextWrite, next_write}
-use Rattle.cl_bound.proofs.DelayBounds.{arrival_within_delay, forward_delay}
+use Rattle.cl_bound.proofs.LagBounds.{arrival_within_lag, forward_lag}
 
--- a job arrives at most a distance after the one before it, so at most a hop after what a delay bounds that by
-one_later : (a b before distance : ℕ) (delay : ℤ) → (pos before +ℤ pos 1) ≤ℤ (pos b +ℤ delay) → a ≤ before + distance
-    → pos a ≤ℤ (pos b +ℤ ((pos distance -ℤ pos 1) +ℤ delay))
-one_later a b before distance delay bounded soon = omega (arith, ints, bounded, soon)
+-- a job arrives at most a distance after the one before it, so at most a hop after what a lag bounds that by
+one_later : (a b before distance : ℕ) (lag : ℤ) → (pos before +ℤ pos 1) ≤ℤ (pos b +ℤ lag) → a ≤ before + distance
+    → pos a ≤ℤ (pos b +ℤ ((pos distance -ℤ pos 1) +ℤ lag))
+one_later a b before distance lag bounded soon = omega (arith, ints, bounded, soon)
 
 -- a job arrives at least a distance before the one after it
-one_earlier : (a a_longer b b_longer next distance : ℕ) (delay : ℤ) → a ≡ a_longer → b ≡ b_longer
-    → (pos a_longer +ℤ pos 1) ≤ℤ (pos next +ℤ delay) → next ≤ b_longer + distance
-    → pos a ≤ℤ (pos b +ℤ ((pos distance -ℤ pos 1) +ℤ delay))
-one_earlier a a_longer b b_longer next distance delay same_a same_b bounded soon = omega (arith, ints, same_a, same_b, bounded, soon)
+one_earlier : (a a_longer b b_longer next distance : ℕ) (lag : ℤ) → a ≡ a_longer → b ≡ b_longer
+    → (pos a_longer +ℤ pos 1) ≤ℤ (pos next +ℤ lag) → next ≤ b_longer + distance
+    → pos a ≤ℤ (pos b +ℤ ((pos distance -ℤ pos 1) +ℤ lag))
+one_earlier a a_longer b b_longer next distance lag same_a same_b bounded soon = omega (arith, ints, same_a, same_b, bounded, soon)
 
 module _ (system : System) (sound : IsSound system) (responses : ℕ → ℕ) (x y : Group)
     (timely_x : IsTimely system x.task (responses x.task)) (timely_y : IsTimely system y.task (responses y.task))
     (run : Run) (legal : IsLegal system run) (m k : ℕ) where
   -- forward, from the reader's job before
-  pub forward_arrival : 1 ≤ k → IsEarliestReader (run_moments system run) x y m k → HasWritten (run_moments system run) y k
+  pub forward_arrival : 1 ≤ k → IsEarliestReader (run_moments system run) x y m k
       → pos (job_at (jobs_of run y.task) k).arrival
       ≤ℤ (pos (job_at (jobs_of run x.task) m).arrival +ℤ forward_hop (group_timing system responses x) (group_timing system responses y))
   unfolding run_moments group_timing
-  forward_arrival some reader written =
+  forward_arrival some reader =
       let next : k ≡ suc (k - 1) = omega (arith, some) in
       let soon : (job_at (jobs_of run y.task) k).arrival ≤ (job_at (jobs_of run y.task) (k - 1)).arrival + (group_timing system responses y).distance = omega (
         arith,
         ap (λ (n : ℕ). (job_at (jobs_of run y.task) n).arrival) next,
         next_within system sound run legal y.task timely_y.is_task (k - 1) (subst (λ (n : ℕ). n < length (jobs_of run y.task)) next reader.reads.in_table),
       ) in
-      one_later _ _ _ _ _ (forward_delay system sound responses x y timely_x timely_y run legal m k some reader written) soon
+      one_later _ _ _ _ _ (forward_lag system sound responses x y timely_x timely_y run legal m k some reader) soon
 
   -- backward, to the writer's next job, which writes after the read
   next_after : (n : NextWrite system run x.task m x.last) → (writer : IsLatestWriter (run_moments system run) x y m k) → writer.read < n.write
@@ -69,6 +69,6 @@ module _ (system : System) (sound : IsSound system) (responses : ℕ → ℕ) (x
       one_earlier _ _ _ _ _ _ _
       (arrival_kept system run n.longer n.goes_on y.task k writer.reads.in_table)
       (arrival_kept system run n.longer n.goes_on x.task m writer.writes.in_table)
-      (arrival_within_delay system sound responses x y timely_x timely_y n.longer n.legal (suc m) k writer.read n.write
+      (arrival_within_lag system sound responses x y timely_x timely_y n.longer n.legal (suc m) k writer.read n.write
       (reads_kept system run n.longer n.goes_on y.task k y.first writer.read writer.reads) n.writes (next_after n writer))
       (next_within system sound n.longer n.legal x.task timely_x.is_task m n.in_table)

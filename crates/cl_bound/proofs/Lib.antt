@@ -3,8 +3,8 @@ pub mod GroupWindows
 pub mod HigherFinished
 pub mod LaterRuns
 pub mod ReadsBeforeWrites
-pub mod DelayTable
-pub mod DelayBounds
+pub mod LagTable
+pub mod LagBounds
 pub mod HopBounds
 pub mod AlongChains
 pub mod ChainBounds

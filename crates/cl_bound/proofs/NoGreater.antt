@@ -9,7 +9,7 @@ use Rattle.cl_comm.specs.Windows.{spot_at}
 use Rattle.cl_comm.proofs.Responses.{reads_stay, ends_rise}
 use Rattle.cl_bound.specs.declared.group_timing.GroupTiming.{GroupTiming}
 use Rattle.cl_bound.specs.Bounds.{last_of, greatest_reaction, greatest_reduced, greatest_age, Lengths, AreBoundsOf}
-use Rattle.cl_bound.specs.Hops.{group_timing, saves, delay, hop, forward_hop, backward_hop, hops}
+use Rattle.cl_bound.specs.Hops.{group_timing, saves, lag, hop, forward_hop, backward_hop, hops}
 use Rattle.cl_bound.specs.NoGreater.{WritesNoLater, AreNoGreater}
 
 -- a group of a task whose response is no greater writes no later
@@ -31,15 +31,15 @@ writes_no_later system responses others group le =
 
 -- ---- hops
 
--- a delay by what it depends on
-delay_by : (same saved : Bool) (jitter write read : ℕ) → ℤ
-delay_by same saved jitter write read = cond same (pos 1) (cond saved (pos jitter -ℤ pos read) (pos write -ℤ pos read))
+-- a lag by what it depends on
+lag_by : (same saved : Bool) (jitter write read : ℕ) → ℤ
+lag_by same saved jitter write read = cond same (pos 1) (cond saved (pos jitter -ℤ pos read) (pos write -ℤ pos read))
 
-delay_rises : (same saved : Bool) (jitter less more read : ℕ) → less ≤ more → delay_by same saved jitter less read ≤ℤ delay_by same saved jitter more read
-unfolding delay_by
-delay_rises true saved jitter less more read le = omega (arith, ints)
-delay_rises false true jitter less more read le = omega (arith, ints)
-delay_rises false false jitter less more read le = omega (arith, ints, le)
+lag_rises : (same saved : Bool) (jitter less more read : ℕ) → less ≤ more → lag_by same saved jitter less read ≤ℤ lag_by same saved jitter more read
+unfolding lag_by
+lag_rises true saved jitter less more read le = omega (arith, ints)
+lag_rises false true jitter less more read le = omega (arith, ints)
+lag_rises false false jitter less more read le = omega (arith, ints, le)
 
 saves_same : (writer reader a b : GroupTiming) → WritesNoLater writer a → WritesNoLater reader b → saves writer reader ≡ saves a b
 saves_same writer reader a b w r =
@@ -51,18 +51,18 @@ saves_same writer reader a b w r =
     let other_timed = r.is_timed in
     cc
 
--- where the writer and the reader of a hop write no later, its delay is no greater, and neither is the hop
-pub delay_no_greater : (writer reader a b : GroupTiming) → WritesNoLater writer a → WritesNoLater reader b → delay writer reader ≤ℤ delay a b
-unfolding delay_by
-delay_no_greater writer reader a b w r =
+-- where the writer and the reader of a hop write no later, its lag is no greater, and neither is the hop
+pub lag_no_greater : (writer reader a b : GroupTiming) → WritesNoLater writer a → WritesNoLater reader b → lag writer reader ≤ℤ lag a b
+unfolding lag_by
+lag_no_greater writer reader a b w r =
     let task : (writer.task == reader.task) ≡ (a.task == b.task) =
     ap (λ n. n == reader.task) w.task ∙ ap (λ n. a.task == n) r.task in
-    subst (λ z. z ≤ℤ delay a b)
-    (ap (λ same. delay_by same (saves a b) a.jitter writer.write b.read) (sym task)
-    ∙ ap (λ saved. delay_by (writer.task == reader.task) saved a.jitter writer.write b.read) (sym (saves_same writer reader a b w r))
-    ∙ ap (λ n. delay_by (writer.task == reader.task) (saves writer reader) n writer.write b.read) (sym w.jitter)
-    ∙ ap (λ n. delay_by (writer.task == reader.task) (saves writer reader) writer.jitter writer.write n) (sym r.read))
-    (delay_rises (a.task == b.task) (saves a b) a.jitter writer.write a.write b.read w.write)
+    subst (λ z. z ≤ℤ lag a b)
+    (ap (λ same. lag_by same (saves a b) a.jitter writer.write b.read) (sym task)
+    ∙ ap (λ saved. lag_by (writer.task == reader.task) saved a.jitter writer.write b.read) (sym (saves_same writer reader a b w r))
+    ∙ ap (λ n. lag_by (writer.task == reader.task) (saves writer reader) n writer.write b.read) (sym w.jitter)
+    ∙ ap (λ n. lag_by (writer.task == reader.task) (saves writer reader) writer.jitter writer.write n) (sym r.read))
+    (lag_rises (a.task == b.task) (saves a b) a.jitter writer.write a.write b.read w.write)
 
 over_distance : (distance : ℕ) (less more : ℤ) → less ≤ℤ more → ((pos distance -ℤ pos 1) +ℤ less) ≤ℤ ((pos distance -ℤ pos 1) +ℤ more)
 over_distance distance less more le = omega (arith, ints, le)
@@ -70,7 +70,7 @@ over_distance distance less more le = omega (arith, ints, le)
 hop_no_greater : (distance : ℕ) (writer reader a b : GroupTiming) → WritesNoLater writer a → WritesNoLater reader b
     → hop distance writer reader ≤ℤ hop distance a b
 hop_no_greater distance writer reader a b w r =
-    over_distance distance (delay writer reader) (delay a b) (delay_no_greater writer reader a b w r)
+    over_distance distance (lag writer reader) (lag a b) (lag_no_greater writer reader a b w r)
 
 forward_no_greater : (writer reader a b : GroupTiming) → WritesNoLater writer a → WritesNoLater reader b
     → forward_hop writer reader ≤ℤ forward_hop a b

@@ -7,7 +7,7 @@ use Rattle.cl_runs.specs.TaskTiming.{System}
 use Rattle.cl_bound.specs.declared.group_timing.GroupTiming.{GroupTiming}
 use Rattle.cl_bound.specs.Hops.{forward_hop, backward_hop, hops}
 use Rattle.cl_bound.specs.Bounds.{last_of, greatest_reaction, greatest_age, settled_timings, bounds_of}
-use Rattle.cl_bound.proofs.DelayTable.{hop_shifts}
+use Rattle.cl_bound.proofs.LagTable.{hop_shifts}
 
 -- forward hops take the distances of all groups but the first, backward hops those of all but the last
 distances_once : (first : GroupTiming) (groups : List GroupTiming)

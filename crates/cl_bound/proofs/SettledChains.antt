@@ -9,7 +9,7 @@ use Rattle.cl_runs.specs.TaskTiming.{System, IsSound}
 use Rattle.cl_runs.specs.Table.{job_at}
 use Rattle.cl_runs.specs.Run.{Run, jobs_of}
 use Rattle.cl_runs.specs.Legal.{IsLegal}
-use Rattle.cl_runs.specs.Chains.{HasWritten, IsEarliestReader, IsLatestWriter}
+use Rattle.cl_runs.specs.Chains.{IsEarliestReader, IsLatestWriter}
 use Rattle.cl_runs.specs.RunChains.{run_moments}
 use Rattle.cl_resp.specs.Response.{IsSettled}
 use Rattle.cl_resp.proofs.BusyWindowTask.{settled_timely}
@@ -74,7 +74,7 @@ module _ (system : System) (sound : IsSound system) (x y : Group) (chain : IsSet
   timely = chain_timely system sound (x ∷ y ∷ []) chain
 
   -- the hops between two groups of a settled chain
-  pub settled_forward : 1 ≤ k → IsEarliestReader (run_moments system run) x y m k → HasWritten (run_moments system run) y k
+  pub settled_forward : 1 ≤ k → IsEarliestReader (run_moments system run) x y m k
       → pos (job_at (jobs_of run y.task) k).arrival
       ≤ℤ (pos (job_at (jobs_of run x.task) m).arrival +ℤ forward_hop (settled_timing system x) (settled_timing system y))
   settled_forward = forward_arrival system sound (response_at system) x y (timely 0 (omega arith)) (timely 1 (omega arith)) run legal m k

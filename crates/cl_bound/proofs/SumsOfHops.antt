@@ -8,7 +8,7 @@ use Rattle.cl_bound.specs.Hops.{hop, forward_hop, backward_hop, hops}
 use Rattle.cl_bound.specs.declared.group_timing.GroupTiming.{GroupTiming}
 use Rattle.cl_bound.specs.Bounds.{last_of, greatest_reaction, greatest_age, greatest_reduced}
 use Rattle.cl_bound.proofs.GroupWindows.{IsProper}
-use Rattle.cl_bound.proofs.DelayTable.{delay_lines}
+use Rattle.cl_bound.proofs.LagTable.{lag_lines}
 
 -- what holds of all groups of a chain holds of the last
 last_holds : (P : GroupTiming → Type 0) (first : GroupTiming) (groups : List GroupTiming) → P first → All P groups → P (last_of first groups)
@@ -19,7 +19,7 @@ last_holds P first (next ∷ groups) holds all = last_holds P next groups (All-h
 forward_step : (writer reader : GroupTiming) → IsProper reader → pos 0 ≤ℤ forward_hop writer reader
 forward_step writer reader proper =
     let next : reader.read < reader.distance = proper.read_before_next in
-    delay_lines (λ z. pos 0 ≤ℤ ((pos reader.distance -ℤ pos 1) +ℤ z)) writer reader
+    lag_lines (λ z. pos 0 ≤ℤ ((pos reader.distance -ℤ pos 1) +ℤ z)) writer reader
     (λ same. omega (arith, ints))
     (λ saved. omega (arith, ints, next))
     (λ other. omega (arith, ints, next))
@@ -37,7 +37,7 @@ forward_sum first (next ∷ groups) all = omega (
 backward_step : (writer reader : GroupTiming) → IsProper writer → pos (suc writer.read) ≤ℤ (backward_hop writer reader +ℤ pos (suc reader.read))
 backward_step writer reader proper =
     let next : writer.read < writer.distance = proper.read_before_next in
-    delay_lines (λ z. pos (suc writer.read) ≤ℤ (((pos writer.distance -ℤ pos 1) +ℤ z) +ℤ pos (suc reader.read))) writer reader
+    lag_lines (λ z. pos (suc writer.read) ≤ℤ (((pos writer.distance -ℤ pos 1) +ℤ z) +ℤ pos (suc reader.read))) writer reader
     (λ same. omega (arith, ints, next))
     (λ saved. omega (arith, ints, next))
     (λ other. omega (arith, ints, next))
@@ -116,7 +116,7 @@ module _ (most : ℕ) where
       let far : writer.distance ≤ most = bounded.distance in
       let jitter : writer.jitter < writer.distance = bounded.proper.jitter_before_next in
       let write : writer.write ≤ writer.distance = bounded.proper.write_by_next in
-      delay_lines (λ z. ((pos distance -ℤ pos 1) +ℤ z) ≤ℤ pos (2 * most)) writer reader
+      lag_lines (λ z. ((pos distance -ℤ pos 1) +ℤ z) ≤ℤ pos (2 * most)) writer reader
       (λ same. omega (arith, ints, near))
       (λ saved. omega (arith, ints, near, far, jitter))
       (λ other. omega (arith, ints, near, far, write))
@@ -126,7 +126,7 @@ module _ (most : ℕ) where
   hop_back distance writer reader some bounded =
       let next : reader.read < reader.distance = bounded.proper.read_before_next in
       let near : reader.distance ≤ most = bounded.distance in
-      delay_lines (λ z. pos 0 ≤ℤ (((pos distance -ℤ pos 1) +ℤ z) +ℤ pos most)) writer reader
+      lag_lines (λ z. pos 0 ≤ℤ (((pos distance -ℤ pos 1) +ℤ z) +ℤ pos most)) writer reader
       (λ same. omega (arith, ints))
       (λ saved. omega (arith, ints, some, next, near))
       (λ other. omega (arith, ints, some, next, near))

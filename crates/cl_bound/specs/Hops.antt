@@ -1,5 +1,5 @@
 -- Hops: how much later the job of a group arrives than that of the group before it.
-use Rattle.std.specs.Prelude.{ℕ, ◌≤◌, ℤ, pos, ◌+ℤ◌, ◌-ℤ◌, ◌≤ℤ◌, Bool, ◌==◌, ◌&&◌, not, nat_lt, if◌then◌else◌, List, [], ◌∷◌}
+use Rattle.std.specs.Prelude.{ℕ, ◌≤◌, ℤ, pos, ◌+ℤ◌, ◌-ℤ◌, Bool, ◌==◌, ◌&&◌, not, nat_lt, if◌then◌else◌, List, [], ◌∷◌}
 use Rattle.cl_model.specs.declared.limits.TheConstants.{MOST_TICKS}
 use Rattle.cl_model.specs.declared.group.Group.{Group}
 use Rattle.cl_model.specs.Timing.{greatest_distance, greatest_jitter}
@@ -37,21 +37,17 @@ abbrev pub saves : (writer reader : GroupTiming) → Bool
 saves writer reader =
     (writer.core == reader.core) && (nat_lt reader.priority writer.priority && (not writer.is_timed && not reader.is_timed))
 
--- a signed number that is so great or so small at most
-abbrev pub IsIntegerWithin : (most : ℕ) → ℤ → Type 0
-IsIntegerWithin most z = (pos 0 ≤ℤ (z +ℤ pos most)) × (z ≤ℤ pos most)
-
--- the delay of a hop: a job of the reader that reads before a job of the writer writes arrives less than this after it.
+-- the lag of a hop: a job of the reader that reads before a job of the writer writes arrives less than this after it.
 -- Where both are of one task, where the hop saves, and everywhere else
-abbrev pub delay : (writer reader : GroupTiming) → ℤ
-delay writer reader =
+abbrev pub lag : (writer reader : GroupTiming) → ℤ
+lag writer reader =
     if writer.task == reader.task then pos 1
     else if saves writer reader then pos writer.jitter -ℤ pos reader.read
     else pos writer.write -ℤ pos reader.read
 
 -- a hop from a writer to a reader, over the distance between arrivals of the one that the direction says
 abbrev pub hop : (distance : ℕ) → (writer reader : GroupTiming) → ℤ
-hop distance writer reader = (pos distance -ℤ pos 1) +ℤ delay writer reader
+hop distance writer reader = (pos distance -ℤ pos 1) +ℤ lag writer reader
 
 -- forward, the reader's job is at most one job past the one that read before the write
 abbrev pub forward_hop : (writer reader : GroupTiming) → ℤ

@@ -12,7 +12,7 @@ pub enum TaskAnswer {
 }
 
 impl TaskAnswer {
-    /// Whether the task is late.
+    /// Checks whether the task is late.
     pub fn is_late(&self) -> bool
         ensures { result ≡ is_late self.now }
     {
@@ -22,7 +22,7 @@ impl TaskAnswer {
         }
     }
 
-    /// The response of a task in ticks, and 0 where it is late and has none.
+    /// Returns the response of a settled task in ticks, and 0 for a late task, which has none.
     pub(crate) fn response(&self) -> u64
         ensures { result ≡ response_in self.now }
     {

@@ -4,10 +4,10 @@ ghost use Rattle.cl_model.specs.declared.limits.TheConstants.{MOST_STEPS};
 ghost use Rattle.cl_model.specs.Groups.{groups_at, IsGroupOf};
 ghost use Rattle.cl_model.specs.Validity.{IsValid};
 ghost use Rattle.cl_runs.specs.SystemOf.{system_of};
+ghost use Rattle.cl_stim.specs.Integers.{IsIntegerWithin};
 ghost use Rattle.cl_bound.specs.Answers.{answers_of, answer_at, is_late, NoneIsLate};
 ghost use Rattle.cl_bound.specs.Bounds.{AreBoundsOf, settled_timing, settled_timings, bounds_of};
 ghost use Rattle.cl_bound.specs.Promises.{AreSafe};
-ghost use Rattle.cl_bound.specs.Hops.{IsIntegerWithin};
 ghost use Rattle.cl_bound.specs.Inner.Sums.{sums_of};
 
 use crate::answer::TaskAnswer;
@@ -18,7 +18,8 @@ use cl_model::{Group, List, MOST_STEPS, ValidModel};
 use cl_time::Steps;
 use std::sync::ledger::Ledger;
 
-/// What the bounds know of a group of a valid model whose tasks have these answers, where the group's task isn't late.
+/// Puts together what the bounds know of a group of a valid model, from the answers for all its
+/// tasks. The group's task isn't late.
 pub fn timing_of(model: &ValidModel, group: Group, settled: &List<TaskAnswer>) -> GroupTiming
     requires group { IsGroupOf model.now group }
     requires answers { settled.now ≡ answers_of (system_of model.now) }
@@ -30,7 +31,7 @@ pub fn timing_of(model: &ValidModel, group: Group, settled: &List<TaskAnswer>) -
     GroupTiming::of(model, group, response)
 }
 
-/// The sums of the hops from a first group along the groups after it.
+/// Sums the hops from a first group along the groups after it.
 fn sums_along(
     model: &ValidModel,
     first: GroupTiming,
@@ -53,12 +54,12 @@ fn sums_along(
     sums
 }
 
-/// The bounds of groups of a valid model that follow each other, a chain of it or a part of one, from the answer for
-/// each of its tasks, where none of the groups' tasks is late. They are the sums over signed numbers that define them,
-/// and at least the reaction, the age and the reduced age of each complete chain of these groups in each legal run, of
-/// any length.
+/// Finds the bounds of groups of a valid model that follow each other, a chain of it or a part of
+/// one, from the answer for each task of the model. None of the groups' tasks is late. The bounds
+/// are the sums over signed numbers that define them, and at least the reaction, the age and the
+/// reduced age of each complete chain of these groups in each legal run, of any length.
 ///
-/// It counts one step, takes no memory, and is total. It looks at each group once.
+/// It counts one step, takes no memory, and never fails. It looks at each group once.
 pub fn bound_of_groups<L: Ledger>(
     model: &ValidModel,
     groups: &[Group],
@@ -80,10 +81,11 @@ pub fn bound_of_groups<L: Ledger>(
     sums_along(model, first, &groups[1..], settled).bounds(&first)
 }
 
-/// The bounds on the reactions of the front parts of groups of a valid model that follow each other, the shortest part
-/// first: those that `bound_of_groups` finds, each from the sums of the one before it. Past the last group stands 0.
+/// Finds the bounds on the reactions of the front parts of groups of a valid model that follow each
+/// other, the shortest part first: those that `bound_of_groups` finds, each from the sums of the
+/// part before it. None of the groups' tasks is late. The numbers past the last group are 0.
 ///
-/// It counts one step, takes no memory, and is total. It looks at each group once.
+/// It counts one step, takes no memory, and never fails. It looks at each group once.
 pub fn reaction_bounds<L: Ledger>(
     model: &ValidModel,
     groups: &[Group],
@@ -111,7 +113,8 @@ pub fn reaction_bounds<L: Ledger>(
     reactions
 }
 
-/// The bounds of a chain of a valid model, given by its number: `bound_of_groups` of its groups.
+/// Finds the bounds of a chain of a valid model, given by its number: `bound_of_groups` of its
+/// groups. It counts one step and takes no memory.
 pub fn bound<L: Ledger>(
     model: &ValidModel,
     chain: u32,

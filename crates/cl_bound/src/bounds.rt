@@ -4,7 +4,8 @@ ghost use Rattle.cl_bound.specs.Inner.Sums.{IsBound};
 
 use std::marker::Model;
 
-/// The greatest lengths that complete job chains of a chain, or of a part of one, can have.
+/// Bounds on the reaction, the age and the reduced age of the complete job chains of a chain, or of
+/// a part of one, in ticks.
 #[derive(Clone, Copy, Debug, PartialEq, Eq)]
 pub struct Bounds {
     reaction: u64,
@@ -22,7 +23,7 @@ impl Model for Bounds {
     ghost inverse = { λ b. record { reaction = b.reaction; age = b.age; reduced = b.reduced } };
 }
 
-/// A sum as ticks.
+/// Turns a sum into ticks.
 fn ticks(sum: i128) -> u64
     requires { IsBound sum }
     ensures { pos result ≡ sum }
@@ -31,7 +32,8 @@ fn ticks(sum: i128) -> u64
 }
 
 impl Bounds {
-    /// The bounds of these numbers. That no length exceeds them is for the caller to prove.
+    /// Makes bounds of these numbers, in ticks. That no length exceeds them is for the caller to
+    /// prove.
     pub fn new(reaction: u64, age: u64, reduced: u64) -> Bounds
         ensures { result ≡ record { reaction = reaction; age = age; reduced = reduced } }
     {
@@ -42,7 +44,7 @@ impl Bounds {
         }
     }
 
-    /// The bounds that are these sums.
+    /// Makes bounds of these sums.
     pub(crate) fn of_sums(reaction: i128, age: i128, reduced: i128) -> Bounds
         requires reaction { IsBound reaction }
         requires age { IsBound age }
@@ -54,21 +56,21 @@ impl Bounds {
         Bounds::new(ticks(reaction), ticks(age), ticks(reduced))
     }
 
-    /// At least the reaction of each complete forward chain.
+    /// Returns the bound on the reaction: at least that of each complete forward chain.
     pub fn reaction(&self) -> u64
         ensures { result ≡ self.now.reaction }
     {
         self.reaction
     }
 
-    /// At least the age of each complete backward chain.
+    /// Returns the bound on the age: at least that of each complete backward chain.
     pub fn age(&self) -> u64
         ensures { result ≡ self.now.age }
     {
         self.age
     }
 
-    /// At least the reduced age of each complete backward chain.
+    /// Returns the bound on the reduced age: at least that of each complete backward chain.
     pub fn reduced(&self) -> u64
         ensures { result ≡ self.now.reduced }
     {

@@ -1,4 +1,4 @@
-//! What the bounds know of a group, and delays and hops between groups. Times are in ticks.
+//! What the bounds know of a group, and lags and hops between groups. Times are in ticks.
 ghost use Rattle.std.specs.Prelude.{◌≡◌, ℕ, ◌^◌, ◌<◌, ◌≤◌, length};
 ghost use Rattle.cl_model.specs.declared.limits.TheConstants.{MOST_TICKS};
 ghost use Rattle.cl_model.specs.Groups.{IsGroupOf};
@@ -7,15 +7,16 @@ ghost use Rattle.cl_model.specs.Validity.{IsValid};
 ghost use Rattle.cl_model.specs.Kinds.{is_timed};
 ghost use Rattle.cl_runs.specs.SystemOf.{system_of};
 ghost use Rattle.cl_runs.specs.TaskTiming.{timing_at};
+ghost use Rattle.cl_stim.specs.Integers.{IsIntegerWithin};
 ghost use Rattle.cl_comm.specs.Windows.{window_at};
 ghost use Rattle.cl_resp.specs.Question.{greatest_execution};
-ghost use Rattle.cl_bound.specs.Hops.{group_timing, IsNear, saves, delay, hop, forward_hop, backward_hop, IsIntegerWithin};
+ghost use Rattle.cl_bound.specs.Hops.{group_timing, IsNear, saves, lag, hop, forward_hop, backward_hop};
 
 use cl_comm::{Access, AnyAccess, Window, spot_of};
 use cl_model::{Group, ValidModel};
 use cl_stim::{AnyStimulus, Arrivals};
 
-/// What the bounds know of a group.
+/// What the bounds know of a group. Times are in ticks.
 #[derive(Clone, Copy)]
 pub struct GroupTiming {
     pub(crate) task: u32,
@@ -25,19 +26,20 @@ pub struct GroupTiming {
     pub(crate) is_timed: bool,
     /// How long after its arrival a job is released at most.
     pub(crate) jitter: u64,
-    /// The greatest distance between two arrivals.
+    /// The greatest distance between two consecutive arrivals.
     pub(crate) distance: u64,
-    /// When it reads at the earliest, from the arrival of its job.
+    /// The earliest moment of its read, from the arrival of its job.
     pub(crate) read: u64,
-    /// When it writes at the latest, from the arrival of its job.
+    /// The latest moment of its write, from the arrival of its job.
     pub(crate) write: u64,
 }
 
-/// The window of a runnable of a task with this response.
+/// Computes the window of a runnable of a task with this response.
 fn access_window(model: &ValidModel, task: u32, place: u32, response: u64) -> Window
     requires is_task { task < length model.now.tasks }
     requires is_runnable { place < length (task_at model.now task).runnables }
-    requires holds_execution { greatest_execution (timing_at (system_of model.now) task) ≤ response }
+    requires holds_execution { greatest_execution (timing_at (system_of model.now) task)
+        ≤ response }
     requires by_deadline { response ≤ (timing_at (system_of model.now) task).deadline }
     ensures { result ≡ window_at (timing_at (system_of model.now) task) place response }
 {
@@ -46,12 +48,15 @@ fn access_window(model: &ValidModel, task: u32, place: u32, response: u64) -> Wi
 }
 
 impl GroupTiming {
-    /// What the bounds know of a group of a valid model, where the jobs of its task always finish within this response.
+    /// Puts together what the bounds know of a group of a valid model, if each job of its task
+    /// finishes at most `response` ticks after its arrival.
     pub fn of(model: &ValidModel, group: Group, response: u64) -> GroupTiming
         requires group { IsGroupOf model.now group }
-        requires holds_execution { greatest_execution (timing_at (system_of model.now) group.task) ≤ response }
+        requires holds_execution { greatest_execution (timing_at (system_of model.now) group.task)
+            ≤ response }
         requires by_deadline { response ≤ (timing_at (system_of model.now) group.task).deadline }
-        ensures timing { result ≡ group_timing (system_of model.now) (λ (task : ℕ). response) group }
+        ensures timing { result ≡ group_timing (system_of model.now)
+            (λ (task : ℕ). response) group }
         ensures near { IsNear result }
         ensures valid { IsValid model.now }
     {
@@ -69,14 +74,16 @@ impl GroupTiming {
         }
     }
 
-    /// The number of its task.
+    /// Returns the number of its task.
     pub fn task(&self) -> u32
         ensures { result ≡ self.now.task }
     {
         self.task
     }
 
-    /// Whether a hop from this writer saves the writer's time.
+    /// Checks whether a hop from this writer to the reader saves the writer's time: both are on one
+    /// core, the writer has the higher priority, and neither is timed, so the reader can't read
+    /// while a job of the writer is pending.
     pub fn saves(&self, reader: &GroupTiming) -> bool
         ensures { result ≡ saves self.now reader.now }
     {
@@ -86,10 +93,13 @@ impl GroupTiming {
             && !reader.is_timed
     }
 
-    /// The delay of the hop from this writer to a reader: a job of the reader that reads before a job of the writer
-    /// writes arrives less than this after it.
-    pub fn delay(&self, reader: &GroupTiming) -> i128
-        ensures delay { result ≡ delay self.now reader.now }
+    /// Computes the lag of the hop from this writer to the reader, in ticks: a job of the reader
+    /// that reads before a job of the writer writes arrives less than the lag after it. It is 1
+    /// where both are of one task, the writer's jitter less the reader's earliest read where the
+    /// hop saves the writer's time, and else the writer's latest write less the reader's earliest
+    /// read.
+    pub fn lag(&self, reader: &GroupTiming) -> i128
+        ensures lag { result ≡ lag self.now reader.now }
         ensures fits { IsIntegerWithin (2 ^ 64) result }
         ensures near { IsNear self.now → IsNear reader.now → IsIntegerWithin MOST_TICKS result }
     {
@@ -102,15 +112,17 @@ impl GroupTiming {
         }
     }
 
-    /// The hop from this writer to a reader, over one distance between arrivals.
+    /// Computes the hop from this writer to the reader: a distance between arrivals, less 1 tick,
+    /// and the lag.
     fn hop(&self, reader: &GroupTiming, distance: u64) -> i128
         ensures hop { result ≡ hop distance self.now reader.now }
         ensures near { IsIntegerWithin (2 ^ 65) result }
     {
-        i128::from(distance) - 1 + self.delay(reader)
+        i128::from(distance) - 1 + self.lag(reader)
     }
 
-    /// The hop in the forward direction.
+    /// Computes the forward hop from this writer to the reader, in ticks: over the reader's
+    /// greatest distance between arrivals.
     pub fn forward_hop(&self, reader: &GroupTiming) -> i128
         ensures hop { result ≡ forward_hop self.now reader.now }
         ensures near { IsIntegerWithin (2 ^ 65) result }
@@ -118,7 +130,8 @@ impl GroupTiming {
         self.hop(reader, reader.distance)
     }
 
-    /// The hop in the backward direction.
+    /// Computes the backward hop from this writer to the reader, in ticks: over the writer's
+    /// greatest distance between arrivals.
     pub fn backward_hop(&self, reader: &GroupTiming) -> i128
         ensures hop { result ≡ backward_hop self.now reader.now }
         ensures near { IsIntegerWithin (2 ^ 65) result }
@@ -126,21 +139,21 @@ impl GroupTiming {
         self.hop(reader, self.distance)
     }
 
-    /// The greatest distance between two of its arrivals.
+    /// Returns the greatest distance between two consecutive arrivals, in ticks.
     pub fn distance(&self) -> u64
         ensures { result ≡ self.now.distance }
     {
         self.distance
     }
 
-    /// When it reads at the earliest, from the arrival of its job.
+    /// Returns the earliest moment of its read, in ticks from the arrival of its job.
     pub fn read(&self) -> u64
         ensures { result ≡ self.now.read }
     {
         self.read
     }
 
-    /// When it writes at the latest, from the arrival of its job.
+    /// Returns the latest moment of its write, in ticks from the arrival of its job.
     pub fn write(&self) -> u64
         ensures { result ≡ self.now.write }
     {

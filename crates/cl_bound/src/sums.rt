@@ -1,12 +1,13 @@
 //! Sums of hops, one group after the other. Times are in ticks.
 ghost use Rattle.std.specs.Prelude.{◌≡◌, ℕ, ◌+◌, ◌*◌, ◌^◌, []};
-ghost use Rattle.cl_bound.specs.Hops.{IsIntegerWithin};
+ghost use Rattle.cl_stim.specs.Integers.{IsIntegerWithin};
 ghost use Rattle.cl_bound.specs.Inner.Sums.{sums_with, sums_of, reaction_in, age_in, reduced_in, HaveBounds, AreBoundsIn};
 
 use crate::bounds::Bounds;
 use crate::group_timing::GroupTiming;
 
-/// The sums of the hops between the first groups of a chain, and the last of these groups.
+/// The sums of the forward and of the backward hops between the first groups of a chain, and the
+/// last of these groups.
 #[derive(Clone, Copy)]
 pub(crate) struct Sums {
     pub(crate) last: GroupTiming,
@@ -15,7 +16,7 @@ pub(crate) struct Sums {
 }
 
 impl Sums {
-    /// Those of the first group alone.
+    /// Returns the sums of the first group alone: it has no hops.
     pub(crate) fn new(first: GroupTiming) -> Sums
         ensures { result ≡ sums_of first [] }
     {
@@ -26,13 +27,15 @@ impl Sums {
         }
     }
 
-    /// Those with one more group.
+    /// Adds the hops from the last group to one more, which is then the last.
     pub(crate) fn with(self, next: GroupTiming) -> Sums
         requires forward { IsIntegerWithin (2 ^ 100) self.forward }
         requires backward { IsIntegerWithin (2 ^ 100) self.backward }
         ensures sums { result ≡ sums_with self next }
-        ensures forward_near { (hops : ℕ) → IsIntegerWithin (hops * 2 ^ 65) self.forward → IsIntegerWithin ((hops + 1) * 2 ^ 65) result.forward }
-        ensures backward_near { (hops : ℕ) → IsIntegerWithin (hops * 2 ^ 65) self.backward → IsIntegerWithin ((hops + 1) * 2 ^ 65) result.backward }
+        ensures forward_near { (hops : ℕ) → IsIntegerWithin (hops * 2 ^ 65) self.forward
+            → IsIntegerWithin ((hops + 1) * 2 ^ 65) result.forward }
+        ensures backward_near { (hops : ℕ) → IsIntegerWithin (hops * 2 ^ 65) self.backward
+            → IsIntegerWithin ((hops + 1) * 2 ^ 65) result.backward }
     {
         Sums {
             last: next,
@@ -41,7 +44,8 @@ impl Sums {
         }
     }
 
-    /// From the read of the job before the first to the write of the last.
+    /// Computes how long it is from the read of the job before the first to the write of the last
+    /// job.
     fn reaction(&self, first: &GroupTiming) -> i128
         requires { IsIntegerWithin (2 ^ 100) self.now.forward }
         ensures { result ≡ reaction_in first.now self.now }
@@ -51,7 +55,7 @@ impl Sums {
             + i128::from(self.last.write())
     }
 
-    /// From the read of the first job to the write of the last.
+    /// Computes how long it is from the read of the first job to the write of the last.
     fn reduced(&self, first: &GroupTiming) -> i128
         requires { IsIntegerWithin (2 ^ 100) self.now.backward }
         ensures sum { result ≡ reduced_in first.now self.now }
@@ -60,7 +64,8 @@ impl Sums {
         i128::from(self.last.write()) - i128::from(first.read()) + self.backward
     }
 
-    /// From the read of the first job to the write of the job after the last.
+    /// Computes how long it is from the read of the first job to the write of the job after the
+    /// last.
     fn age(&self, first: &GroupTiming) -> i128
         requires { IsIntegerWithin (2 ^ 100) self.now.backward }
         ensures { result ≡ age_in first.now self.now }
@@ -68,7 +73,7 @@ impl Sums {
         i128::from(self.last.distance()) + self.reduced(first)
     }
 
-    /// The bounds of the chain, from its first group.
+    /// Computes the bounds of the groups, from the first of them.
     pub(crate) fn bounds(&self, first: &GroupTiming) -> Bounds
         requires forward { IsIntegerWithin (2 ^ 100) self.now.forward }
         requires backward { IsIntegerWithin (2 ^ 100) self.now.backward }

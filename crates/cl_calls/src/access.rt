@@ -1,4 +1,4 @@
-//! When runnables read and write.
+//! Tests of when runnables read and write.
 ghost use Rattle.std.specs.Prelude.{◌+◌, ◌≤◌};
 
 use cl_comm::{Access, AnyAccess, Explicit, Implicit, Spot, Timed, Window};
@@ -29,7 +29,7 @@ const TIMED: Window = Window {
     whi: 20,
 };
 
-/// What an access answers, asked through its trait.
+/// Returns what an access answers, asked through its trait.
 fn answers<A: Access>(access: &A, spot: Spot, response: u64) -> (Window, bool)
     requires least_times { spot.before + spot.own + spot.after ≤ response }
     requires in_time { response ≤ spot.deadline }

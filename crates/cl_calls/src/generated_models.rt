@@ -1,4 +1,5 @@
-//! Generated models, against values that two programs computed from the format alone.
+//! Tests of generated models, against values that two other programs computed from the format
+//! alone.
 ghost use Rattle.cl_model.specs.Ranges.{IsInRange};
 
 use cl_gen::generate;
@@ -8,7 +9,7 @@ use cl_valid::{in_range, validate};
 use std::alloc::Global;
 use std::test::Fail;
 
-/// How many cores, stimuli, labels, tasks, chains and requirements a model has.
+/// Counts the cores, stimuli, labels, tasks, chains and requirements of a model.
 fn counts(model: &SystemModel) -> [usize; 6] {
     [
         model.cores.len(),
@@ -37,7 +38,7 @@ fn put_task(text: &mut String, alloc: Global, task: &TaskDef) -> Result<(), NoMe
     Ok(text.push_str("\n")?)
 }
 
-/// The tasks of a model, on a line each.
+/// Writes the tasks of a model, a line each.
 fn tasks_text(alloc: Global, model: &SystemModel) -> Result<String, NoMemory> {
     let mut text = String::new(alloc);
     for task in model.tasks.as_slice() {
@@ -46,7 +47,7 @@ fn tasks_text(alloc: Global, model: &SystemModel) -> Result<String, NoMemory> {
     Ok(text)
 }
 
-/// What is asked of a generated model.
+/// What is asked about a generated model.
 #[derive(Clone, Copy)]
 enum Asked {
     Counts,
@@ -62,7 +63,8 @@ fn found_in(alloc: Global, model: &SystemModel, asked: Asked) -> Result<String, 
     }
 }
 
-/// The model of a seed and a number of tasks. The proof of a test that calls it need not look at their values.
+/// Generates the model of a seed and a number of tasks. It is a call of its own so that the proof
+/// of a test need not look at their values.
 fn of_seed(alloc: Global, seed: u64, tasks: u64) -> Result<SystemModel, Fail> {
     if tasks == 0 || tasks > MOST_TASKS as u64 {
         return Err(Fail::from("so many tasks are in range"));
@@ -70,7 +72,7 @@ fn of_seed(alloc: Global, seed: u64, tasks: u64) -> Result<SystemModel, Fail> {
     Ok(generate(alloc, seed, tasks)?)
 }
 
-/// What is found of that model.
+/// Writes what is found in that model.
 fn found(alloc: Global, seed: u64, tasks: u64, asked: Asked) -> Result<String, Fail> {
     let model = of_seed(alloc, seed, tasks)?;
     Ok(found_in(alloc, &model, asked)?)
@@ -111,14 +113,14 @@ fn generates_a_model_of_three_tasks(rt: HostRuntime) -> Result<(), Fail> {
     Ok(())
 }
 
-/// Whether a model in range is found valid.
+/// Checks whether a model in range is found valid.
 fn is_valid(alloc: Global, model: SystemModel) -> bool
     requires { IsInRange model }
 {
     validate(alloc, model).is_ok()
 }
 
-/// Whether the model of a seed and a number of tasks is found in range and valid.
+/// Checks whether the model of a seed and a number of tasks is found in range and valid.
 fn is_found_valid(alloc: Global, seed: u64, tasks: u64) -> Result<bool, Fail> {
     let model = of_seed(alloc, seed, tasks)?;
     if !in_range(&model) {

@@ -1,13 +1,15 @@
-//! The greatest gap and the first place with a gap, at every length around the lanes.
+//! Tests of the greatest gap and of the first index with a gap, at every length around the lanes.
 ghost use Rattle.std.specs.Prelude.{◌≡◌, ℕ, ◌<◌, ◌≤◌, length, slice_index, EachIndex, IsTrue};
 
 use cl_lanes::{first_gap, greatest_gap};
 use std::process::Abort;
 
-// Whether the slices meet the condition of the calls.
+// Checks whether there are as many ends as starts and no end is before its start, as the calls
+// require.
 fn are_paired(ends: &[u64], starts: &[u64]) -> bool
     ensures as_many { IsTrue result → length ends.now ≡ length starts.now }
-    ensures in_order { IsTrue result → EachIndex ends.now (λ i. slice_index starts.now i ≤ slice_index ends.now i) }
+    ensures in_order { IsTrue result → EachIndex ends.now
+        (λ i. slice_index starts.now i ≤ slice_index ends.now i) }
 {
     if ends.len() != starts.len() {
         return false;
@@ -20,10 +22,11 @@ fn are_paired(ends: &[u64], starts: &[u64]) -> bool
     true
 }
 
-/// The greatest gap, and the first place with a gap.
+/// The greatest gap, and the first index with a gap.
 type Gaps = (Option<u64>, Option<usize>);
 
-/// The greatest gap of slices and the first place with this gap, where the slices are paired.
+/// Finds the greatest gap of slices and the first index whose gap is `gap`, where the
+/// slices are paired.
 fn gaps(ends: &[u64], starts: &[u64], gap: u64) -> Option<Gaps> {
     if !are_paired(ends, starts) {
         return None;
@@ -40,7 +43,8 @@ fn gaps_of_small_slices(rt: HostRuntime) {
     assert_eq!(rt; gaps(&ends, &[5; 9], 4), Some((Some(4), Some(8))));
 }
 
-/// Asserts the gaps where the starts are 7 and the ends 10, but for the first and the last, one of which is 16.
+/// Asserts the gaps where the starts are 7 and the ends 10, but for the first end and the last one,
+/// which are `first` and `last`: at least one of these is 16.
 fn assert_gaps(rt: &impl Abort, length: usize, first: u64, last: u64)
     requires { (0 < length) × (length ≤ 130) }
 {
@@ -59,7 +63,7 @@ fn assert_gaps(rt: &impl Abort, length: usize, first: u64, last: u64)
     assert_eq!(rt; gaps(ends, starts, 8), Some((Some(9), None)), "{length}");
 }
 
-// The greatest gap stands at the first place, at the last, and at both.
+// The greatest gap stands at the first index, at the last, and at both.
 #[test]
 fn gaps_in_lanes_and_rests(rt: HostRuntime) {
     for length in 1..131 {

@@ -1,5 +1,5 @@
-//! The public calls of single crates, but for those that take a text of a model, each once on its happy path and at its
-//! limits: tests alone.
+//! Tests of the public calls of single crates, but for those that take the text of a model: each
+//! call on its happy path and at its limits.
 #![tactic(auto)]
 
 #[cfg(test)]

@@ -1,8 +1,9 @@
-//! Names, lists and places.
+//! Tests of names, lists and places.
 use cl_model::{Code, Key, List, Name, Part, Place, Refusal};
 use std::alloc::{AllocError, Global};
 use std::test::Fail;
 
+/// Reads a word as a name.
 pub(crate) fn name(word: &str) -> Result<Name, Fail> {
     Ok(Name::read(word.as_bytes()).ok_or("not a name")?)
 }
@@ -15,7 +16,7 @@ fn names(alloc: Global, words: &[&str]) -> Result<List<Name>, Fail> {
     Ok(names)
 }
 
-/// Whether a word is a name.
+/// Checks whether a word is a name.
 fn is_name(word: &str) -> bool {
     Name::read(word.as_bytes()).is_some()
 }
@@ -45,7 +46,8 @@ fn orders_and_copies_names(rt: HostRuntime) -> Result<(), Fail> {
     Ok(())
 }
 
-/// How long a list of names is, whether it is empty, what stands at two places, and how it prints.
+/// Writes how long a list of names is, whether it is empty, what stands at the indices 1 and 2, and
+/// how it prints.
 fn list_text(alloc: Global, list: &List<Name>) -> Result<String, AllocError> {
     format!(in alloc;
         "{} {} {:?} {:?} {list:?}",
@@ -56,7 +58,7 @@ fn list_text(alloc: Global, list: &List<Name>) -> Result<String, AllocError> {
     )
 }
 
-/// The same, of the list of these names.
+/// Makes a list of these names and writes the same of it.
 fn listed(alloc: Global, words: &[&str]) -> Result<String, Fail> {
     let list = names(alloc, words)?;
     Ok(list_text(alloc, &list)?)
@@ -72,7 +74,7 @@ fn keeps_items_in_order(rt: HostRuntime) -> Result<(), Fail> {
     Ok(())
 }
 
-/// How a refusal prints.
+/// Writes how a refusal prints.
 fn printed(alloc: Global, code: Code, place: Place) -> Result<String, AllocError> {
     let refusal = Refusal { code, place };
     format!(in alloc; "{refusal}")

@@ -1,4 +1,4 @@
-//! Rounding up, divisors and multiples, and the counter of steps.
+//! Tests of rounding up, of divisors and multiples, and of the counter of steps.
 ghost use Rattle.std.specs.Prelude.{◌≡◌, ◌+◌, ◌<◌};
 
 use cl_time::{Steps, ceil_div, gcd, lcm_upto};
@@ -78,7 +78,7 @@ fn tick_twice<L: Ledger>(steps: &mut Steps<L>)
     steps.tick();
 }
 
-// The bytes of a counter that was made and raised.
+// Returns the size of a counter that was made and raised, in bytes.
 fn bytes_of_a_counter<L: Ledger>(blank: Blank) -> usize
     requires name { blank.name ≡ L.name }
     requires parts { blank.parts ≡ L.parts }

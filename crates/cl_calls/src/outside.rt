@@ -1,10 +1,10 @@
-//! Shelves and sinks in memory, and the words of a command.
+//! Tests of shelves and sinks in memory, and of the words of a command.
 use cl_io::{MemShelf, MemSink, Shelf, Sink, SinkFault, SureShelf, SureSink, Words, write_all};
 use cl_time::NoMemory;
 use std::alloc::Global;
 use std::test::Fail;
 
-/// What a fetch gives: the text, or the fault.
+/// Fetches a file, and writes its text or the fault.
 fn fetched<S: Shelf>(
     alloc: Global,
     shelf: &mut S,
@@ -17,7 +17,7 @@ fn fetched<S: Shelf>(
     }
 }
 
-/// What the fetches of these names give, each up to its limit.
+/// Fetches these names, each up to its limit, and writes what each gives.
 fn all_fetched<S: Shelf>(
     alloc: Global,
     shelf: &mut S,
@@ -31,7 +31,7 @@ fn all_fetched<S: Shelf>(
     Ok(text)
 }
 
-/// Puts a file, and another in its place.
+/// Puts a file on a shelf, and then another in its place.
 fn put_twice(shelf: &mut MemShelf) -> Result<(), NoMemory> {
     shelf.put("model", b"first")?;
     shelf.put("model", b"in its place")
@@ -51,7 +51,7 @@ fn a_shelf_holds_what_was_put_last(rt: HostRuntime) -> Result<(), Fail> {
     Ok(())
 }
 
-/// Puts a file, whose second fetch fails.
+/// Puts a file on a shelf of which the second fetch fails.
 fn put_failing(shelf: &mut MemShelf) -> Result<(), NoMemory> {
     shelf.put("model", b"bytes")?;
     shelf.fail_call(1)
@@ -85,7 +85,8 @@ fn a_sure_shelf_holds_an_empty_file_under_other_names(rt: HostRuntime) -> Result
     Ok(())
 }
 
-/// What is answered to each piece, and what the sink has taken by then.
+/// Writes these pieces to a sink, and puts for each what was answered and what the sink has taken
+/// by then.
 fn all_written(alloc: Global, sink: &mut MemSink, pieces: &[&[u8]]) -> Result<String, NoMemory> {
     let mut text = String::new(alloc);
     for piece in pieces {
@@ -108,7 +109,7 @@ fn a_piece_is_written_whole_in_steps(rt: HostRuntime) -> Result<(), Fail> {
     Ok(())
 }
 
-/// What a sink takes whose third write fails.
+/// Writes two pieces to a sink whose third write fails.
 fn failing(alloc: Global, sink: &mut MemSink) -> Result<String, NoMemory> {
     sink.fail_call(2)?;
     all_written(alloc, sink, &[b"twelve bytes", b"ytes"])
@@ -133,13 +134,13 @@ fn a_sure_sink_counts_what_it_takes(rt: HostRuntime) -> Result<(), Fail> {
     Ok(())
 }
 
-/// Pushes a word, and an empty one.
+/// Pushes a word, and then an empty one.
 fn push_two(words: &mut Words) -> Result<(), NoMemory> {
     words.push("analyse")?;
     words.push("")
 }
 
-/// How many words there are, and the first three.
+/// Writes how many words there are, and the first three.
 fn words_text(alloc: Global, words: &Words) -> Result<String, NoMemory> {
     let (first, second, third) = (words.at(0), words.at(1), words.at(2));
     Ok(format!(in alloc; "{} {first:?} {second:?} {third:?}", words.len())?)

@@ -1,10 +1,10 @@
-//! The reading of bytes that are no text, which no case can hold.
+//! Tests of reading bytes that are no text, which no file of cases can hold.
 use cl_model::{ModelFault, SystemModel};
 use cl_read::read_model;
 use std::alloc::{AllocError, Global};
 use std::test::Fail;
 
-/// The refusal as it prints, or that there is none.
+/// Writes what came of a reading: a model, its refusal, or no memory.
 fn answer(alloc: Global, read: Result<SystemModel, ModelFault>) -> Result<String, AllocError> {
     match read {
         Ok(_) => format!(in alloc; "a model"),
@@ -13,7 +13,7 @@ fn answer(alloc: Global, read: Result<SystemModel, ModelFault>) -> Result<String
     }
 }
 
-/// The same, of what bytes are read as.
+/// Reads these bytes and writes what came of it.
 fn answer_to(alloc: Global, bytes: &[u8]) -> Result<String, AllocError> {
     answer(alloc, read_model(alloc, bytes))
 }

@@ -1,4 +1,4 @@
-//! Responses to questions that are made by hand.
+//! Tests of responses to questions that are made by hand.
 ghost use Rattle.std.specs.Prelude.{◌≡◌, ◌+◌, ◌*◌, ◌<◌, ◌≤◌, [], length, OnOk};
 ghost use Rattle.cl_model.specs.Timing.{least_distance, greatest_jitter};
 ghost use Rattle.cl_stim.specs.Stimulus.{IsStimulus};
@@ -26,14 +26,14 @@ fn counted<L: Ledger>(blank: Blank, question: &Question) -> Option<(u64, u64)>
     }
 }
 
-// The window and the response of a question, or nothing where it is late.
+// Finds the window and the response of a question. `None` where its task is late.
 fn answer(question: &Question) -> Option<(u64, u64)>
     requires { IsQuestionInRange question.now }
 {
     counted::<Brand>(Blank::new(1), question)
 }
 
-// The question of a task that takes so long, with this jitter and this deadline, and nothing above it.
+// Makes the question of a task with this execution time, jitter and deadline, and nothing above it.
 fn alone(alloc: Global, time: u64, jitter: u64, deadline: u64) -> Question
     requires time { (1 ≤ time) × (time ≤ MOST_TICKS) }
     requires deadline { (jitter < deadline) × (deadline ≤ MOST_TICKS) }
@@ -48,12 +48,14 @@ fn alone(alloc: Global, time: u64, jitter: u64, deadline: u64) -> Question
     }
 }
 
-// Puts a task of higher priority above it.
+// Puts a task of higher priority, with this stimulus and execution time, above the task of a
+// question.
 fn put_above(question: &mut Question, kind: StimulusKind, time: u64) -> Result<(), NoMemory>
     requires question { IsQuestionInRange question.old }
     requires room { length question.old.above < 127 }
     requires kind { IsStimulus kind }
-    requires distances { question.old.deadline + greatest_jitter kind ≤ 1000000 * least_distance kind }
+    requires distances { question.old.deadline + greatest_jitter kind
+        ≤ 1000000 * least_distance kind }
     requires time { time ≤ MOST_TICKS }
     ensures in_range { OnOk result (IsQuestionInRange question.new) }
     ensures deadline { OnOk result (question.new.deadline ≡ question.old.deadline) }
@@ -63,7 +65,8 @@ fn put_above(question: &mut Question, kind: StimulusKind, time: u64) -> Result<(
     question.above.push(Above { stimulus, time })
 }
 
-// The answer for a task below one of that stimulus, which takes so long.
+// Finds the window and the response of a task below one of that stimulus, whose execution time is
+// `above`. `None` where it is late.
 fn answer_below(
     alloc: Global,
     kind: StimulusKind,

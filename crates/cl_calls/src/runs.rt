@@ -1,4 +1,4 @@
-//! Runs as data.
+//! Tests of runs as data.
 ghost use Rattle.std.specs.Prelude.{◌≡◌, length, IfOk, OnOk};
 
 use cl_model::List;
@@ -8,7 +8,7 @@ use cl_time::NoMemory;
 use std::alloc::Global;
 use std::test::Fail;
 
-/// A run on two cores, without an entry yet.
+/// Starts a run of 1,000,000,000 ticks on two cores, without an entry yet.
 fn started(alloc: Global) -> Result<RunData, NoMemory>
     ensures { IfOk result (λ run. length run.entries ≡ 2) }
 {
@@ -19,7 +19,7 @@ fn started(alloc: Global) -> Result<RunData, NoMemory>
     RunData::start(alloc, table, 2)
 }
 
-/// Pushes an entry of the second core for so many ticks.
+/// Pushes `ticks` entries of the second core, where so many are left.
 fn push(run: &mut RunData, who: Option<u32>, ticks: u64) -> Result<(), Fail>
     requires { length run.old.entries ≡ 2 }
     ensures { OnOk result (length run.new.entries ≡ 2) }
@@ -31,7 +31,8 @@ fn push(run: &mut RunData, who: Option<u32>, ticks: u64) -> Result<(), Fail>
     Ok(run.push(1, who, ticks)?)
 }
 
-/// Puts the entry of the second core at a tick, and the end of its stretch from there.
+/// Puts the entry of the second core at a tick and the end of its stretch, or `none` where there is
+/// no entry yet.
 fn put_entry(text: &mut String, alloc: Global, run: &RunData, tick: u64) -> Result<(), NoMemory>
     requires { length run.now.entries ≡ 2 }
 {
@@ -42,7 +43,7 @@ fn put_entry(text: &mut String, alloc: Global, run: &RunData, tick: u64) -> Resu
     Ok(text.push_str(&format!(in alloc; "{entry:?} to {end}, ")?)?)
 }
 
-/// How many entries the second core has, some of them, and the stretches of both cores.
+/// Writes how many entries the second core has, some of them, and the stretches of both cores.
 fn spelled(alloc: Global, run: &RunData) -> Result<String, NoMemory>
     requires { length run.now.entries ≡ 2 }
 {
@@ -55,7 +56,7 @@ fn spelled(alloc: Global, run: &RunData) -> Result<String, NoMemory>
     Ok(text)
 }
 
-/// A run once its first entry is pushed.
+/// Pushes three entries of task 0 to a run, and writes it.
 fn with_one(alloc: Global, run: &mut RunData) -> Result<String, Fail>
     requires { length run.old.entries ≡ 2 }
 {
@@ -63,7 +64,7 @@ fn with_one(alloc: Global, run: &mut RunData) -> Result<String, Fail>
     Ok(spelled(alloc, run)?)
 }
 
-/// The same, once its second entry is pushed.
+/// Pushes three entries of task 0 and then idle ones to the end of a run, and writes it.
 fn with_two(alloc: Global, run: &mut RunData) -> Result<String, Fail>
     requires { length run.old.entries ≡ 2 }
 {

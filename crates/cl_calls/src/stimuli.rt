@@ -1,4 +1,4 @@
-//! Arrivals: how many releases a window holds, gaps and jitter.
+//! Tests of arrivals: how many releases a window holds, gaps and jitter.
 use cl_model::StimulusKind;
 use cl_stim::{AnyStimulus, Arrivals, MOST_WIDTH};
 

@@ -1,14 +1,14 @@
-//! Decimals, the ends of lines and words, and a text that grows.
+//! Tests of decimals, of the ends of lines and words, and of a text that grows.
 use cl_text::{Text, next_line, next_word, read_decimal};
 use cl_time::NoMemory;
 use std::test::Fail;
 
-/// The number that a word spells, up to the greatest.
+/// Reads the decimal number, of at most `most`, that a word spells.
 fn number(word: &[u8], most: u64) -> Option<u64> {
     read_decimal(word, most)
 }
 
-/// Words that are no decimals up to the greatest number.
+/// Words that spell no decimal number of 64 bits.
 const OTHERS: [&[u8]; 11] = [
     b"",
     b"00",
@@ -44,7 +44,7 @@ fn reads_up_to_the_greatest(rt: HostRuntime) {
     assert_eq!(rt; number(b"1", 0), None);
 }
 
-/// The end of the line that starts there.
+/// Finds the end of the line that starts at `from`.
 fn line_end(text: &[u8], from: usize) -> Option<usize> {
     if from > text.len() {
         return None;
@@ -62,7 +62,7 @@ fn finds_the_ends_of_lines(rt: HostRuntime) {
     assert_eq!(rt; line_end(text, 10), None);
 }
 
-/// The end of the word that starts there.
+/// Finds the end of the word that starts at `from`.
 fn word_end(line: &[u8], from: usize) -> Option<usize> {
     if from > line.len() {
         return None;

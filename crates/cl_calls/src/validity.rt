@@ -1,4 +1,4 @@
-//! Whether models are in range and valid.
+//! Tests of whether models are in range and valid.
 ghost use Rattle.cl_model.specs.Ranges.{IsInRange};
 
 use crate::models::name;
@@ -7,7 +7,7 @@ use cl_valid::{ValidFault, in_range, validate};
 use std::alloc::{AllocError, Global};
 use std::test::Fail;
 
-/// Cores of these names.
+/// Makes cores of these names.
 fn cores_of(alloc: Global, names: &[&str]) -> Result<List<CoreDef>, Fail> {
     let mut cores = List::new(alloc);
     for word in names {
@@ -16,7 +16,7 @@ fn cores_of(alloc: Global, names: &[&str]) -> Result<List<CoreDef>, Fail> {
     Ok(cores)
 }
 
-/// So many cores of one name.
+/// Makes `count` cores of one name.
 fn equal_cores(alloc: Global, count: usize) -> Result<List<CoreDef>, Fail> {
     let mut cores = List::new(alloc);
     for _ in 0..count {
@@ -25,7 +25,7 @@ fn equal_cores(alloc: Global, count: usize) -> Result<List<CoreDef>, Fail> {
     Ok(cores)
 }
 
-/// A model of cores, and of nothing else.
+/// Makes a model of cores, and of nothing else.
 fn model_of(alloc: Global, cores: List<CoreDef>) -> SystemModel {
     SystemModel {
         cores,
@@ -37,7 +37,7 @@ fn model_of(alloc: Global, cores: List<CoreDef>) -> SystemModel {
     }
 }
 
-/// How many cores a model has that came back, and what it is refused for.
+/// Writes how many cores a model has that came back, and its refusal.
 fn refused(alloc: Global, model: &SystemModel, fault: ValidFault) -> Result<String, AllocError> {
     match fault {
         ValidFault::Refused(refusal) => {
@@ -47,7 +47,8 @@ fn refused(alloc: Global, model: &SystemModel, fault: ValidFault) -> Result<Stri
     }
 }
 
-/// How many cores the valid model has, or how many come back, and the refusal.
+/// Validates a model, and writes how many cores the valid model has, or how many come back and the
+/// refusal.
 fn checked(alloc: Global, model: SystemModel) -> Result<String, AllocError>
     requires { IsInRange model }
 {
@@ -57,7 +58,7 @@ fn checked(alloc: Global, model: SystemModel) -> Result<String, AllocError>
     }
 }
 
-/// The same of a model of cores, where it is in range.
+/// Validates a model of cores, where it is in range, and writes the same of it.
 fn answer(alloc: Global, cores: List<CoreDef>) -> Result<String, AllocError> {
     let model = model_of(alloc, cores);
     if !in_range(&model) {

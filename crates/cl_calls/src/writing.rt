@@ -1,4 +1,4 @@
-//! The writing of a model that no text makes.
+//! Tests of writing a model that was made by hand.
 use cl_model::{List, SystemModel};
 use cl_text::Text;
 use cl_valid::in_range;
@@ -6,7 +6,7 @@ use cl_write::write_model;
 use std::alloc::Global;
 use std::test::Fail;
 
-/// A model of nothing.
+/// Makes a model without an entry.
 fn empty(alloc: Global) -> SystemModel {
     SystemModel {
         cores: List::new(alloc),
@@ -18,7 +18,7 @@ fn empty(alloc: Global) -> SystemModel {
     }
 }
 
-/// The text of a model, where it is in range.
+/// Writes a model, where it is in range.
 fn written(alloc: Global, model: &SystemModel) -> Result<Text, Fail> {
     if !in_range(model) {
         return Err(Fail::from("it is in range"));

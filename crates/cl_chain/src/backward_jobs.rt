@@ -1,4 +1,4 @@
-//! The backward chain to a job, over the moments of groups.
+//! Backward chains to a given job, over the moments of groups.
 ghost use Rattle.std.specs.Prelude.{◌≡◌, ℕ, ◌+◌, ◌-◌, ◌<◌, List, length, slice_index, Some, MatchOption, IfOk};
 ghost use Rattle.cl_runs.specs.Chains.{last_job};
 ghost use Rattle.cl_check.specs.JobMoments.{IsMomentOf};
@@ -14,7 +14,7 @@ use cl_model::List;
 use cl_time::NoMemory;
 use std::alloc::Global;
 
-/// The latest writer for a job, if there is one.
+/// Finds the latest writer for a job, if there is one.
 fn writer_of(writes: &[Option<u64>], reads: &[Option<u64>], job: usize) -> Option<usize>
     requires { NeverFall writes.now }
     ensures { IsMomentOf (λ writer. IsBackwardHop writes.now reads.now writer job) result }
@@ -23,7 +23,7 @@ fn writer_of(writes: &[Option<u64>], reads: &[Option<u64>], job: usize) -> Optio
     Writers::new().latest_writer(writes, read)
 }
 
-/// A list of the numbers of a slice.
+/// Copies a slice of numbers into a list.
 fn list_of(alloc: Global, numbers: &[u64]) -> Result<List<u64>, NoMemory>
     ensures { IfOk result (λ list. list ≡ numbers.now) }
 {
@@ -34,7 +34,8 @@ fn list_of(alloc: Global, numbers: &[u64]) -> Result<List<u64>, NoMemory>
     Ok(list)
 }
 
-/// The jobs that are linked backward to a job of the last group, if there are such.
+/// Finds the jobs that are linked backward to a job of the last group, one for each group, if there
+/// are such jobs.
 fn backward_jobs(
     alloc: Global,
     groups: &[GroupMoments],
@@ -65,7 +66,7 @@ fn backward_jobs(
     Ok(Some(list))
 }
 
-/// The writes of a job and of the job after it, if both are there.
+/// Returns the writes of a job and of the job after it, if both are there.
 pub(crate) fn next_write(writes: &[Option<u64>], job: usize) -> Option<(u64, u64)>
     ensures { MatchOption result ((write next : ℕ) → IsNextWrite writes.now job write next → ⊥)
         (λ found. IsNextWrite writes.now job found.0 found.1) }
@@ -75,7 +76,8 @@ pub(crate) fn next_write(writes: &[Option<u64>], job: usize) -> Option<(u64, u64
     Some((write, next))
 }
 
-/// The chain that is linked backward to a job of the last group, from its first read to a given moment.
+/// Finds the chain that is linked backward to a job of the last group and lasts from its first read
+/// to a given moment, if there is one.
 fn backward_to(
     alloc: Global,
     groups: &[GroupMoments],
@@ -84,7 +86,8 @@ fn backward_to(
 ) -> Result<Option<JobChain>, NoMemory>
     requires some { 0 < length groups.now }
     requires order { (i : ℕ) → i < length groups.now → NeverFall (writes_in groups.now i) }
-    ensures { IfOk result (λ found. IsTheChain (IsBackwardTo groups.now last to) (option_of found)) }
+    ensures { IfOk result
+        (λ found. IsTheChain (IsBackwardTo groups.now last to) (option_of found)) }
 {
     let Some(jobs) = backward_jobs(alloc, groups, last)? else {
         return Ok(None);
@@ -95,7 +98,8 @@ fn backward_to(
     }
 }
 
-/// The complete backward chain whose last job is a given one, to the write of the job after it, if there is one.
+/// Finds the complete backward chain whose last job is `last`, to the write of the job after it, if
+/// there is one.
 pub(crate) fn age_over(
     alloc: Global,
     groups: &[GroupMoments],
@@ -103,7 +107,8 @@ pub(crate) fn age_over(
 ) -> Result<Option<JobChain>, NoMemory>
     requires some { 0 < length groups.now }
     requires order { (i : ℕ) → i < length groups.now → NeverFall (writes_in groups.now i) }
-    ensures { IfOk result (λ found. IsChainOf (IsAgeOver groups.now) last_job last (option_of found)) }
+    ensures { IfOk result
+        (λ found. IsChainOf (IsAgeOver groups.now) last_job last (option_of found)) }
 {
     let writes = groups[groups.len() - 1].writes.as_slice();
     match next_write(writes, last as usize) {
@@ -112,7 +117,8 @@ pub(crate) fn age_over(
     }
 }
 
-/// The complete backward chain whose last job is a given one, to the write of that job, if there is one.
+/// Finds the complete backward chain whose last job is `last`, to the write of that job, if there
+/// is one.
 pub(crate) fn reduced_over(
     alloc: Global,
     groups: &[GroupMoments],
@@ -120,7 +126,8 @@ pub(crate) fn reduced_over(
 ) -> Result<Option<JobChain>, NoMemory>
     requires some { 0 < length groups.now }
     requires order { (i : ℕ) → i < length groups.now → NeverFall (writes_in groups.now i) }
-    ensures { IfOk result (λ found. IsChainOf (IsReducedOver groups.now) last_job last (option_of found)) }
+    ensures { IfOk result
+        (λ found. IsChainOf (IsReducedOver groups.now) last_job last (option_of found)) }
 {
     let writes = groups[groups.len() - 1].writes.as_slice();
     match next_write(writes, last as usize) {

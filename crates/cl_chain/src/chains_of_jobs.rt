@@ -16,11 +16,13 @@ use cl_run_data::RunData;
 use cl_time::NoMemory;
 use std::alloc::Global;
 
-/// The complete forward chain whose first job is a given one: from the read of the job before it to the write of the
-/// last job. There is none exactly where the run has no such chain.
+/// Finds the complete forward chain whose first job is `job`: from the read of the job before it to
+/// the write of the last job. Returns `None` exactly where the run has no such chain.
 ///
-/// The run is legal for the model. It takes a time proportional to the jobs of the chain's groups and the stretches of
-/// their cores.
+/// The run is legal for the model. `NoMemory` comes where there is no memory for the moments of the
+/// chain's groups or for the chain; it leaves nothing. Takes time linear in the stretches of the
+/// run, its numbers of tasks and cores, and, for each group of the chain, the execution times of
+/// the jobs of its task.
 pub fn forward(
     alloc: Global,
     model: &ValidModel,
@@ -37,11 +39,13 @@ pub fn forward(
     forward_over(alloc, groups.as_slice(), job)
 }
 
-/// The complete backward chain whose last job is a given one: from its first read to the write of the job after the
-/// last. There is none exactly where the run has no such chain.
+/// Finds the complete backward chain whose last job is `job`: from its first read to the write of
+/// the job after the last. Returns `None` exactly where the run has no such chain.
 ///
-/// The run is legal for the model. It takes a time proportional to the jobs of the chain's groups and the stretches of
-/// their cores.
+/// The run is legal for the model. `NoMemory` comes where there is no memory for the moments of the
+/// chain's groups or for the chain; it leaves nothing. Takes time linear in the stretches of the
+/// run, its numbers of tasks and cores, and, for each group of the chain, the execution times of
+/// the jobs of its task.
 pub fn backward(
     alloc: Global,
     model: &ValidModel,

@@ -1,4 +1,5 @@
-//! When the jobs of the groups of a chain read and write, by the access kind of their task. Times are in ticks.
+//! When the jobs of the groups of a chain read and write, by the access kind of their task. Times
+//! are in ticks.
 ghost use Rattle.std.specs.Prelude.{◌≡◌, ◌<◌, length, map, Some, IfOk};
 ghost use Rattle.cl_model.specs.ByNumber.{task_at};
 ghost use Rattle.cl_model.specs.Groups.{groups_at};
@@ -18,14 +19,15 @@ use cl_runs::Job;
 use cl_time::NoMemory;
 use std::alloc::Global;
 
-/// When the jobs of a group read and write: for each job the moment, where there is one.
+/// When the jobs of a group read and write: an entry for each job, `None` where it doesn't read or
+/// write.
 #[derive(Drop)]
 pub(crate) struct GroupMoments {
     pub(crate) reads: List<Option<u64>>,
     pub(crate) writes: List<Option<u64>>,
 }
 
-/// When a runnable of each job starts, or finishes.
+/// Finds when a runnable starts, or finishes, in each job.
 fn ends_of(
     alloc: Global,
     model: &ValidModel,
@@ -45,7 +47,7 @@ fn ends_of(
     ends_apart(alloc, model, run, apart, task, place, end)
 }
 
-/// When each job arrives.
+/// Lists when each job arrives.
 fn arrivals_of(alloc: Global, jobs: &[Job]) -> Result<List<Option<u64>>, NoMemory>
     ensures { IfOk result (λ arrivals. arrivals ≡ map (λ job. Some job.arrival) jobs.now) }
 {
@@ -56,7 +58,7 @@ fn arrivals_of(alloc: Global, jobs: &[Job]) -> Result<List<Option<u64>>, NoMemor
     Ok(arrivals)
 }
 
-/// The moment of a job's deadline, if it has finished by then and the run lasts until then.
+/// Returns the deadline of a job if the job has finished by then and the run lasts until then.
 fn timed_write(job: &Job, deadline: u64, ticks: u64, finish: Option<u64>) -> Option<u64>
     ensures { IsMomentOf (IsTimedWrite job.now deadline ticks finish) result }
 {
@@ -69,7 +71,7 @@ fn timed_write(job: &Job, deadline: u64, ticks: u64, finish: Option<u64>) -> Opt
     }
 }
 
-/// When each job writes at its deadline.
+/// Lists when each job writes at its deadline.
 fn timed_writes(
     alloc: Global,
     jobs: &[Job],
@@ -87,7 +89,7 @@ fn timed_writes(
     Ok(writes)
 }
 
-/// The access kind and the number of runnables of a task.
+/// Returns the access kind and the number of runnables of a task.
 fn access_of(model: &ValidModel, task: u32) -> (AccessKind, u32)
     requires { task < length model.now.tasks }
     ensures kind { result.0 ≡ (task_at model.now task).access }
@@ -97,7 +99,7 @@ fn access_of(model: &ValidModel, task: u32) -> (AccessKind, u32)
     (task.access, task.runnables.len() as u32)
 }
 
-/// When a runnable of each job reads.
+/// Finds when a runnable reads in each job.
 fn reads_of(
     alloc: Global,
     model: &ValidModel,
@@ -120,7 +122,7 @@ fn reads_of(
     }
 }
 
-/// When a runnable of each job writes.
+/// Finds when a runnable writes in each job.
 fn writes_of(
     alloc: Global,
     model: &ValidModel,
@@ -155,7 +157,8 @@ fn writes_of(
     }
 }
 
-/// When the jobs of each group of a chain read and write, by the lists of the tasks where these stand apart.
+/// Finds when the jobs of each group of a chain read and write, by the lists of the tasks that
+/// `tasks_apart` returns.
 pub(crate) fn moments_of_groups_apart(
     alloc: Global,
     model: &ValidModel,
@@ -166,7 +169,8 @@ pub(crate) fn moments_of_groups_apart(
     requires is_chain { chain < length model.now.chains }
     requires legal { IsLegal (system_of model.now) run.now }
     requires apart { StandApart (system_of model.now) run.now apart.now }
-    ensures tables { IfOk result (AreTables (system_of model.now) run.now (groups_at model.now chain)) }
+    ensures tables { IfOk result
+        (AreTables (system_of model.now) run.now (groups_at model.now chain)) }
     ensures some { 0 < length (groups_at model.now chain) }
     ensures valid { IsValid model.now }
 {
@@ -183,7 +187,7 @@ pub(crate) fn moments_of_groups_apart(
     Ok(tables)
 }
 
-/// When the jobs of each group of a chain read and write.
+/// Finds when the jobs of each group of a chain read and write.
 pub(crate) fn moments_of_groups(
     alloc: Global,
     model: &ValidModel,
@@ -192,7 +196,8 @@ pub(crate) fn moments_of_groups(
 ) -> Result<List<GroupMoments>, NoMemory>
     requires is_chain { chain < length model.now.chains }
     requires legal { IsLegal (system_of model.now) run.now }
-    ensures tables { IfOk result (AreTables (system_of model.now) run.now (groups_at model.now chain)) }
+    ensures tables { IfOk result
+        (AreTables (system_of model.now) run.now (groups_at model.now chain)) }
     ensures some { IfOk result (λ _. 0 < length (groups_at model.now chain)) }
     ensures valid { IfOk result (λ _. IsValid model.now) }
 {

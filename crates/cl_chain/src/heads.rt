@@ -1,4 +1,5 @@
-//! Where the backward chains to each job begin, from the first group to the last. Moments are in ticks.
+//! Where the backward chains to each job begin, found from the first group to the last. Moments are
+//! in ticks.
 ghost use Rattle.std.specs.Prelude.{◌≡◌, ℕ, ◌+◌, ◌-◌, ◌<◌, length, IfOk};
 ghost use Rattle.cl_check.specs.JobMoments.{IsMomentOf};
 ghost use Rattle.cl_chain.specs.Inner.GroupTables.{AreMomentsAt, NeverFall, reads_in, writes_in};
@@ -11,8 +12,9 @@ use cl_model::List;
 use cl_time::NoMemory;
 use std::alloc::Global;
 
-/// From where the head of a job lasts, by those of the group before. The writers are passed as far as no read of this
-/// job or a later one needs more, and then as far as no read of a later job does.
+/// Finds where the backward chain to a job begins, by the heads of the group before. The jobs that
+/// `writers` has passed write at or before each read of this job and the later ones; afterwards
+/// they do so for the later jobs.
 fn head_of(
     writes: &[Option<u64>],
     reads: &[Option<u64>],
@@ -31,7 +33,7 @@ fn head_of(
     moment_at(heads, writer)
 }
 
-/// The heads of a group, from those of the group before it, in one walk over both.
+/// Finds the heads of a group from those of the group before it, in one walk over both.
 fn heads_after(
     alloc: Global,
     writes: &[Option<u64>],
@@ -51,7 +53,7 @@ fn heads_after(
     Ok(found)
 }
 
-/// The reads of the first group, as its heads.
+/// Copies the reads of the first group as its heads.
 fn first_heads(alloc: Global, reads: &[Option<u64>]) -> Result<List<Option<u64>>, NoMemory>
     ensures { IfOk result (λ heads. heads ≡ reads.now) }
 {
@@ -62,7 +64,7 @@ fn first_heads(alloc: Global, reads: &[Option<u64>]) -> Result<List<Option<u64>>
     Ok(heads)
 }
 
-/// For each job of the last group from where the backward chain to it lasts, if there is one.
+/// Finds for each job of the last group where the backward chain to it begins, if there is one.
 pub(crate) fn heads(alloc: Global, groups: &[GroupMoments]) -> Result<List<Option<u64>>, NoMemory>
     requires some { 0 < length groups.now }
     requires writes { (i : ℕ) → i < length groups.now → NeverFall (writes_in groups.now i) }

@@ -1,10 +1,11 @@
-//! Hops over lists of moments: the earliest reader and the latest writer. Moments are in ticks.
+//! Hops over lists of moments: finding the earliest reader and the latest writer. Moments are in
+//! ticks.
 ghost use Rattle.std.specs.Prelude.{◌≡◌, ℕ, Some, None, true, false, cond, is_some, ◌+◌, ◌^◌, ◌<◌, ◌≤◌, MatchOption};
 ghost use Rattle.cl_check.specs.JobMoments.{IsMomentOf};
 ghost use Rattle.cl_chain.specs.Inner.GroupTables.{moment_at, NeverFall};
 ghost use Rattle.cl_chain.specs.Inner.Hops.{IsFirstReader, IsLastWriter, IsWrite, ArePassed};
 
-/// The moment of a job, if it has one.
+/// Returns the moment of a job, if it has one.
 pub(crate) fn moment_at(moments: &[Option<u64>], job: usize) -> Option<u64>
     ensures { result ≡ moment_at moments.now job }
 {
@@ -15,7 +16,7 @@ pub(crate) fn moment_at(moments: &[Option<u64>], job: usize) -> Option<u64>
     }
 }
 
-/// The write of a job of number 1 or more, if it has one.
+/// Returns the write of a job of number 1 or more, if it has one.
 pub(crate) fn write_of(writes: &[Option<u64>], job: usize) -> Option<u64>
     ensures { IsMomentOf (IsWrite writes.now job) result }
 {
@@ -26,10 +27,11 @@ pub(crate) fn write_of(writes: &[Option<u64>], job: usize) -> Option<u64>
     }
 }
 
-/// The first job that reads at or after a write, where none below `from` does.
+/// Finds the first job that reads at or after a write. No job below `from` does.
 pub(crate) fn earliest_reader(reads: &[Option<u64>], from: usize, write: u64) -> Option<usize>
     requires { (k r : ℕ) → k < from → moment_at reads.now k ≡ Some r → r < write }
-    ensures { MatchOption result ((k r : ℕ) → moment_at reads.now k ≡ Some r → r < write) (IsFirstReader reads.now write) }
+    ensures { MatchOption result
+        ((k r : ℕ) → moment_at reads.now k ≡ Some r → r < write) (IsFirstReader reads.now write) }
 {
     for job in from..reads.len() {
         if let Some(read) = reads[job] {
@@ -41,7 +43,7 @@ pub(crate) fn earliest_reader(reads: &[Option<u64>], from: usize, write: u64) ->
     None
 }
 
-/// Whether a job writes after a read.
+/// Checks whether a job writes, and after a read.
 fn is_after(write: Option<u64>, read: u64) -> bool
     ensures after { result ≡ true → (w : ℕ) × (write ≡ Some w) × (read < w) }
     ensures by { result ≡ false → (w : ℕ) → write ≡ Some w → w ≤ read }
@@ -52,7 +54,8 @@ fn is_after(write: Option<u64>, read: u64) -> bool
     }
 }
 
-/// The writers of reads in order: how many jobs are passed, and which of these is the last that writes.
+/// A walk over writers for reads that never fall: how many jobs are passed, and which of these is
+/// the last that writes.
 #[derive(Clone, Copy)]
 pub(crate) struct Writers {
     passed: usize,
@@ -60,7 +63,7 @@ pub(crate) struct Writers {
 }
 
 impl Writers {
-    /// None is passed.
+    /// Starts a walk that has passed no job.
     pub(crate) fn new() -> Writers
         ensures { result ≡ record { passed = 0; last = None } }
     {
@@ -70,7 +73,7 @@ impl Writers {
         }
     }
 
-    /// Passes a job with its write.
+    /// Passes the next job, which has this write.
     fn pass(&mut self, write: Option<u64>)
         requires { self.old.passed + 1 < 2 ^ 64 }
         ensures { self.new ≡ record { passed = self.old.passed + 1; last = cond (is_some write) (Some self.old.passed) self.old.last } }
@@ -81,7 +84,7 @@ impl Writers {
         self.passed += 1;
     }
 
-    /// The last job that writes at or before a read. All that do are passed.
+    /// Finds the last job that writes at or before a read, and passes all jobs that do.
     pub(crate) fn latest_writer(&mut self, writes: &[Option<u64>], read: u64) -> Option<usize>
         requires order { NeverFall writes.now }
         requires passed { ArePassed writes.now self.old read }

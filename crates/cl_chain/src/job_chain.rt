@@ -1,7 +1,8 @@
-//! Job chains of a run, and what is measured.
+//! Job chains of a run, and the measured chains.
 use cl_model::List;
 
-/// A job chain: a job of each group of a chain, and how long it lasts. Moments are in ticks, jobs are counted from 0.
+/// A job chain: a job of each group of a chain, and the moments from which and to which it lasts.
+/// Moments are in ticks, and jobs are counted from 0.
 #[derive(Debug, Drop)]
 pub struct JobChain {
     /// The moment from which it lasts: a read of the first group.
@@ -15,12 +16,13 @@ pub struct JobChain {
 /// The measured chains of a chain in a run.
 #[derive(Debug, Drop)]
 pub struct Measured {
-    /// The longest complete forward chain and, among equals, the one of the least first job.
+    /// The longest complete forward chain and, among equals, the one with the least first job.
     pub reaction: Option<JobChain>,
-    /// The longest complete backward chain, to the write of the job after the last, and among equals the one of the
-    /// least last job.
+    /// The longest complete backward chain to the write of the job after the last and, among
+    /// equals, the one with the least last job.
     pub age: Option<JobChain>,
-    /// The same, where each lasts to the write of its last job.
+    /// The longest complete backward chain to the write of its last job and, among equals, the one
+    /// with the least last job.
     pub reduced: Option<JobChain>,
     /// The number of complete forward chains.
     pub forward: u64,

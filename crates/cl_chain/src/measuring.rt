@@ -1,4 +1,4 @@
-//! The measured chains of a run. Moments are in ticks.
+//! Measuring the chains of a run. Moments are in ticks.
 ghost use Rattle.std.specs.Prelude.{◌≡◌, ◌-◌, ◌<◌, ◌∷◌, None, length, IfOk};
 ghost use Rattle.cl_model.specs.Groups.{groups_at};
 ghost use Rattle.cl_runs.specs.SystemOf.{system_of};
@@ -27,7 +27,8 @@ use cl_run_data::RunData;
 use cl_time::NoMemory;
 use std::alloc::Global;
 
-/// For each job the read of the job before it.
+/// Lists for each job the read of the job before it, none for job 0, with one entry more than there
+/// are jobs.
 fn earlier_reads(alloc: Global, reads: &[Option<u64>]) -> Result<List<Option<u64>>, NoMemory>
     ensures { IfOk result (λ earlier. earlier ≡ None ∷ reads.now) }
 {
@@ -39,7 +40,7 @@ fn earlier_reads(alloc: Global, reads: &[Option<u64>]) -> Result<List<Option<u64
     Ok(earlier)
 }
 
-/// The write of the job after a job, where both write.
+/// Returns the write of the job after a job, where both write.
 fn later_write(writes: &[Option<u64>], job: usize) -> Option<u64>
     ensures { IsMomentOf (IsOfNext writes.now job) result }
 {
@@ -47,7 +48,7 @@ fn later_write(writes: &[Option<u64>], job: usize) -> Option<u64>
     Some(next)
 }
 
-/// The write of a job, where the job after it writes too.
+/// Returns the write of a job, where the job after it writes too.
 fn replaced_write(writes: &[Option<u64>], job: usize) -> Option<u64>
     ensures { IsMomentOf (IsBeforeNext writes.now job) result }
 {
@@ -55,7 +56,7 @@ fn replaced_write(writes: &[Option<u64>], job: usize) -> Option<u64>
     Some(write)
 }
 
-/// For each job the write of the job after it, where both write.
+/// Lists for each job the write of the job after it, where both write.
 fn later_writes(alloc: Global, writes: &[Option<u64>]) -> Result<List<Option<u64>>, NoMemory>
     ensures { IfOk result (AreMomentsAt (IsOfNext writes.now)) }
 {
@@ -66,7 +67,7 @@ fn later_writes(alloc: Global, writes: &[Option<u64>]) -> Result<List<Option<u64
     Ok(later)
 }
 
-/// For each job its write, where the job after it writes too.
+/// Lists for each job its write, where the job after it writes too.
 fn replaced_writes(alloc: Global, writes: &[Option<u64>]) -> Result<List<Option<u64>>, NoMemory>
     ensures { IfOk result (AreMomentsAt (IsBeforeNext writes.now)) }
 {
@@ -77,7 +78,7 @@ fn replaced_writes(alloc: Global, writes: &[Option<u64>]) -> Result<List<Option<
     Ok(replaced)
 }
 
-/// The forward chain of the first of the rows that last longest.
+/// Finds the forward chain of the first of the longest rows.
 fn longest_forward(
     alloc: Global,
     groups: &[GroupMoments],
@@ -85,7 +86,8 @@ fn longest_forward(
 ) -> Result<Option<JobChain>, NoMemory>
     requires ordered { AreOrdered groups.now }
     requires rows { AreRowsOf (IsForwardOver groups.now) first_job rows.now }
-    ensures { IfOk result (λ found. IsMeasuredBy (IsForwardOver groups.now) first_job (option_of found)) }
+    ensures { IfOk result
+        (λ found. IsMeasuredBy (IsForwardOver groups.now) first_job (option_of found)) }
 {
     match longest(rows) {
         Some(place) => forward_over(alloc, groups, rows.jobs.as_slice()[place]),
@@ -93,7 +95,8 @@ fn longest_forward(
     }
 }
 
-/// The backward chain, to the write of the job after its last, of the first of the rows that last longest.
+/// Finds the backward chain, to the write of the job after its last, of the first of the longest
+/// rows.
 fn longest_age(
     alloc: Global,
     groups: &[GroupMoments],
@@ -101,7 +104,8 @@ fn longest_age(
 ) -> Result<Option<JobChain>, NoMemory>
     requires ordered { AreOrdered groups.now }
     requires rows { AreRowsOf (IsAgeOver groups.now) last_job rows.now }
-    ensures { IfOk result (λ found. IsMeasuredBy (IsAgeOver groups.now) last_job (option_of found)) }
+    ensures { IfOk result
+        (λ found. IsMeasuredBy (IsAgeOver groups.now) last_job (option_of found)) }
 {
     match longest(rows) {
         Some(place) => age_over(alloc, groups, rows.jobs.as_slice()[place]),
@@ -109,7 +113,7 @@ fn longest_age(
     }
 }
 
-/// The backward chain, to the write of its last job, of the first of the rows that last longest.
+/// Finds the backward chain, to the write of its last job, of the first of the longest rows.
 fn longest_reduced(
     alloc: Global,
     groups: &[GroupMoments],
@@ -117,7 +121,8 @@ fn longest_reduced(
 ) -> Result<Option<JobChain>, NoMemory>
     requires ordered { AreOrdered groups.now }
     requires rows { AreRowsOf (IsReducedOver groups.now) last_job rows.now }
-    ensures { IfOk result (λ found. IsMeasuredBy (IsReducedOver groups.now) last_job (option_of found)) }
+    ensures { IfOk result
+        (λ found. IsMeasuredBy (IsReducedOver groups.now) last_job (option_of found)) }
 {
     match longest(rows) {
         Some(place) => reduced_over(alloc, groups, rows.jobs.as_slice()[place]),
@@ -125,7 +130,7 @@ fn longest_reduced(
     }
 }
 
-/// The rows of the complete forward chains.
+/// Lists the rows of the complete forward chains.
 fn forward_rows(alloc: Global, groups: &[GroupMoments]) -> Result<Rows, NoMemory>
     requires { AreOrdered groups.now }
     ensures { IfOk result (AreRowsOf (IsForwardOver groups.now) first_job) }
@@ -135,7 +140,7 @@ fn forward_rows(alloc: Global, groups: &[GroupMoments]) -> Result<Rows, NoMemory
     rows_of(alloc, starts.as_slice(), ends.as_slice())
 }
 
-/// The rows of the complete backward chains, to the writes of the jobs after their last.
+/// Lists the rows of the complete backward chains, to the write of the job after the last.
 fn age_rows(
     alloc: Global,
     groups: &[GroupMoments],
@@ -149,7 +154,7 @@ fn age_rows(
     rows_of(alloc, starts, ends.as_slice())
 }
 
-/// The rows of the complete backward chains, to the writes of their last jobs.
+/// Lists the rows of the complete backward chains, to the write of the last job.
 fn reduced_rows(
     alloc: Global,
     groups: &[GroupMoments],
@@ -163,13 +168,14 @@ fn reduced_rows(
     rows_of(alloc, starts, ends.as_slice())
 }
 
-/// The longest forward chain, and how many there are.
+/// Finds the longest complete forward chain, and counts the complete forward chains.
 fn forward_measured(
     alloc: Global,
     groups: &[GroupMoments],
 ) -> Result<(Option<JobChain>, u64), NoMemory>
     requires { AreOrdered groups.now }
-    ensures { IfOk result (λ found. IsMeasuredBy (IsForwardOver groups.now) first_job (option_of found.0)
+    ensures { IfOk result
+        (λ found. IsMeasuredBy (IsForwardOver groups.now) first_job (option_of found.0)
         × IsCountOf (IsForwardOver groups.now) found.1) }
 {
     let rows = forward_rows(alloc, groups)?;
@@ -177,7 +183,8 @@ fn forward_measured(
     Ok((chain, rows.jobs.len() as u64))
 }
 
-/// The longest backward chain to the write of the job after its last, and how many backward chains there are.
+/// Finds the longest complete backward chain to the write of the job after its last, and counts the
+/// complete backward chains.
 fn age_measured(
     alloc: Global,
     groups: &[GroupMoments],
@@ -193,7 +200,7 @@ fn age_measured(
     Ok((chain, rows.jobs.len() as u64))
 }
 
-/// The longest backward chain to the write of its last job.
+/// Finds the longest complete backward chain to the write of its last job.
 fn reduced_measured(
     alloc: Global,
     groups: &[GroupMoments],
@@ -201,13 +208,14 @@ fn reduced_measured(
 ) -> Result<Option<JobChain>, NoMemory>
     requires ordered { AreOrdered groups.now }
     requires heads { AreMomentsAt (IsHead groups.now (length groups.now - 1)) starts.now }
-    ensures { IfOk result (λ found. IsMeasuredBy (IsReducedOver groups.now) last_job (option_of found)) }
+    ensures { IfOk result
+        (λ found. IsMeasuredBy (IsReducedOver groups.now) last_job (option_of found)) }
 {
     let rows = reduced_rows(alloc, groups, starts)?;
     longest_reduced(alloc, groups, &rows)
 }
 
-/// What is measured over the moments of groups.
+/// Measures the chains over the moments of groups.
 fn measured_over(alloc: Global, groups: &[GroupMoments]) -> Result<Measured, NoMemory>
     requires { AreOrdered groups.now }
     ensures { IfOk result (λ measured. IsMeasuredOver groups.now (measured_of measured)) }
@@ -225,11 +233,14 @@ fn measured_over(alloc: Global, groups: &[GroupMoments]) -> Result<Measured, NoM
     })
 }
 
-/// The measured chains of a chain of the model in a run: the longest of each kind, and how many complete chains there
-/// are. A kind has none exactly where the run has no complete chain of it.
+/// Measures a chain of the model in a run: finds the longest complete chain of each kind, and
+/// counts the complete chains. A kind has no longest chain exactly where the run has no complete
+/// chain of it.
 ///
-/// The run is legal for the model. It takes a time proportional to the jobs of the chain's groups and the stretches of
-/// their cores, whatever the number of ticks.
+/// The run is legal for the model. `NoMemory` comes where there is no memory for the moments of the
+/// chain's groups or for the chains; it leaves nothing. Takes time linear in the stretches of the
+/// run, its numbers of tasks and cores, and, for each group of the chain, the execution times of
+/// the jobs of its task, whatever the number of ticks.
 pub fn measure(
     alloc: Global,
     model: &ValidModel,
@@ -245,8 +256,10 @@ pub fn measure(
     measure_apart(alloc, model, run, &apart, chain)
 }
 
-/// The measured chains of a chain of the model in a run, as `measure` says, by the lists of the tasks where these stand
-/// apart. It takes a time proportional to the jobs of the tasks of the chain's groups and the stretches of their lists.
+/// Measures a chain of the model in a run as `measure` does, with the same errors. `apart` has a
+/// list of entries for each task, as `tasks_apart` returns it. Takes time linear, for each group of
+/// the chain, in the stretches of the list of its task and the execution times of the jobs of that
+/// task.
 pub fn measure_apart(
     alloc: Global,
     model: &ValidModel,

@@ -16,7 +16,7 @@ pub(crate) struct Rows {
     pub(crate) ends: List<u64>,
 }
 
-/// Adds the row of a job, if it has both a start and an end.
+/// Appends the row of a job, if it has both a start and an end.
 fn add_row(
     rows: &mut Rows,
     starts: &[Option<u64>],
@@ -24,7 +24,8 @@ fn add_row(
     job: usize,
 ) -> Result<(), NoMemory>
     requires { AreRowsBelow job starts.now ends.now rows.old.jobs rows.old.starts rows.old.ends }
-    ensures { OnOk result (AreRowsBelow (job + 1) starts.now ends.now rows.new.jobs rows.new.starts rows.new.ends) }
+    ensures { OnOk result
+        (AreRowsBelow (job + 1) starts.now ends.now rows.new.jobs rows.new.starts rows.new.ends) }
 {
     let Some(start) = moment_at(starts, job) else {
         return Ok(());
@@ -38,7 +39,7 @@ fn add_row(
     Ok(())
 }
 
-/// The rows of the jobs that have a moment in both lists.
+/// Lists the rows of the jobs that have a moment in both lists.
 pub(crate) fn rows_of(
     alloc: Global,
     starts: &[Option<u64>],
@@ -57,11 +58,12 @@ pub(crate) fn rows_of(
     Ok(rows)
 }
 
-/// The first of the rows that last longest: none exactly where there is no row.
+/// Finds the index of the first of the longest rows. Returns `None` exactly where there is no row.
 pub(crate) fn longest(rows: &Rows) -> Option<usize>
     requires starts { length rows.now.starts ≡ length rows.now.jobs }
     requires ends { length rows.now.ends ≡ length rows.now.jobs }
-    requires in_order { EachIndex rows.now.ends (λ i. slice_index rows.now.starts i ≤ slice_index rows.now.ends i) }
+    requires in_order { EachIndex rows.now.ends
+        (λ i. slice_index rows.now.starts i ≤ slice_index rows.now.ends i) }
     ensures { MatchOption result (length rows.now.jobs ≡ 0) (IsLongestRow rows.now) }
 {
     let starts = rows.starts.as_slice();

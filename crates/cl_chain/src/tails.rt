@@ -1,4 +1,5 @@
-//! Where the forward chains from each job end, from the last group to the first. Moments are in ticks.
+//! Where the forward chains from each job end, found from the last group to the first. Moments are
+//! in ticks.
 ghost use Rattle.std.specs.Prelude.{ℕ, ◌+◌, ◌<◌, length, IfOk};
 ghost use Rattle.cl_check.specs.JobMoments.{IsMomentOf};
 ghost use Rattle.cl_chain.specs.Inner.GroupTables.{AreMomentsAt, NeverFall, writes_in};
@@ -11,7 +12,7 @@ use cl_model::List;
 use cl_time::NoMemory;
 use std::alloc::Global;
 
-/// The tails of the last group: its writes, but for that of job 0.
+/// Lists the tails of the last group: its writes, without that of job 0.
 fn last_tails(alloc: Global, writes: &[Option<u64>]) -> Result<List<Option<u64>>, NoMemory>
     ensures { IfOk result (AreMomentsAt (IsWrite writes.now)) }
 {
@@ -22,8 +23,9 @@ fn last_tails(alloc: Global, writes: &[Option<u64>]) -> Result<List<Option<u64>>
     Ok(tails)
 }
 
-/// Where the tail of a job ends, by those of the next group. No job of that group below `next` reads at or after a
-/// write of this job or a later one, nor does one below the new `next` after a write of a later job.
+/// Finds where the forward chain from a job ends, by the tails of the next group. The jobs of that
+/// group below `next` read before each write of this job and the later ones; afterwards those below
+/// the new `next` do so for the later jobs.
 fn tail_of(
     writes: &[Option<u64>],
     reads: &[Option<u64>],
@@ -49,7 +51,7 @@ fn tail_of(
     }
 }
 
-/// The tails of a group, from those of the next one, in one walk over both.
+/// Finds the tails of a group from those of the next one, in one walk over both.
 fn tails_before(
     alloc: Global,
     writes: &[Option<u64>],
@@ -68,7 +70,7 @@ fn tails_before(
     Ok(found)
 }
 
-/// For each job of the first group where the forward chain from it ends, if there is one.
+/// Finds for each job of the first group where the forward chain from it ends, if there is one.
 pub(crate) fn tails(alloc: Global, groups: &[GroupMoments]) -> Result<List<Option<u64>>, NoMemory>
     requires some { 0 < length groups.now }
     requires order { (i : ℕ) → i < length groups.now → NeverFall (writes_in groups.now i) }

@@ -1,4 +1,4 @@
-//! The ticks of each task of a run, apart from those of the others. Times are in ticks.
+//! The ticks of each task of a run, in a list of its own. Times are in ticks.
 ghost use Rattle.std.specs.Prelude.{◌+◌, ◌<◌, ◌≤◌, length, OnOk, IfOk};
 ghost use Rattle.cl_runs.specs.Run.{core_entries, IsInForm};
 ghost use Rattle.cl_runs.specs.SystemOf.{system_of};
@@ -11,13 +11,15 @@ use cl_runs::JobTable;
 use cl_time::NoMemory;
 use std::alloc::Global;
 
-/// Appends the ticks of a task to its list, and idle ticks before them where the list ends earlier.
+/// Appends the ticks of a task to its list, and idle ticks in front of them where the list ends
+/// earlier.
 fn append(apart: &mut RunData, task: u32, from: u64, to: u64) -> Result<(), NoMemory>
     requires is_task { task < length apart.old.entries }
     requires after { length (core_entries apart.old task) ≤ from }
     requires ahead { from ≤ to }
     requires in_time { to ≤ apart.old.table.ticks }
-    ensures { OnOk result (HasList apart.old apart.new task (with_ticks (core_entries apart.old task) task from to)) }
+    ensures { OnOk result
+        (HasList apart.old apart.new task (with_ticks (core_entries apart.old task) task from to)) }
 {
     let idle = from - apart.filled(task);
     apart.push(task, None, idle)?;
@@ -37,7 +39,7 @@ fn add(apart: &mut RunData, who: Option<u32>, from: u64, to: u64) -> Result<(), 
     }
 }
 
-/// Puts the tasks of a core apart.
+/// Puts the ticks of each task of a core into the list of that task.
 fn add_core(
     model: &ValidModel,
     run: &RunData,
@@ -57,10 +59,13 @@ fn add_core(
     Ok(())
 }
 
-/// The ticks in which the tasks of a run run, apart: in its own list a task runs in the same ticks as on its core, up
-/// to the last of them, and the list idles in the others.
+/// Lists the ticks of each task of a run apart from those of the others. The result has a list of
+/// entries for each task, in file order: there the task runs in the same ticks as on its core, up
+/// to the last of them, and no task runs in the others. It has the ticks of the run and no jobs.
 ///
-/// The run is in form. It takes a time proportional to the stretches of the run.
+/// The run is in form, and stays as it was. `NoMemory` comes where there is no memory for the
+/// lists; it leaves nothing. Takes time linear in the stretches of the run and its numbers of tasks
+/// and cores.
 pub fn tasks_apart(alloc: Global, model: &ValidModel, run: &RunData) -> Result<RunData, NoMemory>
     requires { IsInForm (system_of model.now) run.now }
     ensures { IfOk result (StandApart (system_of model.now) run.now) }

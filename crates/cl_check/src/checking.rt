@@ -1,4 +1,4 @@
-//! Whether a run is legal. Times are in ticks.
+//! Checking whether a run is legal. Times are in ticks.
 ghost use Rattle.std.specs.Prelude.{◌≢◌, IfOk, IfErr};
 ghost use Rattle.cl_model.specs.Validity.{IsValid};
 ghost use Rattle.cl_runs.specs.Run.{IsInForm};
@@ -16,7 +16,7 @@ use cl_model::ValidModel;
 use cl_run_data::RunData;
 use std::alloc::Global;
 
-/// Each core executes in each tick what is scheduled, or the first fault.
+/// Checks whether each core executes in each tick what is scheduled, or finds the first fault.
 fn check_cores(alloc: Global, model: &ValidModel, run: &RunData) -> Result<(), RunFault>
     requires in_form { IsInForm (system_of model.now) run.now }
     requires lawful { IsLawful (system_of model.now) run.now.table }
@@ -28,7 +28,7 @@ fn check_cores(alloc: Global, model: &ValidModel, run: &RunData) -> Result<(), R
     Ok(())
 }
 
-/// The run is legal, or the first broken rule.
+/// Checks whether the run is legal, or finds the first broken rule.
 fn check_rules(alloc: Global, model: &ValidModel, run: &RunData) -> Result<(), RunFault>
     requires { IsInForm (system_of model.now) run.now }
     ensures rules { ChecksRun (system_of model.now) run.now result }
@@ -39,14 +39,17 @@ fn check_rules(alloc: Global, model: &ValidModel, run: &RunData) -> Result<(), R
     Ok(())
 }
 
-/// Whether a run is legal: each job arrives, is released and executes as its task may, no further job is due, and each
-/// core executes in each tick what is scheduled. The rules are checked in order: for each task, in file order, each job
-/// by `Arrival`, `Release` and `Time`, and then `Missing`; then for each core in order `Schedule`.
+/// Checks whether a run is legal: each job arrives, is released and executes as its task may, no
+/// further job is due, and each core executes in each tick what is scheduled. The rules are checked
+/// in order: for each task, in file order, each job by `Arrival`, `Release` and `Time`, and then
+/// `Missing`; then for each core in order `Schedule`.
 ///
-/// The run is in form. The answer is `Illegal` exactly where the run isn't legal: the first broken rule, with the
-/// number of its task or core, and with a tick: that of the job's arrival, the latest tick at which a missing job is
-/// due, or the first tick in which the core doesn't execute what is scheduled. `NoMemory` is the only other error. The
-/// run stays as it was. It takes a time that doesn't depend on the number of ticks.
+/// The run is in form, and stays as it was. A run that isn't legal gives `Illegal`, unless memory
+/// runs out before: the first broken rule, with the number of its task or core, and with a tick:
+/// that of the job's arrival, the latest tick at which a missing job is due, or the first tick in
+/// which the core doesn't execute what is scheduled. `NoMemory` comes where there is no memory for
+/// the progress of a core, and is the only other error. A legal run goes on to a legal run of every
+/// greater length. The time that the check takes doesn't depend on the number of ticks.
 pub fn check_run(alloc: Global, model: &ValidModel, run: &RunData) -> Result<(), RunFault>
     requires { IsInForm (system_of model.now) run.now }
     ensures legal { IfOk result (λ _. IsLegal (system_of model.now) run.now) }

@@ -1,17 +1,18 @@
-//! When the next job of a task is due. Times are in ticks.
+//! When the next job of a task may arrive. Times are in ticks.
 ghost use Rattle.std.specs.Prelude.{◌≡◌, ◌+◌, ◌≤◌};
 ghost use Rattle.cl_runs.specs.Pattern.{IsPattern, first_least, first_greatest, burst_gap, least_gap, greatest_gap};
 
 use cl_model::StimulusKind;
 
-/// The ticks in which the next job of a task may arrive.
+/// The ticks at which the next job of a task may arrive: from `low` to `high`, both included.
 #[derive(Clone, Copy)]
 pub(crate) struct Interval {
     pub(crate) low: u128,
     pub(crate) high: u128,
 }
 
-/// The gap after a job of bursts: their distance within a burst, and after its last job what is left of the period.
+/// Computes the gap after a job of bursts: their distance within a burst, and after its last job
+/// what is left of the period.
 fn burst_gap(period: u64, count: u64, distance: u64, job: u64) -> u64
     requires { 1 ≤ count }
     ensures { result ≡ burst_gap period count distance job }
@@ -23,7 +24,7 @@ fn burst_gap(period: u64, count: u64, distance: u64, job: u64) -> u64
     }
 }
 
-/// The least and the greatest gap after a job.
+/// Computes the least and the greatest gap after a job.
 fn gaps(kind: StimulusKind, job: u64) -> (u64, u64)
     requires { IsPattern kind }
     ensures least { result.0 ≡ least_gap kind job }
@@ -45,7 +46,7 @@ fn gaps(kind: StimulusKind, job: u64) -> (u64, u64)
 }
 
 impl Interval {
-    /// When the first job is due.
+    /// Returns the ticks at which the first job may arrive.
     pub(crate) fn first(kind: StimulusKind) -> Interval
         ensures low { result.low ≡ first_least kind }
         ensures high { result.high ≡ first_greatest kind }
@@ -62,7 +63,8 @@ impl Interval {
         }
     }
 
-    /// When the next job is due, after a job of that number that arrives at a tick.
+    /// Returns the ticks at which the next job may arrive, after the job with this number and
+    /// arrival.
     pub(crate) fn after(kind: StimulusKind, job: u64, arrival: u64) -> Interval
         requires { IsPattern kind }
         ensures low { result.low ≡ arrival + least_gap kind job }

@@ -1,4 +1,4 @@
-//! When the jobs of a task start, or finish, by the task's own list. Times are in ticks.
+//! When the jobs of a task start, or finish, by the list of the task. Times are in ticks.
 ghost use Rattle.std.specs.Prelude.{◌≡◌, ◌-◌, ◌^◌, ◌+◌, ◌<◌, ◌≤◌, length, min, slice_index, All, IfOk};
 ghost use Rattle.cl_model.specs.ByNumber.{task_at};
 ghost use Rattle.cl_runs.specs.declared.job.Job.{Job};
@@ -17,14 +17,17 @@ use cl_runs::Job;
 use cl_time::NoMemory;
 use std::alloc::Global;
 
-/// One end of the execution of a runnable.
+/// Which end of the execution of a runnable is asked for.
 #[derive(Clone, Copy, Debug, PartialEq, Eq)]
 pub enum End {
+    /// When it starts.
     Start,
+    /// When it has finished.
     Finish,
 }
 
-/// One end of a runnable that takes `own` ticks and has `before` ticks of work of its task before it.
+/// Finds when a runnable starts, or finishes, that takes `own` ticks after `before` ticks of work
+/// of its task.
 fn end_after(
     walk: &mut Walk,
     stretches: &[Stretch],
@@ -51,7 +54,8 @@ fn end_after(
     }
 }
 
-/// One end of a task's runnable in each job over the stretches of its list, in one walk.
+/// Finds when a runnable of a task starts, or finishes, in each job, in one walk over the stretches
+/// of the list of the task.
 fn ends_in(
     alloc: Global,
     stretches: &[Stretch],
@@ -79,11 +83,13 @@ fn ends_in(
     Ok(ends)
 }
 
-/// When a runnable of a task starts, or finishes, by the task's own list where the tasks of the run stand apart: an entry
-/// for each job, in the order of the jobs.
+/// Finds when a runnable of a task starts, or finishes, in each job: one entry for each job, in the
+/// order of the jobs. `apart` has a list of entries for each task, as `tasks_apart` returns it.
 ///
-/// The run is legal for the model. There is no entry exactly where the runnable doesn't start below the end of the run,
-/// or hasn't finished at the end. It takes a time proportional to the stretches of that list and the jobs of the task.
+/// The run is legal for the model. An entry is `None` exactly where the runnable doesn't start
+/// below the end of the run, or hasn't finished at the end. `NoMemory` comes where there is no
+/// memory for the entries; it leaves nothing. Takes time linear in the stretches of the task's list
+/// and the execution times of its jobs.
 pub fn ends_apart(
     alloc: Global,
     model: &ValidModel,

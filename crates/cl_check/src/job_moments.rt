@@ -18,13 +18,13 @@ use std::alloc::Global;
 /// When a runnable of a job starts and finishes, in ticks.
 #[derive(Clone, Copy, Debug, PartialEq, Eq)]
 pub struct Moment {
-    /// When it starts: none where it doesn't start below the end of the run.
+    /// When it starts, or `None` where it doesn't start below the end of the run.
     pub start: Option<u64>,
-    /// When it has finished: none where it hasn't at the end of the run.
+    /// When it has finished, or `None` where it hasn't at the end of the run.
     pub finish: Option<u64>,
 }
 
-/// The sum of a time and further times, or the greatest number of 64 bits where the sum is greater.
+/// Adds further times to a time. Returns the greatest `u64` where the sum is greater.
 pub(crate) fn time_after(done: u64, times: &[u64]) -> u64
     ensures { result ≡ min (done + sum times.now) (2 ^ 64 - 1) }
 {
@@ -35,7 +35,8 @@ pub(crate) fn time_after(done: u64, times: &[u64]) -> u64
     total
 }
 
-/// The moment of a runnable that takes `own` ticks and has `before` ticks of work of its task before it.
+/// Finds when a runnable starts and finishes that takes `own` ticks after `before` ticks of work of
+/// its task.
 fn moment_of(walk: &mut Walk, stretches: &[Stretch], task: u32, before: u64, own: u64) -> Moment
     requires longest { AreLongest 0 stretches.now }
     requires fits { length (entries_from 0 stretches.now) < 2 ^ 64 }
@@ -56,7 +57,8 @@ fn moment_of(walk: &mut Walk, stretches: &[Stretch], task: u32, before: u64, own
     Moment { start, finish }
 }
 
-/// The moments of a task's runnable over the stretches of its core, in one walk.
+/// Finds when a runnable of a task starts and finishes in each job, in one walk over the stretches
+/// of its core.
 fn moments_in(
     alloc: Global,
     stretches: &[Stretch],
@@ -69,7 +71,8 @@ fn moments_in(
     requires places { All (λ job. place < length job.times) jobs.now }
     requires times { All (λ job. 1 ≤ slice_index job.times place) jobs.now }
     ensures { IfOk result (λ moments.
-        (length moments ≡ length jobs.now) × AreMomentsIn (entries_from 0 stretches.now) jobs.now task place moments) }
+        (length moments ≡ length jobs.now)
+        × AreMomentsIn (entries_from 0 stretches.now) jobs.now task place moments) }
 {
     let mut moments = List::with_room(alloc, jobs.len())?;
     let mut walk = Walk::new();
@@ -83,11 +86,13 @@ fn moments_in(
     Ok(moments)
 }
 
-/// When a runnable of a task starts and finishes: an entry for each job, in the order of the jobs.
+/// Finds when a runnable of a task starts and finishes in each job: one entry for each job, in the
+/// order of the jobs.
 ///
-/// The run is legal for the model. An entry has no start exactly where the runnable doesn't start below the end of the
-/// run, and no finish exactly where it hasn't finished at the end. It takes a time proportional to the stretches of the
-/// core and the jobs of the task, whatever the number of ticks.
+/// The run is legal for the model. An entry has no start exactly where the runnable doesn't start
+/// below the end of the run, and no finish exactly where it hasn't finished at the end. `NoMemory`
+/// comes where there is no memory for the entries; it leaves nothing. Takes time linear in the
+/// stretches of the core and the execution times of the task's jobs, whatever the number of ticks.
 pub fn moments(
     alloc: Global,
     model: &ValidModel,

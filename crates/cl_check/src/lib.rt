@@ -1,4 +1,4 @@
-//! Whether a run is legal, and what it shows of its jobs: when they start and finish.
+//! Checking whether a run is legal, and finding when its jobs start and finish.
 #![tactic(auto)]
 
 mod apart;

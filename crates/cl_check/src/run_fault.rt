@@ -4,13 +4,13 @@ use cl_time::NoMemory;
 /// A rule that legal runs keep.
 #[derive(Clone, Copy, Debug, PartialEq, Eq)]
 pub enum Rule {
-    /// A job arrives as its task's stimulus says, in the ticks of the run.
+    /// A job arrives as the stimulus of its task says, and within the ticks of the run.
     Arrival,
     /// A job is released at its arrival or at most the jitter later.
     Release,
     /// Each execution time lies in the range of its runnable.
     Time,
-    /// No further job is due in the ticks of the run.
+    /// No further job of a task is due in the ticks of the run.
     Missing,
     /// A core executes in each tick what is scheduled.
     Schedule,
@@ -19,7 +19,9 @@ pub enum Rule {
 /// Why a run isn't accepted.
 #[derive(Clone, Copy, Debug, PartialEq, Eq)]
 pub enum RunFault {
-    /// The run is illegal: the first broken rule, at the number of a task, or of a core for `Schedule`, and at a tick.
+    /// The run isn't legal. `rule` is the first broken rule, and `place` is the number of a task,
+    /// or of a core for `Schedule`. `tick` is the arrival of the job, the latest tick at which the
+    /// missing job is due, or the first tick in which the core doesn't execute what is scheduled.
     Illegal { rule: Rule, place: u32, tick: u64 },
     /// Memory ran out.
     NoMemory,

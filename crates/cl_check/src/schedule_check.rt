@@ -1,4 +1,4 @@
-//! Whether the cores execute what is scheduled. Times are in ticks.
+//! Checking whether the cores execute what is scheduled. Times are in ticks.
 ghost use Rattle.std.specs.Prelude.{◌≡◌, ◌<◌, length};
 ghost use Rattle.cl_runs.specs.Run.{IsInForm};
 ghost use Rattle.cl_runs.specs.SystemOf.{system_of};
@@ -12,8 +12,8 @@ use cl_run_data::{RunData, Stretch};
 use cl_sched::CoreProgress;
 use std::alloc::Global;
 
-/// Goes on to the end of a stretch, as long as the core executes what is scheduled, or to the first tick in which it
-/// doesn't.
+/// Goes on to the end of a stretch, as long as the core executes what is scheduled. `Illegal` has
+/// the first tick in which it doesn't.
 fn follow(
     model: &ValidModel,
     run: &RunData,
@@ -43,7 +43,8 @@ fn follow(
     Ok(())
 }
 
-/// Goes on over all stretches of a core, as long as it executes what is scheduled, or to its first fault.
+/// Goes on over all stretches of a core, as long as it executes what is scheduled. `Illegal` has
+/// the first tick in which it doesn't.
 fn follow_all(
     model: &ValidModel,
     run: &RunData,
@@ -64,7 +65,8 @@ fn follow_all(
     Ok(())
 }
 
-/// A core executes in each tick what is scheduled, or its first fault.
+/// Checks whether a core executes in each tick what is scheduled. `Illegal` has the first tick in
+/// which it doesn't, and `NoMemory` comes where there is no memory for the progress of the core.
 pub fn check_core(
     alloc: Global,
     model: &ValidModel,

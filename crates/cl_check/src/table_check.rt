@@ -1,4 +1,4 @@
-//! Whether a job table is lawful. Times are in ticks.
+//! Checking whether a job table is lawful. Times are in ticks.
 ghost use Rattle.std.specs.Prelude.{◌≡◌, ◌<◌, ◌++◌, length, map};
 ghost use Rattle.cl_model.specs.Validity.{IsValid};
 ghost use Rattle.cl_runs.specs.Pattern.{IsPattern};
@@ -11,7 +11,8 @@ use crate::run_fault::{Rule, RunFault};
 use cl_model::{RunnableDef, StimulusKind, ValidModel};
 use cl_runs::{Job, JobTable};
 
-/// Whether each execution time lies in the range of its runnable.
+/// Checks whether there is one execution time for each runnable, and each lies in the range of its
+/// runnable.
 fn are_in_range(runnables: &[RunnableDef], times: &[u64]) -> bool
     ensures { result ≡ are_in_range (map range_of runnables.now) times.now }
 {
@@ -27,7 +28,7 @@ fn are_in_range(runnables: &[RunnableDef], times: &[u64]) -> bool
     true
 }
 
-/// A broken rule of a job of a task, at the job's arrival.
+/// Returns the fault that a job of a task breaks a rule, at the arrival of the job.
 fn broken(rule: Rule, task: u32, job: &Job) -> RunFault
     ensures { result ≡ RunFault.Illegal rule task job.now.arrival }
 {
@@ -38,7 +39,7 @@ fn broken(rule: Rule, task: u32, job: &Job) -> RunFault
     }
 }
 
-/// A job arrives where it is due, and is released in time.
+/// Checks whether a job arrives when it is due, and is released in time, or finds its first fault.
 fn check_moments(
     kind: StimulusKind,
     ticks: u64,
@@ -46,7 +47,8 @@ fn check_moments(
     due: Interval,
     job: &Job,
 ) -> Result<(), RunFault>
-    ensures { Finds result (arrival_faults ticks task due.low due.high job.now ++ release_faults kind task job.now) }
+    ensures { Finds result
+        (arrival_faults ticks task due.low due.high job.now ++ release_faults kind task job.now) }
 {
     let arrival = u128::from(job.arrival);
     if arrival < due.low || arrival > due.high || job.arrival >= ticks {
@@ -58,7 +60,8 @@ fn check_moments(
     Ok(())
 }
 
-/// A job arrives where it is due, is released in time, and executes as long as its runnables may.
+/// Checks whether a job arrives when it is due, is released in time, and executes as long as its
+/// runnables may, or finds its first fault.
 fn check_job(
     kind: StimulusKind,
     runnables: &[RunnableDef],
@@ -67,7 +70,8 @@ fn check_job(
     due: Interval,
     job: &Job,
 ) -> Result<(), RunFault>
-    ensures { Finds result (job_faults kind (map range_of runnables.now) ticks task due.low due.high job.now) }
+    ensures { Finds result
+        (job_faults kind (map range_of runnables.now) ticks task due.low due.high job.now) }
 {
     check_moments(kind, ticks, task, due, job)?;
     if !are_in_range(runnables, job.times.as_slice()) {
@@ -76,7 +80,7 @@ fn check_job(
     Ok(())
 }
 
-/// The jobs of a task are those of one way to follow its stimulus.
+/// Checks whether the jobs of a task follow its stimulus, or finds their first fault.
 fn check_jobs(
     kind: StimulusKind,
     runnables: &[RunnableDef],
@@ -102,7 +106,7 @@ fn check_jobs(
     Ok(())
 }
 
-/// The jobs of a task, given by its number.
+/// Checks the jobs of a task, given by its number, or finds their first fault.
 fn check_task(model: &ValidModel, table: &JobTable, task: u32) -> Result<(), RunFault>
     requires task { task < length model.now.tasks }
     requires jobs { task < length table.now.jobs }
@@ -113,7 +117,8 @@ fn check_task(model: &ValidModel, table: &JobTable, task: u32) -> Result<(), Run
     check_jobs(model.stimulus_of(task), runnables, table.ticks, task, jobs)
 }
 
-/// The table is lawful, or its first fault.
+/// Checks whether a job table is lawful. The only error is `Illegal`, with the first fault of the
+/// table. Takes no memory.
 pub fn check_table(model: &ValidModel, table: &JobTable) -> Result<(), RunFault>
     requires { length table.now.jobs ≡ length model.now.tasks }
     ensures finds { Finds result (table_faults (system_of model.now) table.now) }

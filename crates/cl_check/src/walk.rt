@@ -1,4 +1,5 @@
-//! A walk over the stretches of a core, from one executed tick of a task to a later one.
+//! A walk over the stretches of a core or of a task's own list, from one executed tick of a task to
+//! a later one.
 ghost use Rattle.std.specs.Prelude.{◌≡◌, ◌+◌, ◌-◌, ◌^◌, ◌<◌, ◌≤◌, cond, true, MatchOption};
 ghost use Rattle.cl_runs.specs.Run.{is_task};
 ghost use Rattle.cl_run_data.specs.Stretches.{entries_from, AreLongest};
@@ -10,16 +11,16 @@ use cl_run_data::Stretch;
 /// Where a walk stands: at the start of a stretch, or at the end of the last one.
 #[derive(Clone, Copy)]
 pub(crate) struct Walk {
-    /// The place of the stretch.
+    /// The index of the stretch.
     place: usize,
-    /// The tick at which it starts.
+    /// The tick at which the stretch starts.
     start: u64,
-    /// In how many ticks below that one the task runs.
+    /// In how many ticks before that one the task runs.
     executed: u64,
 }
 
 impl Walk {
-    /// A walk before the first stretch.
+    /// Starts a walk at the first stretch.
     pub(crate) fn new() -> Walk
         ensures { result ≡ record { place = 0; start = 0; executed = 0 } }
     {
@@ -30,13 +31,16 @@ impl Walk {
         }
     }
 
-    /// The tick of the stretch in which the task runs after `work` executed ticks, if there is one.
+    /// Finds the tick of the stretch in which the task runs after `work` executed ticks, if there
+    /// is one.
     fn tick_in(&self, stretch: Stretch, task: u32, work: u64) -> Option<u64>
         requires after { self.now.start < stretch.end }
         requires ahead { self.now.executed ≤ work }
         ensures { MatchOption result
-            (self.now.executed + cond (is_task task stretch.who) (stretch.end - self.now.start) 0 ≤ work)
-            (λ tick. (is_task task stretch.who ≡ true) × (tick + self.now.executed ≡ self.now.start + work) × (tick < stretch.end)) }
+            (self.now.executed + cond (is_task task stretch.who) (stretch.end - self.now.start) 0
+            ≤ work)
+            (λ tick. (is_task task stretch.who ≡ true)
+            × (tick + self.now.executed ≡ self.now.start + work) × (tick < stretch.end)) }
     {
         let ahead = work - self.executed;
         if stretch.who == Some(task) && ahead < stretch.end - self.start {
@@ -46,7 +50,7 @@ impl Walk {
         }
     }
 
-    /// Goes past the stretch.
+    /// Goes on past the stretch.
     fn pass(&mut self, stretch: Stretch, task: u32)
         requires after { self.old.start < stretch.end }
         requires within { self.old.executed ≤ self.old.start }
@@ -65,8 +69,8 @@ impl Walk {
         self.place += 1;
     }
 
-    /// The tick in which the task runs after `work` executed ticks, if there is one. The walk goes on to its stretch,
-    /// or to the end.
+    /// Finds the tick in which the task runs after `work` executed ticks, if there is one. The walk
+    /// goes on to the stretch of that tick, or to the end.
     pub(crate) fn seek(&mut self, stretches: &[Stretch], task: u32, work: u64) -> Option<u64>
         requires longest { AreLongest 0 stretches.now }
         requires stands { StandsIn stretches.now task self.old }

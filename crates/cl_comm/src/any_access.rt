@@ -22,7 +22,7 @@ pub enum AnyAccess {
 }
 
 impl AnyAccess {
-    /// The way in which tasks of that kind access labels.
+    /// Returns the way in which tasks of this kind access labels.
     pub fn of(kind: AccessKind) -> AnyAccess
         ensures { access_kind_of result ≡ kind }
     {

@@ -9,7 +9,7 @@ ghost use Rattle.cl_comm.specs.Inner.KindLaws as laws;
 use crate::access::Access;
 use crate::spot::{Spot, Window};
 
-/// A job reads at its start and writes at its finish.
+/// Implicit access: a job reads at its start and writes at its finish.
 #[derive(Clone, Copy, Debug, PartialEq, Eq)]
 pub struct Implicit;
 

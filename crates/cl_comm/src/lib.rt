@@ -1,4 +1,4 @@
-//! Access to labels: when a runnable reads and writes, as laws over the legal runs of its task.
+//! Access to labels: when runnables read and write, as a trait whose laws hold in every legal run.
 #![tactic(auto)]
 
 mod access;

@@ -24,16 +24,16 @@ pub struct Spot {
 /// When a runnable reads and writes, in ticks from the arrival of its job.
 #[derive(Clone, Copy, Debug, PartialEq, Eq)]
 pub struct Window {
-    /// It reads then or later.
+    /// The lower bound on when it reads.
     pub rlo: u64,
-    /// It writes then or later.
+    /// The lower bound on when it writes.
     pub wlo: u64,
-    /// It writes then or earlier.
+    /// The upper bound on when it writes.
     pub whi: u64,
 }
 
-/// The runnables of a task of a valid model, in the order in which a job executes them. Their least times sum up to a
-/// number that fits.
+/// Returns the runnables of a task of a valid model, in the order in which a job executes them.
+/// Their least times sum up to less than 2^64.
 fn runnables_of(model: &ValidModel, task: u32) -> &[RunnableDef]
     requires { task < length model.now.tasks }
     ensures runnables { result.now ≡ (task_at model.now task).runnables }
@@ -42,7 +42,7 @@ fn runnables_of(model: &ValidModel, task: u32) -> &[RunnableDef]
     model.task(task).runnables.as_slice()
 }
 
-/// The sum of the least times of runnables.
+/// Sums the least times of runnables.
 fn least_times(runnables: &[RunnableDef]) -> u64
     requires { sum_by (λ (runnable : RunnableDef). runnable.least) runnables.now < 2 ^ 64 }
     ensures { result ≡ sum_by (λ (runnable : RunnableDef). runnable.least) runnables.now }
@@ -50,7 +50,8 @@ fn least_times(runnables: &[RunnableDef]) -> u64
     runnables.iter().map(|runnable| runnable.least).sum()
 }
 
-/// The spot of a runnable of a task of a valid model, in one pass over the runnables of the task. Takes no memory.
+/// Finds the spot of a runnable of a valid model, given by the number of its task and its place in
+/// the task, in one pass over the runnables of the task. Takes no memory.
 pub fn spot_of(model: &ValidModel, task: u32, place: u32) -> Spot
     requires is_task { task < length model.now.tasks }
     requires is_runnable { place < length (task_at model.now task).runnables }

@@ -9,7 +9,7 @@ ghost use Rattle.cl_comm.specs.Inner.KindLaws as laws;
 use crate::access::Access;
 use crate::spot::{Spot, Window};
 
-/// A job reads at its arrival and writes at its deadline.
+/// Timed access: a job reads at its arrival, and writes at its deadline if it has finished by then.
 #[derive(Clone, Copy, Debug, PartialEq, Eq)]
 pub struct Timed;
 

@@ -20,10 +20,12 @@ use cl_time::{NoMemory, Steps};
 use std::alloc::Global;
 use std::sync::ledger::Ledger;
 
-/// The first late task along the steps of a chain, if there is one, from what is found of all chains.
+/// Finds the first late task along the steps of a chain, from the answers for all chains. There is
+/// none exactly where no task of the chain is late.
 pub(crate) fn late_task(found: &[ChainAnswer], chain: u32) -> Option<u32>
     requires { chain < length found.now }
-    ensures { (model : SystemModel) → found.now ≡ chain_answers_of model → result ≡ late_task_of model chain }
+    ensures { (model : SystemModel) → found.now ≡ chain_answers_of model
+        → result ≡ late_task_of model chain }
 {
     match found[chain as usize] {
         ChainAnswer::Late { task } => Some(task),
@@ -31,7 +33,8 @@ pub(crate) fn late_task(found: &[ChainAnswer], chain: u32) -> Option<u32>
     }
 }
 
-/// The best cut of the rear part from a group on, where those of the rear parts behind it are known.
+/// Finds the best cut of the rear part that is one group longer than the longest of `rears`. These
+/// are the best cuts of all shorter rear parts, the shortest first.
 fn rear_from<L: Ledger>(
     alloc: Global,
     model: &ValidModel,
@@ -55,7 +58,7 @@ fn rear_from<L: Ledger>(
     best_from(alloc, first as u32, values.as_slice(), rears)
 }
 
-/// The best cut of the groups of a chain, found from its last group to its first.
+/// Finds the best cut of the groups of a chain, from its last group to its first.
 fn best_of<L: Ledger>(
     alloc: Global,
     model: &ValidModel,
@@ -67,7 +70,8 @@ fn best_of<L: Ledger>(
     requires some { 0 < length groups.now }
     requires groups { AreSettledGroups model.now groups.now }
     requires answers { settled.now ≡ answers_of (system_of model.now) }
-    ensures { IfOk result (λ best. IsBestCut (system_of model.now) groups.now best.pieces best.cost) }
+    ensures { IfOk result
+        (λ best. IsBestCut (system_of model.now) groups.now best.pieces best.cost) }
 {
     let mut rears = Vec::new(alloc);
     while rears.len() < groups.len() {
@@ -80,17 +84,21 @@ fn best_of<L: Ledger>(
     Ok(best)
 }
 
-/// The best cut of a chain of a valid model, from what is found of the model: of all cuts into consecutive pieces the
-/// one of the least cost and, among equals, the one whose list of first groups is the least. A cut costs the sum of the
-/// values of its pieces less one tick for each piece after the first; a piece is worth its exact reaction where its
-/// tasks are all timed and periodic and its hyperperiod is within its own limit, else the bound on its reaction.
+/// Finds the best cut of a chain of a valid model, from the findings of the model. Of all cuts into
+/// consecutive pieces it is the one of the least cost and, among equals, the one whose list of
+/// first groups comes first in dictionary order. A cut costs the sum of the values of its pieces,
+/// less one tick for each piece after the first. The value of a piece is its exact reaction where
+/// its tasks are all timed and periodic and its hyperperiod is within its own limit, and else the
+/// bound on its reaction.
 ///
-/// The cost is at least the reaction of each complete forward chain in each legal run, of any length. It is at most the
-/// bound on the reaction of the chain, and at most its exact reaction where it has one.
+/// The cost is at least the reaction of each complete forward chain in each legal run, of any
+/// length. It is at most the bound on the reaction of the chain, and at most its exact reaction
+/// where it has one.
 ///
-/// `Late` comes exactly where a task of the chain is late, and names the first such task along its steps. `NoMemory`
-/// comes where there is no memory for the values of the pieces or for the answer; it leaves nothing. It looks at each
-/// pair of a first and a last group once, and copies nothing of the model.
+/// `CutAnswer::Late` comes exactly where a task of the chain is late, and names the first such task
+/// along its steps. `NoMemory` comes where there is no memory for the values of the pieces or for
+/// the answer; it leaves nothing. Each pair of a first and a last group is looked at once, and
+/// nothing of the model is copied. At most two steps are counted for each group.
 pub fn best_cut<L: Ledger>(
     alloc: Global,
     model: &ValidModel,
@@ -119,11 +127,11 @@ pub fn best_cut<L: Ledger>(
     }
 }
 
-/// The best cuts of all chains of a valid model, in file order, from what is found of the model: each is what
-/// `best_cut` answers for that chain, with all that it promises.
+/// Finds the best cuts of all chains of a valid model, in file order, from the findings of the
+/// model. The answer for each chain is that of `best_cut`, with all that it promises.
 ///
-/// `NoMemory` comes where there is no memory for the values of the pieces of a chain or for the answers; it leaves
-/// nothing.
+/// `NoMemory` comes where there is no memory for the values of the pieces of a chain or for the
+/// answers; it leaves nothing. At most two steps are counted for each group of each chain.
 pub fn best_cuts<L: Ledger>(
     alloc: Global,
     model: &ValidModel,

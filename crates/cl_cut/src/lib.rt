@@ -1,4 +1,5 @@
-//! The best cuts of chains: consecutive pieces whose bounds together are tighter than the bound of the whole.
+//! The best cuts of chains: cuts into consecutive pieces whose values together bound the reaction
+//! of the chain, by no more than the bound on the whole chain.
 //!
 //! Times are in ticks.
 #![tactic(auto)]

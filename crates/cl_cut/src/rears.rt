@@ -1,4 +1,5 @@
-//! The best cuts of the rear parts of a chain, from its last group to its first. Times are in ticks.
+//! The best cuts of the rear parts of a chain, from its last group to its first. Times are in
+//! ticks.
 ghost use Rattle.std.specs.Prelude.{◌≡◌, ℕ, ◌+◌, ◌<◌, ◌≤◌, ◌∷◌, List, length, IfOk};
 ghost use Rattle.cl_model.specs.declared.group.Group.{Group};
 ghost use Rattle.cl_runs.specs.TaskTiming.{System};
@@ -16,16 +17,18 @@ pub(crate) struct Rear {
     pub(crate) pieces: List<u32>,
 }
 
-/// The first piece of a cut of a rear part: how many groups it has beside its first, and the cost of the cut.
+/// The first piece of a cut of a rear part: how many groups it has after its first, and the cost of
+/// the cut.
 #[derive(Clone, Copy)]
 struct Front {
     size: usize,
     cost: u64,
 }
 
-/// The first piece of a best cut, from the values of the pieces that begin where it does and the best cuts of the rear
-/// parts behind them. Of equals it is the one with no piece behind it, or else the shortest: its list of first groups
-/// is the least.
+/// Finds the first piece of the best cut of a rear part, from the values of the pieces that begin
+/// with its first group and the best cuts of the rear parts behind it. Among equal costs it takes
+/// the piece with no piece behind it, or else the shortest one, so that the list of first groups is
+/// the least.
 fn best_front(values: &[u64], rears: &[Rear]) -> Front
     requires as_many { length values.now ≡ length rears.now + 1 }
     requires values { AreSome values.now }
@@ -42,7 +45,7 @@ fn best_front(values: &[u64], rears: &[Rear]) -> Front
         cost: values[last],
     };
     for size in 0..last {
-        // where the sum doesn't fit, it isn't less than what is best
+        // where the sum overflows, it isn't less than the best cost so far
         let cost = values[size].saturating_add(rears[last - 1 - size].cost - 1);
         if cost < best.cost {
             best = Front { size, cost };
@@ -51,7 +54,7 @@ fn best_front(values: &[u64], rears: &[Rear]) -> Front
     best
 }
 
-/// A number before others.
+/// Lists a number and others after it.
 fn joined(alloc: Global, first: u32, others: &[u32]) -> Result<List<u32>, NoMemory>
     ensures { IfOk result (λ list. list ≡ first ∷ others.now) }
 {
@@ -63,7 +66,7 @@ fn joined(alloc: Global, first: u32, others: &[u32]) -> Result<List<u32>, NoMemo
     Ok(list)
 }
 
-/// The first groups of the pieces of a cut of a rear part, from the size of its first piece.
+/// Lists the first groups of the pieces of a cut of a rear part, from the size of its first piece.
 fn pieces_behind(
     alloc: Global,
     first: u32,
@@ -83,8 +86,9 @@ fn pieces_behind(
     }
 }
 
-/// The best cut of the rear part from a group on, from the values of the pieces that begin with it and the best cuts of
-/// the rear parts behind it, the last of them first.
+/// Finds the best cut of the rear part that begins with group `first`. `values` are those of the
+/// pieces that begin with this group, and `rears` the best cuts of all shorter rear parts, both
+/// from the shortest on.
 pub(crate) fn best_from(
     alloc: Global,
     first: u32,
@@ -95,7 +99,8 @@ pub(crate) fn best_from(
     requires values { AreSome values.now }
     requires costs { CostSome rears.now }
     ensures some { IfOk result (λ rear. 1 ≤ rear.cost) }
-    ensures best { IfOk result (λ rear. (system : System) (groups : List Group) → ArePositive system groups
+    ensures best { IfOk result
+        (λ rear. (system : System) (groups : List Group) → ArePositive system groups
         → AreValuesFrom system groups first values.now → AreRears system groups rears.now
         → IsBestCutFrom system groups first rear.pieces rear.cost) }
 {

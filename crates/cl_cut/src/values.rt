@@ -11,8 +11,9 @@ use cl_time::{NoMemory, Steps};
 use std::alloc::Global;
 use std::sync::ledger::Ledger;
 
-/// The values of the pieces that begin with a group of a chain, from the shortest on: the exact reaction of each where it
-/// has one, else the bound on it.
+/// Finds the values of the pieces that begin with group `first` of a chain, the shortest piece
+/// first: the exact reaction of a piece where it has one, and else the bound on its reaction.
+/// Counts two steps.
 pub(crate) fn values_from<L: Ledger>(
     alloc: Global,
     model: &ValidModel,
@@ -24,7 +25,8 @@ pub(crate) fn values_from<L: Ledger>(
     requires first { first < length groups.now }
     requires groups { AreSettledGroups model.now groups.now }
     requires answers { settled.now ≡ answers_of (system_of model.now) }
-    ensures { IfOk result (λ values. AreValuesFrom (system_of model.now) groups.now first values.items) }
+    ensures { IfOk result
+        (λ values. AreValuesFrom (system_of model.now) groups.now first values.items) }
 {
     let rear = &groups[first..];
     let exact = exact_reactions(model, rear, steps);

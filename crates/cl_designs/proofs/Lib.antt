@@ -1,2 +1,3 @@
 pub mod DesignLines
 pub mod OneText
+pub mod SafeTexts

@@ -5,9 +5,11 @@ use Rattle.cl_text.specs.Line.{line}
 use Rattle.cl_model.specs.declared.model.SystemModel.{SystemModel}
 use Rattle.cl_model.specs.ByNumber.{task_at}
 use Rattle.cl_model.specs.Named.{core_names}
+use Rattle.cl_runs.specs.Requirements.{MeetsDeadlines}
 use Rattle.cl_tune.specs.declared.answer.OrderAnswer.{OrderAnswer}
 use Rattle.cl_tune.specs.declared.answer.OrderAnswer.TheVariants.{Order, NoOrder}
 use Rattle.cl_tune.specs.BestOrders.{IsOrderAnswer}
+use Rattle.cl_tune.specs.Priorities.{with_priorities}
 
 -- the line of a task
 unfoldable pub priority_line : SystemModel → (priorities : List ℕ) → (task : ℕ) → List ℕ
@@ -36,3 +38,16 @@ pub record IsOrderTextOf (model : SystemModel) (text : List ℕ) : Type 0 where
   pub answer : OrderAnswer
   pub is : IsOrderAnswer model answer
   pub printed : text ≡ order_text model answer
+
+-- ---- what is promised
+
+-- the deadlines of a model with these priorities are met in every legal run, of any length; of no order nothing is said
+abbrev pub OrderIsSafe : SystemModel → OrderAnswer → Type 0
+OrderIsSafe model (Order priorities) = MeetsDeadlines (with_priorities model (slice_index priorities))
+OrderIsSafe model (NoOrder core) = Unit {0}
+
+-- The text has the best priorities of the model, with which all deadlines are met in every legal run, or a core that has
+-- none. It promises nothing of requirements.
+pub record IsSafeOrderText (model : SystemModel) (text : List ℕ) : Type 0 where
+  pub order : IsOrderTextOf model text
+  pub in_time : OrderIsSafe model order.answer

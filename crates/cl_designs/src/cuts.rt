@@ -1,4 +1,4 @@
-//! The best cuts of the chains, as text. Times are in ticks.
+//! The text of the best cuts of all chains. Times are in ticks.
 ghost use Rattle.std.specs.Prelude.{◌≡◌, ℕ, ◌<◌, ◌++◌, length, OnOk, IfOk};
 ghost use Rattle.std.specs.List.{flat_map, range_with_len};
 ghost use Rattle.cl_cut.specs.declared.answer.CutAnswer.TheVariants.{Late};
@@ -14,12 +14,14 @@ use cl_time::{NoMemory, Steps};
 use std::alloc::Global;
 use std::sync::ledger::Ledger;
 
-/// The best cut of each chain, as text: a title, and a line for each chain in file order. The line has the cost of the
-/// cut in ticks, which bounds the reaction of the chain, and the number of the first group of each piece, counted from
-/// 0; or the name of the first late task along the steps of the chain.
+/// Makes the text of the best cuts: a title, and a line for each chain in file order. The line has
+/// the name of the chain, the cost of its best cut in ticks, which bounds the reaction of the
+/// chain, and the number of the first group of each piece, counted from 0. Where a task of the
+/// chain is late, the line has in place of these numbers the name of the first late task along the
+/// steps of the chain.
 ///
-/// It analyses the model first. `NoMemory` comes where there is no memory for what is found, for the cuts or for the
-/// text; it leaves nothing.
+/// The model is analysed first. `NoMemory` comes where there is no memory for the findings, for the
+/// cuts or for the text; it leaves nothing.
 pub fn cut_text<L: Ledger>(
     alloc: Global,
     model: &ValidModel,
@@ -32,7 +34,7 @@ pub fn cut_text<L: Ledger>(
     text_of(alloc, model, answers.as_slice())
 }
 
-/// The text of the answers for all chains.
+/// Makes the text of the answers for all chains.
 fn text_of(alloc: Global, model: &ValidModel, answers: &[CutAnswer]) -> Result<Text, NoMemory>
     requires { AreCutAnswers model.now answers.now }
     ensures { IfOk result (λ text. text ≡ cut_text model.now answers.now) }
@@ -72,7 +74,7 @@ fn put_chain(
     text.put(b"\n")
 }
 
-/// Puts what is answered of a chain.
+/// Puts the answer for a chain.
 fn put_cut(text: &mut Text, model: &ValidModel, answer: &CutAnswer) -> Result<(), NoMemory>
     requires { (late : ℕ) → answer.now ≡ Late late → late < length model.now.tasks }
     ensures { OnOk result (text.new ≡ text.old ++ cut_words model.now answer.now) }

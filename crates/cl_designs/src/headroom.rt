@@ -1,4 +1,4 @@
-//! How far execution times may grow, as text.
+//! The text of the headroom of a model.
 ghost use Rattle.std.specs.Prelude.{◌≡◌, ◌++◌, Some, OnOk, IfOk};
 ghost use Rattle.cl_designs.specs.Headroom.{percent_line, headroom_text, IsHeadroomTextOf};
 
@@ -9,12 +9,15 @@ use cl_tune::headroom;
 use std::alloc::Global;
 use std::sync::ledger::Ledger;
 
-/// How far the greatest execution times may grow, as text: a title, and a line with the greatest percentage, from 1 to
-/// 1,000, by which they may be scaled so that the model stays in range, no task is late and each requirement is met.
-/// The line is `none` where 1 percent doesn't keep that.
+/// Makes the text of the headroom of a model: a title, and a line with the greatest percentage,
+/// from 1 to 1,000, by which all greatest execution times may be scaled so that the model stays in
+/// range, no task is late and each requirement is met. The line is `none` where 1 percent doesn't
+/// keep that.
 ///
-/// It analyses ten copies of the model or so. `NoMemory` comes where there is no memory for a copy, for what is found
-/// of it or for the text; it leaves nothing.
+/// The tasks are asked for at most ten percentages. Where there are requirements, a copy of the
+/// model is analysed for each of these that leaves no task late. `NoMemory` comes where there is no
+/// memory for the questions of the tasks, for a copy, for its findings or for the text; it leaves
+/// nothing.
 pub fn headroom_text<L: Ledger>(
     alloc: Global,
     model: &ValidModel,
@@ -26,7 +29,7 @@ pub fn headroom_text<L: Ledger>(
     text_of(alloc, percent)
 }
 
-/// The text of an answer.
+/// Makes the text of an answer.
 fn text_of(alloc: Global, percent: Option<u64>) -> Result<Text, NoMemory>
     ensures { IfOk result (λ text. text ≡ headroom_text percent) }
 {

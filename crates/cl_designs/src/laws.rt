@@ -1,28 +1,47 @@
-//! A model has one text of its cuts, one of its orders and one of its headroom.
+//! The texts of the best cuts, the best orders and the headroom of a model are unique, and what
+//! the latter two promise of every legal run.
 ghost use Rattle.std.specs.Prelude.{◌≡◌, ℕ, List};
 ghost use Rattle.cl_model.specs.declared.model.SystemModel.{SystemModel};
 ghost use Rattle.cl_model.specs.Validity.{IsValid};
 ghost use Rattle.cl_designs.specs.Cuts.{IsCutTextOf};
-ghost use Rattle.cl_designs.specs.Headroom.{IsHeadroomTextOf};
-ghost use Rattle.cl_designs.specs.Orders.{IsOrderTextOf};
+ghost use Rattle.cl_designs.specs.Headroom.{IsHeadroomTextOf, IsSafeHeadroomText};
+ghost use Rattle.cl_designs.specs.Orders.{IsOrderTextOf, IsSafeOrderText};
 
-/// A valid model has a text of its best cuts, and a model has but one.
+/// A valid model has a text of its best cuts, and each model has at most one.
 pub fn cut_texts_are_unique()
-    ensures some { (model : SystemModel) → IsValid model → (text : List ℕ) × IsCutTextOf model text }
-    ensures one { (model : SystemModel) → (one other : List ℕ) → IsCutTextOf model one → IsCutTextOf model other
+    ensures some { (model : SystemModel) → IsValid model
+        → (text : List ℕ) × IsCutTextOf model text }
+    ensures one { (model : SystemModel) → (one other : List ℕ) → IsCutTextOf model one
+        → IsCutTextOf model other
         → one ≡ other }
 {}
 
-/// A valid model has a text of its best orders, and but one.
+/// A valid model has exactly one text of its best orders.
 pub fn order_texts_are_unique()
-    ensures some { (model : SystemModel) → IsValid model → (text : List ℕ) × IsOrderTextOf model text }
+    ensures some { (model : SystemModel) → IsValid model
+        → (text : List ℕ) × IsOrderTextOf model text }
     ensures one { (model : SystemModel) → IsValid model → (one other : List ℕ)
         → IsOrderTextOf model one → IsOrderTextOf model other → one ≡ other }
 {}
 
-/// A valid model has a text of its headroom, and but one.
+/// A valid model has exactly one text of its headroom.
 pub fn headroom_texts_are_unique()
-    ensures some { (model : SystemModel) → IsValid model → (text : List ℕ) × IsHeadroomTextOf model text }
+    ensures some { (model : SystemModel) → IsValid model
+        → (text : List ℕ) × IsHeadroomTextOf model text }
     ensures one { (model : SystemModel) → IsValid model → (one other : List ℕ)
         → IsHeadroomTextOf model one → IsHeadroomTextOf model other → one ≡ other }
+{}
+
+/// With the priorities that the text of a valid model's orders has, all deadlines are met in every
+/// legal run.
+pub fn order_texts_are_safe()
+    ensures { (model : SystemModel) → IsValid model → (text : List ℕ) → IsOrderTextOf model text
+        → IsSafeOrderText model text }
+{}
+
+/// At the percentage that the text of a valid model's headroom has, the model is in time.
+pub fn headroom_texts_are_safe()
+    ensures { (model : SystemModel) → IsValid model → (text : List ℕ)
+        → IsHeadroomTextOf model text
+        → IsSafeHeadroomText model text }
 {}

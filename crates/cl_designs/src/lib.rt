@@ -1,4 +1,4 @@
-//! What is found of better designs, as text: the best cuts of the chains, the best orders of the priorities, and how
+//! Better designs as texts: the best cuts of the chains, the best orders of the priorities, and how
 //! far execution times may grow.
 #![tactic(auto)]
 

@@ -1,4 +1,4 @@
-//! The best orders of the priorities, as text.
+//! The text of the best orders of the priorities.
 ghost use Rattle.std.specs.Prelude.{◌≡◌, ◌<◌, ◌++◌, length, OnOk, IfOk};
 ghost use Rattle.cl_tune.specs.declared.answer.OrderAnswer.TheVariants.{Order};
 ghost use Rattle.cl_tune.specs.BestOrders.{IsOrderAnswer};
@@ -12,9 +12,10 @@ use cl_tune::{OrderAnswer, order};
 use std::alloc::Global;
 use std::sync::ledger::Ledger;
 
-/// The best order of the priorities on every core, as text: a title, and a line with the priority of each task in file
-/// order, where priorities count from 1 upward on each core and a greater number is a higher priority. Where no order
-/// of some core passes there is one line in place of these, with the name of the first such core in file order.
+/// Makes the text of the best order of the priorities on every core: a title, and a line with the
+/// name and the priority of each task in file order. On each core the priorities count from 1
+/// upward, and a greater number is a higher priority. Where no order of some core passes, one line
+/// stands in place of these, with the name of the first such core in file order.
 ///
 /// `NoMemory` comes where there is no memory for the orders or for the text; it leaves nothing.
 pub fn order_text<L: Ledger>(
@@ -28,7 +29,7 @@ pub fn order_text<L: Ledger>(
     text_of(alloc, model, &answer)
 }
 
-/// The text of an answer.
+/// Makes the text of an answer.
 fn text_of(alloc: Global, model: &ValidModel, answer: &OrderAnswer) -> Result<Text, NoMemory>
     requires { IsOrderAnswer model.now answer.now }
     ensures { IfOk result (λ text. text ≡ order_text model.now answer.now) }
@@ -87,7 +88,7 @@ fn put_core_name(text: &mut Text, model: &ValidModel, core: u32) -> Result<(), N
     put_name(text, &model.core(core).name)
 }
 
-/// Puts the line of a core that no order passes on.
+/// Puts the line of a core of which no order passes.
 fn put_none(text: &mut Text, model: &ValidModel, core: u32) -> Result<(), NoMemory>
     requires { core < length model.now.cores }
     ensures { OnOk result (text.new ≡ text.old ++ none_line model.now core) }

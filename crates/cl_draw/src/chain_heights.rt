@@ -1,4 +1,4 @@
-//! How high the lines of a chain stand. Heights are lengths from the top.
+//! The heights of the lines of a chain. Heights are lengths from the top.
 ghost use Rattle.std.specs.Prelude.{◌≡◌, ◌<◌, ◌≤◌, ◌^◌, length};
 ghost use Rattle.cl_draw.specs.ChainLines.{middle_of, line_of, line_at, half_of, leave};
 ghost use Rattle.cl_draw.specs.Inner.Heights.{ArePlaces};
@@ -7,7 +7,7 @@ use crate::places::Places;
 use crate::stops::Stop;
 use cl_model::ValidModel;
 
-/// The line of a chain of a colour in a row with this middle.
+/// Returns the height of the line of a chain of this colour, in a row with this middle.
 pub(crate) fn line_of(colour: u64, middle: u64) -> u64
     requires { middle ≤ 10 ^ 13 }
     ensures { result ≡ line_of colour middle }
@@ -23,7 +23,7 @@ pub(crate) fn line_of(colour: u64, middle: u64) -> u64
     }
 }
 
-/// The middle of the row of a stop.
+/// Returns the height of the middle of the row of a stop.
 pub(crate) fn middle_of(model: &ValidModel, places: &Places, stop: &Stop) -> u64
     requires places { ArePlaces model.now places.now }
     requires known { stop.now.task < length model.now.tasks }
@@ -33,7 +33,7 @@ pub(crate) fn middle_of(model: &ValidModel, places: &Places, stop: &Stop) -> u64
     places.row(model, stop.task) + 180
 }
 
-/// The line of a chain in the row of a stop.
+/// Returns the height of the line of a chain of this colour, in the row of a stop.
 pub(crate) fn line_at(model: &ValidModel, places: &Places, colour: u64, stop: &Stop) -> u64
     requires places { ArePlaces model.now places.now }
     requires known { stop.now.task < length model.now.tasks }
@@ -42,7 +42,7 @@ pub(crate) fn line_at(model: &ValidModel, places: &Places, colour: u64, stop: &S
     line_of(colour, middle_of(model, places, stop))
 }
 
-/// Half the height of the frame round a job.
+/// Returns half the height of the frame around a job, for a chain of this colour.
 pub(crate) fn half_of(colour: u64) -> u64
     requires { colour < 4 }
     ensures { result ≡ half_of colour }
@@ -50,7 +50,9 @@ pub(crate) fn half_of(colour: u64) -> u64
     110 + 20 * colour
 }
 
-/// Where a chain leaves the frame of a job in a row with this middle, for a job in a row with the next.
+/// Returns the height at which a chain of this colour leaves the frame of a job in a row with this
+/// middle, for a job in a row with the middle `next`: the lower or the upper edge of the frame, or
+/// the height `line` where both jobs are in one row.
 pub(crate) fn leave(colour: u64, middle: u64, next: u64, line: u64) -> u64
     requires colour { colour < 4 }
     requires most { middle ≤ 10 ^ 13 }

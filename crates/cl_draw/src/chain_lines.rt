@@ -1,4 +1,4 @@
-//! The lines of a chain: its longest reaction, over each job that carries it.
+//! The lines of a chain: its longest reaction, along the jobs that carry it.
 ghost use Rattle.std.specs.Prelude.{◌≡◌, ◌+◌, ◌++◌, [], ◌∷◌, OnOk};
 ghost use Rattle.cl_picture.specs.Pieces.{print};
 ghost use Rattle.cl_draw.specs.ChainLines.{reaction_lines, group_line, open_lines, none_line, outside_line, shown_lines, chain_lines};
@@ -33,14 +33,16 @@ pub(crate) fn put_chain(
     requires places { ArePlaces model.now places.now }
     requires look { IsLook look }
     requires drawable { IsDrawableReaction model.now reaction.now }
-    ensures { OnOk result (text.new ≡ text.old ++ print (chain_lines model.now look name.now reaction.now)) }
+    ensures { OnOk result
+        (text.new ≡ text.old ++ print (chain_lines model.now look name.now reaction.now)) }
 {
     put_open(text, name, look)?;
     put_shown(text, model, places, look, name, reaction)?;
     put_line(text, &[Piece::Fixed(b"</g>")])
 }
 
-/// Puts the first lines of a chain.
+/// Puts the first lines of a chain: the one that opens it, and the one of its colour beside its
+/// name.
 fn put_open(text: &mut Text, name: &Name, look: Look) -> Result<(), NoMemory>
     requires { IsLook look }
     ensures { OnOk result (text.new ≡ text.old ++ print (open_lines name.now look)) }
@@ -72,7 +74,7 @@ fn put_group(text: &mut Text, name: &Name, look: Look) -> Result<(), NoMemory>
     )
 }
 
-/// Puts what is shown of a chain.
+/// Puts the lines of the longest reaction of a chain, or the line that says that there is none.
 fn put_shown(
     text: &mut Text,
     model: &ValidModel,
@@ -84,7 +86,8 @@ fn put_shown(
     requires places { ArePlaces model.now places.now }
     requires look { IsLook look }
     requires drawable { IsDrawableReaction model.now reaction.now }
-    ensures { OnOk result (text.new ≡ text.old ++ print (shown_lines model.now look name.now reaction.now)) }
+    ensures { OnOk result
+        (text.new ≡ text.old ++ print (shown_lines model.now look name.now reaction.now)) }
 {
     match reaction {
         Some(reaction) => put_reaction(text, model, places, look, name, reaction),
@@ -92,7 +95,7 @@ fn put_shown(
     }
 }
 
-/// Puts that there is no reaction.
+/// Puts the line that says that the run has no complete reaction of the chain.
 fn put_none(text: &mut Text, look: Look) -> Result<(), NoMemory>
     requires { IsLook look }
     ensures { OnOk result (text.new ≡ text.old ++ print (none_line look ∷ [])) }
@@ -107,7 +110,8 @@ fn put_none(text: &mut Text, look: Look) -> Result<(), NoMemory>
     )
 }
 
-/// Puts the lines of a reaction, by whether it lies in the window.
+/// Puts the lines of a reaction, if all of it lies in the window, or the line that says that it
+/// doesn't.
 fn put_reaction(
     text: &mut Text,
     model: &ValidModel,
@@ -119,7 +123,8 @@ fn put_reaction(
     requires places { ArePlaces model.now places.now }
     requires look { IsLook look }
     requires stops { AreStopsOf model.now reaction.now.stops }
-    ensures { OnOk result (text.new ≡ text.old ++ print (reaction_lines model.now look name.now reaction.now)) }
+    ensures { OnOk result
+        (text.new ≡ text.old ++ print (reaction_lines model.now look name.now reaction.now)) }
 {
     if look.window.from <= reaction.from && reaction.to <= look.window.to {
         put_inside(text, model, places, look, name, reaction)
@@ -128,7 +133,7 @@ fn put_reaction(
     }
 }
 
-/// Puts that a reaction isn't in the window.
+/// Puts the line that says that a reaction doesn't lie in the window: its length and its ends.
 fn put_outside(text: &mut Text, look: Look, reaction: &Reaction) -> Result<(), NoMemory>
     requires { IsLook look }
     ensures { OnOk result (text.new ≡ text.old ++ print (outside_line look reaction.now ∷ [])) }

@@ -8,7 +8,8 @@ ghost use Rattle.cl_draw.specs.Inner.Cursors.{time_at, StandsAt, FinishesJob};
 
 use crate::task_run::TaskRun;
 
-/// The runnable that a task goes on with, and how long it still takes: 0 where no job is left.
+/// The runnable of a job with which a task goes on, and how long it still executes: 0 where no job
+/// is left.
 #[derive(Clone, Copy, Debug, PartialEq, Eq)]
 pub(crate) struct Cursor {
     pub(crate) job: usize,
@@ -16,7 +17,7 @@ pub(crate) struct Cursor {
     pub(crate) left: u64,
 }
 
-/// How long a runnable of a job takes: 0 where there is none.
+/// Returns the execution time of a runnable of a job, or 0 where there is none.
 fn time_at(of: TaskRun<'_>, job: usize, place: usize) -> u64
     requires { IsTaskRun of.model.now of.run.now of.task }
     ensures { result ≡ time_at (jobs_of of.entry.run.now of.entry.task) job place }
@@ -31,7 +32,7 @@ fn time_at(of: TaskRun<'_>, job: usize, place: usize) -> u64
 }
 
 impl Cursor {
-    /// The beginning of a runnable.
+    /// Returns the cursor at the beginning of a runnable.
     fn at(of: TaskRun<'_>, job: usize, place: usize) -> Cursor
         requires { IsTaskRun of.model.now of.run.now of.task }
         ensures job { result.job ≡ job }
@@ -45,7 +46,7 @@ impl Cursor {
         }
     }
 
-    /// The beginning of the first job.
+    /// Returns the cursor at the beginning of the first job.
     pub(crate) fn start(of: TaskRun<'_>) -> Cursor
         requires { IsTaskRun of.model.now of.run.now of.task }
         ensures first { result.job ≡ 0 }
@@ -54,7 +55,8 @@ impl Cursor {
         Cursor::at(of, 0, 0)
     }
 
-    /// After so many further ticks of the runnable.
+    /// Returns the cursor after `ticks` further ticks of the runnable, which still executes at
+    /// least that long.
     pub(crate) fn after(self, of: TaskRun<'_>, ticks: u64) -> Cursor
         requires of { IsTaskRun of.model.now of.run.now of.task }
         requires some { 0 < ticks }
@@ -62,9 +64,12 @@ impl Cursor {
         requires in_table { self.job < length (jobs_of of.run.now of.task) }
         requires is_runnable { self.place < length (task_at of.model.now of.task).runnables }
         ensures stands { (tick : ℕ) → StandsAt (system_of of.entry.model.now) of.entry.run.now of.entry.task self tick
-            → executed (system_of of.entry.model.now) of.entry.run.now of.entry.task (tick + ticks) ≡ executed (system_of of.entry.model.now) of.entry.run.now of.entry.task tick + ticks
-            → StandsAt (system_of of.entry.model.now) of.entry.run.now of.entry.task result (tick + ticks) }
-        ensures finishes { result.job ≢ self.job → FinishesJob (system_of of.entry.model.now) of.entry.task self ticks result }
+            → executed (system_of of.entry.model.now) of.entry.run.now of.entry.task (tick + ticks)
+            ≡ executed (system_of of.entry.model.now) of.entry.run.now of.entry.task tick + ticks
+            → StandsAt (system_of of.entry.model.now) of.entry.run.now of.entry.task result
+            (tick + ticks) }
+        ensures finishes { result.job ≢ self.job
+            → FinishesJob (system_of of.entry.model.now) of.entry.task self ticks result }
         ensures cut { self.left ≡ ticks → result.job ≡ self.job → result.place ≢ self.place }
     {
         if ticks < self.left {

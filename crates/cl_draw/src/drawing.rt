@@ -1,4 +1,4 @@
-//! A run as a picture.
+//! The picture of a run.
 ghost use Rattle.std.specs.Prelude.{◌≡◌, ◌<◌, ◌≤◌, ◌^◌, ◌*◌, ◌++◌, [], ◌∷◌, length, All, IfOk, OnOk};
 ghost use Rattle.std.specs.List.{flat_map, range_with_len};
 ghost use Rattle.cl_model.specs.Validity.{IsValid};
@@ -27,7 +27,8 @@ use cl_text::Text;
 use cl_time::NoMemory;
 use std::alloc::Global;
 
-/// What is drawn: the rows of the tasks in a window, the reactions of the chains, and where they stand.
+/// What is drawn in a window: the rows of the tasks, the longest reactions of the chains, and the
+/// heights at which all of it stands.
 #[derive(Drop)]
 struct Drawing {
     window: Window,
@@ -36,13 +37,16 @@ struct Drawing {
     reactions: List<Option<Reaction>>,
 }
 
-/// The picture of the ticks of a run from one to another, as SVG: a row for each task, grouped by core, with a band for
-/// each job and a bar for what it executes, and a row for each chain with the run's longest reaction.
+/// Draws the ticks `from..to` of a run as SVG: a row for each task, grouped by core, with a band
+/// for each job and bars for what the task executes, and a row for each chain with its longest
+/// reaction in the run.
 ///
-/// The run is legal for the model. `NoMemory` comes where there is no memory for what is drawn or for the text; it
-/// leaves nothing. The room of the text is taken once, before any of it is written: for a run of at most 1,000,000,000
-/// ticks it is enough (`pictures_are_short`). It takes a time proportional to the jobs and stretches of the run, and for
-/// each chain to those of its groups.
+/// The run is legal for the model. `NoMemory` comes where there is no memory for what is drawn or
+/// for the text; it leaves nothing. The room of the text is taken once, before any of it is
+/// written: for a run of at most 1,000,000,000 ticks, and a model whose names are of the name
+/// grammar, it is enough (`pictures_are_short`). It takes a time proportional to the jobs and
+/// stretches of the run and, for each chain, to the stretches of the run and, for each of its
+/// groups, to the jobs of the group's task and the stretches of its core.
 pub fn draw(
     alloc: Global,
     model: &ValidModel,
@@ -63,7 +67,7 @@ pub fn draw(
     Ok(text)
 }
 
-/// What is drawn of a run in a window.
+/// Finds what is drawn of a run in a window.
 fn drawing_of(
     alloc: Global,
     model: &ValidModel,
@@ -83,7 +87,7 @@ fn drawing_of(
     })
 }
 
-/// The longest reaction of each chain.
+/// Finds the longest reaction of each chain in file order, where there is one.
 fn reactions_of(
     alloc: Global,
     model: &ValidModel,
@@ -158,10 +162,11 @@ fn put_core_head(
     )
 }
 
-/// Puts the head of the chains, where there is one.
+/// Puts the head of the chains, if the model has a chain.
 fn put_chains_head(text: &mut Text, model: &ValidModel, places: &Places) -> Result<(), NoMemory>
     requires { ArePlaces model.now places.now }
-    ensures { OnOk result (text.new ≡ text.old ++ print (chains_head model.now (length model.now.chains))) }
+    ensures { OnOk result
+        (text.new ≡ text.old ++ print (chains_head model.now (length model.now.chains))) }
 {
     if model.chains() == 0 {
         return Ok(());
@@ -176,7 +181,7 @@ fn put_chains_head(text: &mut Text, model: &ValidModel, places: &Places) -> Resu
     )
 }
 
-/// Puts the names and the grounds of all rows.
+/// Puts the names and the backgrounds of all rows.
 fn put_names(text: &mut Text, model: &ValidModel, places: &Places) -> Result<(), NoMemory>
     requires { ArePlaces model.now places.now }
     ensures { OnOk result (text.new ≡ text.old ++ print (names model.now)) }
@@ -185,10 +190,11 @@ fn put_names(text: &mut Text, model: &ValidModel, places: &Places) -> Result<(),
     put_chain_names(text, model, places)
 }
 
-/// Puts the names and the grounds of the rows of tasks.
+/// Puts the names and the backgrounds of the rows of all tasks, core by core.
 fn put_task_names(text: &mut Text, model: &ValidModel, places: &Places) -> Result<(), NoMemory>
     requires { ArePlaces model.now places.now }
-    ensures { OnOk result (text.new ≡ text.old ++ print (by_cores model.now (task_name model.now))) }
+    ensures { OnOk result
+        (text.new ≡ text.old ++ print (by_cores model.now (task_name model.now))) }
 {
     for core in 0..model.cores() {
         put_core_names(text, model, places, model.tasks_of_core(core))?;
@@ -196,7 +202,7 @@ fn put_task_names(text: &mut Text, model: &ValidModel, places: &Places) -> Resul
     Ok(())
 }
 
-/// Puts the names and the grounds of the rows of some tasks.
+/// Puts the names and the backgrounds of the rows of some tasks.
 fn put_core_names(
     text: &mut Text,
     model: &ValidModel,
@@ -205,7 +211,8 @@ fn put_core_names(
 ) -> Result<(), NoMemory>
     requires places { ArePlaces model.now places.now }
     requires known { All (λ task. task < length model.now.tasks) tasks.now }
-    ensures { OnOk result (text.new ≡ text.old ++ print (flat_map (task_name model.now) tasks.now)) }
+    ensures { OnOk result
+        (text.new ≡ text.old ++ print (flat_map (task_name model.now) tasks.now)) }
 {
     for task in tasks {
         put_task_name(text, model, places, *task)?;
@@ -213,7 +220,7 @@ fn put_core_names(
     Ok(())
 }
 
-/// Puts the name and the ground of the row of a task.
+/// Puts the name and the background of the row of a task.
 fn put_task_name(
     text: &mut Text,
     model: &ValidModel,
@@ -227,7 +234,7 @@ fn put_task_name(
     put_name(text, places.row(model, task), &model.task(task).name)
 }
 
-/// Puts the names and the grounds of the rows of chains.
+/// Puts the names and the backgrounds of the rows of all chains.
 fn put_chain_names(text: &mut Text, model: &ValidModel, places: &Places) -> Result<(), NoMemory>
     requires { ArePlaces model.now places.now }
     ensures { OnOk result (text.new ≡ text.old
@@ -239,7 +246,7 @@ fn put_chain_names(text: &mut Text, model: &ValidModel, places: &Places) -> Resu
     Ok(())
 }
 
-/// Puts the name and the ground of the row of a chain.
+/// Puts the name and the background of the row of a chain.
 fn put_chain_name(
     text: &mut Text,
     model: &ValidModel,
@@ -257,7 +264,7 @@ fn put_chain_name(
     )
 }
 
-/// Puts the name and the ground of a row from a height on.
+/// Puts the name and the background of a row that begins at the height `y`.
 fn put_name(text: &mut Text, y: u64, name: &Name) -> Result<(), NoMemory>
     requires { y ≤ 3 * 10 ^ 12 }
     ensures { OnOk result (text.new ≡ text.old ++ print (name_lines y name.now)) }
@@ -283,7 +290,7 @@ fn put_name_line(text: &mut Text, y: u64, name: &Name) -> Result<(), NoMemory>
     )
 }
 
-/// Puts the ground of a row.
+/// Puts the background of a row.
 fn put_ground(text: &mut Text, y: u64) -> Result<(), NoMemory>
     requires { y ≤ 3 * 10 ^ 12 }
     ensures { OnOk result (text.new ≡ text.old ++ print (row_ground_line y ∷ [])) }
@@ -298,7 +305,7 @@ fn put_ground(text: &mut Text, y: u64) -> Result<(), NoMemory>
     )
 }
 
-/// Puts the rows of the tasks.
+/// Puts the rows of all tasks, core by core.
 fn put_rows(
     alloc: Global,
     text: &mut Text,
@@ -359,7 +366,7 @@ fn put_task_row(
     put_row(alloc, text, drawing.window, of, y, row)
 }
 
-/// Puts the rows of the chains.
+/// Puts the rows of all chains.
 fn put_chains(text: &mut Text, model: &ValidModel, drawing: &Drawing) -> Result<(), NoMemory>
     requires { (run : Run) × IsDrawing model.now run drawing.now }
     ensures { OnOk result (text.new ≡ text.old

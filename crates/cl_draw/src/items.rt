@@ -1,4 +1,5 @@
-//! The items of a row: the parts of what a task executes, and the bands of its jobs. Times are in ticks.
+//! The items of a row: the parts of what a task executes, and the bands of its jobs. Times are in
+//! ticks.
 ghost use Rattle.std.specs.Prelude.{◌≡◌, ◌<◌, length, map, filter, slice_get, nat_le, All, IfOk};
 ghost use Rattle.cl_model.specs.ByNumber.{task_at, deadline_of};
 ghost use Rattle.cl_runs.specs.Run.{jobs_of};
@@ -16,7 +17,7 @@ use cl_picture::{Item, Rest, Window};
 use cl_time::NoMemory;
 use std::alloc::Global;
 
-/// Whether a part begins when its job is due, or later.
+/// Checks whether a part begins at the moment at which its job is due, or later.
 fn is_past(of: TaskRun<'_>, part: &Part) -> bool
     requires of { IsTaskRun of.model.now of.run.now of.task }
     requires part { IsPartOf of.model.now of.run.now of.task part.now }
@@ -28,7 +29,7 @@ fn is_past(of: TaskRun<'_>, part: &Part) -> bool
     }
 }
 
-/// Whether a part executes a runnable that is whole.
+/// Checks whether a part executes a whole runnable.
 fn is_whole(of: TaskRun<'_>, part: &Part) -> bool
     requires of { IsTaskRun of.model.now of.run.now of.task }
     requires part { IsPartOf of.model.now of.run.now of.task part.now }
@@ -37,7 +38,8 @@ fn is_whole(of: TaskRun<'_>, part: &Part) -> bool
     of.runnables()[part.place].whole
 }
 
-/// The class that a part is drawn in: 2 past its deadline, and else 1 in a runnable that is whole.
+/// Returns the class in which a part is drawn: 2 where it is past the deadline of its job, else 1
+/// in a whole runnable, and else 0.
 fn part_kind(of: TaskRun<'_>, part: &Part) -> u8
     requires of { IsTaskRun of.model.now of.run.now of.task }
     requires part { IsPartOf of.model.now of.run.now of.task part.now }
@@ -53,7 +55,7 @@ fn part_kind(of: TaskRun<'_>, part: &Part) -> u8
     }
 }
 
-/// The item of a part, if it shares a tick with the window.
+/// Returns the item of a part, if it shares a tick with the window.
 fn part_in(window: Window, of: TaskRun<'_>, part: &Part) -> Option<Item>
     requires of { IsTaskRun of.model.now of.run.now of.task }
     requires part { IsPartOf of.model.now of.run.now of.task part.now }
@@ -74,7 +76,7 @@ fn part_in(window: Window, of: TaskRun<'_>, part: &Part) -> Option<Item>
     }
 }
 
-/// The items of the parts that share a tick with the window.
+/// Collects the items of the parts that share a tick with the window, in order.
 pub(crate) fn part_items(
     alloc: Global,
     window: Window,
@@ -93,15 +95,15 @@ pub(crate) fn part_items(
     Ok(items)
 }
 
-/// The finish of a job.
+/// Returns the finish of a job, if it finishes.
 fn finish_at(finishes: &[u64], job: usize) -> Option<u64>
     ensures { result ≡ slice_get finishes.now job }
 {
     finishes.get(job).copied()
 }
 
-/// The band of a job, if it shares a tick with the window: from its release to its finish, or to the end of the run where
-/// it doesn't finish.
+/// Returns the band of a job, if it shares a tick with the window. It lasts from the release of the
+/// job to its finish, or to the end of the run where it doesn't finish.
 fn band_in(window: Window, of: TaskRun<'_>, finishes: &[u64], job: usize) -> Option<Item>
     requires window { IsPictureWindow window }
     requires of { IsTaskRun of.model.now of.run.now of.task }
@@ -128,7 +130,7 @@ fn band_in(window: Window, of: TaskRun<'_>, finishes: &[u64], job: usize) -> Opt
     }
 }
 
-/// The bands of the jobs that share a tick with the window.
+/// Collects the bands of jobs that share a tick with the window, in order.
 pub(crate) fn bands_in(
     alloc: Global,
     window: Window,

@@ -1,4 +1,4 @@
-//! What is known of pictures, whatever the code does.
+//! What holds of pictures by their definitions alone.
 pub mod pictures;
 pub mod rows;
 pub mod texts;

@@ -1,8 +1,9 @@
-//! A run as a picture: what its rows and its chains show in a window of its ticks.
+//! The picture of a run: what its tasks and its chains do in a window of its ticks.
 //!
-//! `draw(alloc, model, run, from, to)` gives the text of the picture of the ticks from one to another: of a legal run of
-//! a valid model, where `from < to`, `to` is at most the run's ticks, and at most 1,000,000,000 (`MOST_WINDOW`). The text
-//! is one that `IsPictureOf model run from to` (`specs/Picture.antt`): the print of the elements of `picture`.
+//! `draw(alloc, model, run, from, to)` draws the ticks `from..to` of a legal run of a valid model,
+//! where `from < to`, and `to` is at most the number of ticks of the run and at most 1,000,000,000
+//! (`MOST_WINDOW`). For its text `IsPictureOf model run from to` holds (`specs/Picture.antt`): it
+//! is the print of the elements of `picture`.
 #![tactic(auto)]
 
 mod chain_heights;

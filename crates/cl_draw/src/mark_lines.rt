@@ -21,7 +21,7 @@ pub(crate) fn put_marks(text: &mut Text, window: Window, marks: &Marks) -> Resul
     put_labels(text, window, marks.arrivals.as_slice())
 }
 
-/// Puts the line of the waits.
+/// Puts the line of the waits of jobs for their release.
 fn put_waits(text: &mut Text, window: Window, waits: &[Span]) -> Result<(), NoMemory>
     requires { IsPictureWindow window }
     ensures { OnOk result (text.new ≡ text.old ++ print (waits_line window waits.now ∷ [])) }
@@ -104,7 +104,7 @@ fn put_due(text: &mut Text, window: Window, due: u64) -> Result<(), NoMemory>
     )
 }
 
-/// Whether there is room for the number of the job of an arrival, before the next one.
+/// Checks whether there is room for the number of the job of an arrival before the next arrival.
 fn has_room(window: Window, arrivals: &[Arrival], k: usize) -> bool
     requires window { IsPictureWindow window }
     requires within { k < length arrivals.now }
@@ -117,7 +117,7 @@ fn has_room(window: Window, arrivals: &[Arrival], k: usize) -> bool
     }
 }
 
-/// Puts the numbers of the jobs of the arrivals, where there is room for them.
+/// Puts the numbers of the jobs of all arrivals for which there is room.
 fn put_labels(text: &mut Text, window: Window, arrivals: &[Arrival]) -> Result<(), NoMemory>
     requires { IsPictureWindow window }
     ensures { OnOk result (text.new ≡ text.old ++ print (labels window arrivals.now)) }
@@ -128,7 +128,7 @@ fn put_labels(text: &mut Text, window: Window, arrivals: &[Arrival]) -> Result<(
     Ok(())
 }
 
-/// Puts the number of the job of an arrival, where there is room for it.
+/// Puts the number of the job of an arrival, if there is room for it.
 fn put_label_at(
     text: &mut Text,
     window: Window,

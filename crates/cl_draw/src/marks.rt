@@ -15,7 +15,7 @@ use cl_runs::Job;
 use cl_time::NoMemory;
 use std::alloc::Global;
 
-/// The most arrivals of a row that has marks.
+/// The greatest number of arrivals in the window for which a row has marks.
 pub const MOST_ARRIVALS: usize = 120;
 
 /// The arrival of a job.
@@ -26,18 +26,19 @@ pub struct Arrival {
     pub tick: u64,
 }
 
-/// The marks of a row.
+/// The marks of a row, each kind in the order of the jobs.
 #[derive(Debug, Drop)]
 pub struct Marks {
-    /// The arrivals.
+    /// The arrivals in the window.
     pub arrivals: List<Arrival>,
-    /// When jobs are due.
+    /// The moments in the window at which jobs are due.
     pub dues: List<u64>,
-    /// Jobs that are released after their arrival, each from its arrival to its release.
+    /// The waits that share a tick with the window: of each job that is released after its arrival,
+    /// from its arrival to its release.
     pub waits: List<Span>,
 }
 
-/// The arrival of a job, if it is inside.
+/// Returns the arrival of a job, if it lies in the window.
 fn arrival_in(window: Window, jobs: &[Job], job: usize) -> Option<Arrival>
     requires { job < length jobs.now }
     ensures { result ≡ passing (is_seen window) (arrival_of jobs.now job) }
@@ -53,7 +54,7 @@ fn arrival_in(window: Window, jobs: &[Job], job: usize) -> Option<Arrival>
     }
 }
 
-/// The arrivals that are inside.
+/// Collects the arrivals that lie in the window.
 fn arrivals_in(alloc: Global, window: Window, jobs: &[Job]) -> Result<List<Arrival>, NoMemory>
     ensures { IfOk result (λ found. found ≡ arrivals window jobs.now) }
 {
@@ -64,7 +65,7 @@ fn arrivals_in(alloc: Global, window: Window, jobs: &[Job]) -> Result<List<Arriv
     Ok(found)
 }
 
-/// When a job is due, if that is inside.
+/// Returns when a job is due, if that lies in the window.
 fn due_in(window: Window, job: &Job, deadline: u64) -> Option<u64>
     requires { IsPictureWindow window }
     ensures { result ≡ passing (is_inside window) (due_of deadline job.now) }
@@ -77,7 +78,7 @@ fn due_in(window: Window, job: &Job, deadline: u64) -> Option<u64>
     }
 }
 
-/// The deadlines that are inside.
+/// Collects the moments in the window at which jobs are due.
 fn dues_in(
     alloc: Global,
     window: Window,
@@ -94,7 +95,8 @@ fn dues_in(
     Ok(found)
 }
 
-/// From the arrival of a job to its release, if it waits inside.
+/// Returns the wait of a job from its arrival to its release, if it waits at all and shares a tick
+/// with the window.
 fn wait_in(window: Window, job: &Job) -> Option<Span>
     ensures { result ≡ passing (is_wait window) (wait_of job.now) }
 {
@@ -109,7 +111,7 @@ fn wait_in(window: Window, job: &Job) -> Option<Span>
     }
 }
 
-/// The waits of jobs.
+/// Collects the waits of jobs that share a tick with the window.
 fn waits_in(alloc: Global, window: Window, jobs: &[Job]) -> Result<List<Span>, NoMemory>
     ensures { IfOk result (λ found. found ≡ waits window jobs.now) }
 {
@@ -120,7 +122,7 @@ fn waits_in(alloc: Global, window: Window, jobs: &[Job]) -> Result<List<Span>, N
     Ok(found)
 }
 
-/// No marks.
+/// Returns empty lists of marks.
 fn no_marks(alloc: Global) -> Marks
     ensures { result ≡ no_marks }
 {
@@ -131,11 +133,13 @@ fn no_marks(alloc: Global) -> Marks
     }
 }
 
-/// The marks of a task's row: none where there are more arrivals than can be told apart.
+/// Finds the marks of a task's row. It has none where more than `MOST_ARRIVALS` arrivals lie in the
+/// window.
 pub(crate) fn marks_of(alloc: Global, window: Window, of: TaskRun<'_>) -> Result<Marks, NoMemory>
     requires window { IsPictureWindow window }
     requires of { IsTaskRun of.model.now of.run.now of.task }
-    ensures { IfOk result (λ marks. marks ≡ marks_of window (jobs_of of.entry.run.now of.entry.task) (deadline_of of.entry.model.now of.entry.task)) }
+    ensures { IfOk result
+        (λ marks. marks ≡ marks_of window (jobs_of of.entry.run.now of.entry.task) (deadline_of of.entry.model.now of.entry.task)) }
 {
     let jobs = of.jobs();
     let arrivals = arrivals_in(alloc, window, jobs)?;

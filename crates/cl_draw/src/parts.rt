@@ -18,7 +18,8 @@ use cl_model::List;
 use cl_time::NoMemory;
 use std::alloc::Global;
 
-/// A part of a stretch of a task: some ticks of one runnable of one job, on one side of the job's deadline.
+/// A part of a stretch of a task: some ticks of one runnable of one job, on one side of the job's
+/// deadline.
 #[derive(Clone, Copy, Debug, PartialEq, Eq)]
 pub struct Part {
     /// The job, counted from 0.
@@ -29,14 +30,14 @@ pub struct Part {
     pub to: u64,
 }
 
-/// What a task executes, and when each of its jobs that finish does.
+/// What a task executes, as parts in order, and when its jobs finish, in order of the jobs that do.
 #[derive(Debug, Drop)]
 pub(crate) struct Work {
     pub(crate) parts: List<Part>,
     pub(crate) finishes: List<u64>,
 }
 
-/// When a job is due, or the greatest number of 64 bits where that is later.
+/// Returns when a job is due, or the greatest number of 64 bits where that is later.
 pub(crate) fn due_of(of: TaskRun<'_>, job: usize) -> u64
     requires of { IsTaskRun of.model.now of.run.now of.task }
     requires in_table { job < length (jobs_of of.run.now of.task) }
@@ -45,7 +46,9 @@ pub(crate) fn due_of(of: TaskRun<'_>, job: usize) -> u64
     of.jobs()[job].arrival.saturating_add(of.deadline())
 }
 
-/// Where a part ends that may take so many ticks of what is left of a span: at its job's deadline, if that lies between.
+/// Returns where a part ends that begins at `from`: where the `left` ticks of its runnable are
+/// executed or at the end of the span, whichever is earlier, but at the job's deadline `due` if
+/// that lies between.
 fn part_end(due: u64, left: u64, from: u64, end: u64) -> u64
     requires { from < end }
     ensures { result ≡ part_end due left from end }
@@ -54,9 +57,10 @@ fn part_end(due: u64, left: u64, from: u64, end: u64) -> u64
     if from < due && due < to { due } else { to }
 }
 
-/// The finish of the job of a cursor, where the next cursor stands in another job.
+/// Returns the finish of the job of a cursor, `to`, if the next cursor stands in another job.
 fn finish_between(cursor: Cursor, next: Cursor, to: u64) -> Option<u64>
-    ensures { MatchOption result (next.job ≡ cursor.job) (λ finish. (finish ≡ to) × (next.job ≢ cursor.job)) }
+    ensures { MatchOption result (next.job ≡ cursor.job)
+        (λ finish. (finish ≡ to) × (next.job ≢ cursor.job)) }
 {
     if next.job == cursor.job {
         None
@@ -65,7 +69,8 @@ fn finish_between(cursor: Cursor, next: Cursor, to: u64) -> Option<u64>
     }
 }
 
-/// Puts the first part of what is left of a span, and says where it ends.
+/// Puts the first part of the rest of a span, from `from` to `end`, and returns where it ends. The
+/// cursor moves there.
 fn put_part(
     work: &mut Work,
     cursor: &mut Cursor,
@@ -79,7 +84,8 @@ fn put_part(
     requires some { from < end }
     requires by_end { end ≤ of.run.now.table.ticks }
     requires runs { RunsFrom (system_of of.model.now) of.run.now of.task from end }
-    ensures { IfOk result (IsFurther (system_of of.entry.model.now) of.entry.run.now of.entry.task from end work.new cursor.new) }
+    ensures { IfOk result
+        (IsFurther (system_of of.entry.model.now) of.entry.run.now of.entry.task from end work.new cursor.new) }
 {
     let to = part_end(due_of(of, cursor.job), cursor.left, from, end);
     let next = cursor.after(of, to - from);
@@ -94,7 +100,7 @@ fn put_part(
     Ok(to)
 }
 
-/// Puts the parts of a span.
+/// Puts the parts of a span. The cursor moves to its end.
 fn put_span(
     work: &mut Work,
     cursor: &mut Cursor,
@@ -107,7 +113,8 @@ fn put_span(
     requires some { span.from < span.to }
     requires by_end { span.to ≤ of.run.now.table.ticks }
     requires runs { RunsFrom (system_of of.model.now) of.run.now of.task span.from span.to }
-    ensures { OnOk result (IsWorkAt (system_of of.entry.model.now) of.entry.run.now of.entry.task work.new cursor.new span.to) }
+    ensures { OnOk result
+        (IsWorkAt (system_of of.entry.model.now) of.entry.run.now of.entry.task work.new cursor.new span.to) }
 {
     let mut from = span.from;
     'parts: while from < span.to {
@@ -116,12 +123,14 @@ fn put_span(
     Ok(())
 }
 
-/// What a task executes in its spans.
+/// Finds what a task executes in its spans, and when its jobs finish.
 pub(crate) fn work_of(alloc: Global, of: TaskRun<'_>, spans: &[Span]) -> Result<Work, NoMemory>
     requires of { IsTaskRun of.model.now of.run.now of.task }
     requires spans { AreSpans (core_entries of.run.now (timing_at (system_of of.model.now) of.task).core) of.task spans.now }
-    ensures parts { IfOk result (λ work. AreParts (system_of of.entry.model.now) of.entry.run.now of.entry.task work.parts) }
-    ensures finishes { IfOk result (λ work. AreFinishes (system_of of.entry.model.now) of.entry.run.now of.entry.task work.finishes) }
+    ensures parts { IfOk result
+        (λ work. AreParts (system_of of.entry.model.now) of.entry.run.now of.entry.task work.parts) }
+    ensures finishes { IfOk result
+        (λ work. AreFinishes (system_of of.entry.model.now) of.entry.run.now of.entry.task work.finishes) }
 {
     let mut work = Work {
         parts: List::new(alloc),

@@ -1,4 +1,4 @@
-//! How high the heads and the rows of a picture stand. Heights are lengths from the top.
+//! The heights of the heads and the rows of a picture. Heights are lengths from the top.
 ghost use Rattle.std.specs.Prelude.{◌≡◌, ◌+◌, ◌*◌, ◌<◌, ◌≤◌, ◌^◌, length, map, All, IfOk};
 ghost use Rattle.cl_draw.specs.Places.{core_top, row_top, chain_top, bottom};
 ghost use Rattle.cl_draw.specs.Inner.Heights.{ArePlaces, AreCoreTops, AreRowTops};
@@ -7,28 +7,30 @@ use cl_model::{List, ValidModel};
 use cl_time::NoMemory;
 use std::alloc::Global;
 
-/// Where the first head begins.
+/// The height at which the first head begins.
 pub const FIRST_TOP: u64 = 380;
 
-/// How high a head is.
+/// The length of a head from its top to its bottom.
 pub const HEAD: u64 = 320;
 
-/// How high a row is.
+/// The length of a row from its top to its bottom.
 pub const ROW: u64 = 400;
 
-/// The greatest height at which something begins.
+/// The greatest height at which the head of a core or the row of a task begins, and at which the
+/// rows of the last core end.
 pub(crate) const MOST_HEIGHT: u64 = 1_000_000_000;
 
-/// Where heads and rows begin.
+/// The heights at which heads and rows begin.
 #[derive(Debug, Drop)]
 pub(crate) struct Places {
-    /// For each core its head, and one more place: behind the rows of the last core.
+    /// For each core in file order the beginning of its head, and behind these the end of the rows
+    /// of the last core.
     pub(crate) cores: List<u64>,
-    /// For each task its row.
+    /// For each task in file order the beginning of its row.
     pub(crate) tasks: List<u64>,
 }
 
-/// Where the heads of the cores begin, and where the rows of the last one end.
+/// Finds where the heads of the cores begin, and where the rows of the last core end.
 fn core_tops(alloc: Global, model: &ValidModel) -> Result<List<u64>, NoMemory>
     ensures { IfOk result (AreCoreTops model.now) }
 {
@@ -42,7 +44,7 @@ fn core_tops(alloc: Global, model: &ValidModel) -> Result<List<u64>, NoMemory>
     Ok(tops)
 }
 
-/// Where the first row of each core begins.
+/// Finds where the first row below each of these heads begins.
 fn first_rows(alloc: Global, tops: &[u64]) -> Result<Vec<u64>, NoMemory>
     requires { All (λ top. top ≤ MOST_HEIGHT) tops.now }
     ensures { IfOk result (λ rows. rows.items ≡ map (λ top. top + HEAD) tops.now) }
@@ -54,7 +56,7 @@ fn first_rows(alloc: Global, tops: &[u64]) -> Result<Vec<u64>, NoMemory>
     Ok(rows)
 }
 
-/// Where the rows of the tasks begin.
+/// Finds where the rows of the tasks begin.
 fn row_tops(alloc: Global, model: &ValidModel, tops: &[u64]) -> Result<List<u64>, NoMemory>
     requires { AreCoreTops model.now tops.now }
     ensures { IfOk result (AreRowTops model.now) }
@@ -70,7 +72,7 @@ fn row_tops(alloc: Global, model: &ValidModel, tops: &[u64]) -> Result<List<u64>
     Ok(rows)
 }
 
-/// Where all heads and rows begin.
+/// Finds where all heads and rows begin.
 pub(crate) fn places_of(alloc: Global, model: &ValidModel) -> Result<Places, NoMemory>
     ensures { IfOk result (ArePlaces model.now) }
 {
@@ -80,7 +82,7 @@ pub(crate) fn places_of(alloc: Global, model: &ValidModel) -> Result<Places, NoM
 }
 
 impl Places {
-    /// Where the row of a task begins.
+    /// Returns the height at which the row of a task begins.
     pub(crate) fn row(&self, model: &ValidModel, task: u32) -> u64
         requires places { ArePlaces model.now self.now }
         requires within { task < length model.now.tasks }
@@ -91,7 +93,8 @@ impl Places {
         self.tasks.as_slice()[task as usize]
     }
 
-    /// Where the head of a core begins; behind the last core, the head of the chains.
+    /// Returns the height at which the head of a core begins or, behind the last core, that of the
+    /// chains.
     pub(crate) fn head(&self, model: &ValidModel, core: u32) -> u64
         requires places { ArePlaces model.now self.now }
         requires within { core ≤ length model.now.cores }
@@ -101,7 +104,7 @@ impl Places {
         self.cores.as_slice()[core as usize]
     }
 
-    /// Where the row of a chain begins.
+    /// Returns the height at which the row of a chain begins.
     pub(crate) fn chain_row(&self, model: &ValidModel, chain: u32) -> u64
         requires { ArePlaces model.now self.now }
         ensures row { result ≡ chain_top model.now chain }
@@ -110,7 +113,7 @@ impl Places {
         self.head(model, model.cores()) + HEAD + ROW * u64::from(chain)
     }
 
-    /// Where the rows end.
+    /// Returns the height at which the rows end.
     pub(crate) fn bottom(&self, model: &ValidModel) -> u64
         requires { ArePlaces model.now self.now }
         ensures bottom { result ≡ bottom model.now }

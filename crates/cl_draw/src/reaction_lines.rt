@@ -1,4 +1,4 @@
-//! The lines of a reaction that lies in the window, over each job that carries it.
+//! The lines of a reaction that lies in the window, along the jobs that carry it.
 ghost use Rattle.std.specs.Prelude.{◌≡◌, ◌+◌, ◌<◌, ◌++◌, [], ◌∷◌, length, map, OnOk};
 ghost use Rattle.std.specs.List.{flat_map};
 ghost use Rattle.cl_picture.specs.Pieces.{spelled, print};
@@ -17,7 +17,7 @@ use cl_picture::{Piece, put_line, put_pieces};
 use cl_text::Text;
 use cl_time::NoMemory;
 
-/// Puts the lines of a reaction in the window.
+/// Puts the lines of a reaction that lies in the window.
 pub(crate) fn put_inside(
     text: &mut Text,
     model: &ValidModel,
@@ -29,7 +29,8 @@ pub(crate) fn put_inside(
     requires places { ArePlaces model.now places.now }
     requires look { IsLook look }
     requires stops { AreStopsOf model.now reaction.now.stops }
-    ensures { OnOk result (text.new ≡ text.old ++ print (inside_lines model.now look name.now reaction.now)) }
+    ensures { OnOk result
+        (text.new ≡ text.old ++ print (inside_lines model.now look name.now reaction.now)) }
 {
     put_title(text, model, name, reaction)?;
     put_falls(text, model, places, look, reaction)?;
@@ -64,7 +65,8 @@ fn put_title(
     reaction: &Reaction,
 ) -> Result<(), NoMemory>
     requires { AreStopsOf model.now reaction.now.stops }
-    ensures { OnOk result (text.new ≡ text.old ++ print (reaction_title_line model.now name.now reaction.now ∷ [])) }
+    ensures { OnOk result
+        (text.new ≡ text.old ++ print (reaction_title_line model.now name.now reaction.now ∷ [])) }
 {
     put_title_head(text, name, reaction)?;
     put_stops(text, model, reaction.stops.as_slice())?;
@@ -74,7 +76,8 @@ fn put_title(
 /// Puts the jobs of a reaction.
 fn put_stops(text: &mut Text, model: &ValidModel, stops: &[Stop]) -> Result<(), NoMemory>
     requires { AreStopsOf model.now stops.now }
-    ensures { OnOk result (text.new ≡ text.old ++ spelled (flat_map (stop_pieces model.now) stops.now)) }
+    ensures { OnOk result
+        (text.new ≡ text.old ++ spelled (flat_map (stop_pieces model.now) stops.now)) }
 {
     for stop in stops {
         put_stop(text, model, stop)?;
@@ -82,7 +85,7 @@ fn put_stops(text: &mut Text, model: &ValidModel, stops: &[Stop]) -> Result<(), 
     Ok(())
 }
 
-/// Puts the title of a reaction up to its jobs.
+/// Puts the line of the title of a reaction up to its jobs.
 fn put_title_head(text: &mut Text, name: &Name, reaction: &Reaction) -> Result<(), NoMemory>
     ensures { OnOk result (text.new ≡ text.old ++ spelled (title_head name.now reaction.now)) }
 {
@@ -102,7 +105,7 @@ fn put_title_head(text: &mut Text, name: &Name, reaction: &Reaction) -> Result<(
     )
 }
 
-/// Puts a job.
+/// Puts the name of a job of a reaction.
 fn put_stop(text: &mut Text, model: &ValidModel, stop: &Stop) -> Result<(), NoMemory>
     requires { stop.now.task < length model.now.tasks }
     ensures { OnOk result (text.new ≡ text.old ++ spelled (stop_pieces model.now stop.now)) }
@@ -118,7 +121,8 @@ fn put_stop(text: &mut Text, model: &ValidModel, stop: &Stop) -> Result<(), NoMe
     )
 }
 
-/// Puts the lines between the ends of a reaction and its length below.
+/// Puts the line of the two strokes between the ends of a reaction and its length in the row of the
+/// chain.
 fn put_falls(
     text: &mut Text,
     model: &ValidModel,
@@ -129,7 +133,8 @@ fn put_falls(
     requires places { ArePlaces model.now places.now }
     requires look { IsLook look }
     requires stops { AreStopsOf model.now reaction.now.stops }
-    ensures { OnOk result (text.new ≡ text.old ++ print (falls_line model.now look reaction.now ∷ [])) }
+    ensures { OnOk result
+        (text.new ≡ text.old ++ print (falls_line model.now look reaction.now ∷ [])) }
 {
     let first = line_at(model, places, look.colour, &first_stop(reaction));
     let last = line_at(model, places, look.colour, &last_stop(reaction));
@@ -164,7 +169,8 @@ fn put_frames(
     requires places { ArePlaces model.now places.now }
     requires look { IsLook look }
     requires stops { AreStopsOf model.now stops.now }
-    ensures { OnOk result (text.new ≡ text.old ++ print (map (frame_line model.now look) stops.now)) }
+    ensures { OnOk result
+        (text.new ≡ text.old ++ print (map (frame_line model.now look) stops.now)) }
 {
     for stop in stops {
         put_frame(text, model, places, look, stop)?;
@@ -172,7 +178,7 @@ fn put_frames(
     Ok(())
 }
 
-/// Puts the frame of a job, from its read to its write.
+/// Puts the frame of a job, from its read to its write, and at least one unit wide.
 fn put_frame(
     text: &mut Text,
     model: &ValidModel,
@@ -205,7 +211,7 @@ fn put_frame(
     )
 }
 
-/// Puts the input of a reaction.
+/// Puts the line of the input of a reaction.
 fn put_input(
     text: &mut Text,
     model: &ValidModel,
@@ -216,7 +222,8 @@ fn put_input(
     requires places { ArePlaces model.now places.now }
     requires look { IsLook look }
     requires stops { AreStopsOf model.now reaction.now.stops }
-    ensures { OnOk result (text.new ≡ text.old ++ print (input_line model.now look reaction.now ∷ [])) }
+    ensures { OnOk result
+        (text.new ≡ text.old ++ print (input_line model.now look reaction.now ∷ [])) }
 {
     let first = first_stop(reaction);
     put_line(
@@ -231,7 +238,7 @@ fn put_input(
     )
 }
 
-/// Puts the output of a reaction.
+/// Puts the line of the output of a reaction.
 fn put_output(
     text: &mut Text,
     model: &ValidModel,
@@ -242,7 +249,8 @@ fn put_output(
     requires places { ArePlaces model.now places.now }
     requires look { IsLook look }
     requires stops { AreStopsOf model.now reaction.now.stops }
-    ensures { OnOk result (text.new ≡ text.old ++ print (output_line model.now look reaction.now ∷ [])) }
+    ensures { OnOk result
+        (text.new ≡ text.old ++ print (output_line model.now look reaction.now ∷ [])) }
 {
     let last = last_stop(reaction);
     put_line(

@@ -14,7 +14,8 @@ use cl_picture::{Piece, put_line, put_pieces};
 use cl_text::Text;
 use cl_time::NoMemory;
 
-/// Puts the steps of a reaction, from the input over each job.
+/// Puts the line of the steps of a reaction: from the input to the read of the first job, and from
+/// the write of each job to the read of the next.
 pub(crate) fn put_steps(
     text: &mut Text,
     opening: &'static [u8],
@@ -26,7 +27,8 @@ pub(crate) fn put_steps(
     requires places { ArePlaces model.now places.now }
     requires look { IsLook look }
     requires stops { AreStopsOf model.now reaction.now.stops }
-    ensures { OnOk result (text.new ≡ text.old ++ print (steps_line model.now look opening.now reaction.now ∷ [])) }
+    ensures { OnOk result
+        (text.new ≡ text.old ++ print (steps_line model.now look opening.now reaction.now ∷ [])) }
 {
     let stops = reaction.stops.as_slice();
     put_steps_head(text, opening, model, places, look, reaction)?;
@@ -36,7 +38,7 @@ pub(crate) fn put_steps(
     put_line(text, &[Piece::Fixed(b"\"/>")])
 }
 
-/// Puts the steps of a reaction up to the read of the first job.
+/// Puts the line of the steps up to the read of the first job.
 fn put_steps_head(
     text: &mut Text,
     opening: &'static [u8],
@@ -48,7 +50,8 @@ fn put_steps_head(
     requires places { ArePlaces model.now places.now }
     requires look { IsLook look }
     requires stops { AreStopsOf model.now reaction.now.stops }
-    ensures { OnOk result (text.new ≡ text.old ++ spelled (steps_head model.now look opening.now reaction.now)) }
+    ensures { OnOk result
+        (text.new ≡ text.old ++ spelled (steps_head model.now look opening.now reaction.now)) }
 {
     let first = first_stop(reaction);
     put_pieces(
@@ -77,7 +80,8 @@ fn put_step_at(
     requires look { IsLook look }
     requires stops { AreStopsOf model.now stops.now }
     requires within { group + 1 < length stops.now }
-    ensures { OnOk result (text.new ≡ text.old ++ spelled (step_pieces_at model.now look stops.now group)) }
+    ensures { OnOk result
+        (text.new ≡ text.old ++ spelled (step_pieces_at model.now look stops.now group)) }
 {
     let stop = stop_at(stops, group);
     let next = stop_at(stops, group + 1);
@@ -97,7 +101,8 @@ fn put_step(
     requires look { IsLook look }
     requires stop { stop.now.task < length model.now.tasks }
     requires next { next.now.task < length model.now.tasks }
-    ensures { OnOk result (text.new ≡ text.old ++ spelled (step_pieces model.now look stop.now next.now)) }
+    ensures { OnOk result
+        (text.new ≡ text.old ++ spelled (step_pieces model.now look stop.now next.now)) }
 {
     let line = line_at(model, places, look.colour, next);
     let middle = middle_of(model, places, stop);

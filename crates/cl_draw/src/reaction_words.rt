@@ -1,4 +1,4 @@
-//! What is said of a reaction below its row.
+//! The words on a reaction, in the row of its chain.
 ghost use Rattle.std.specs.Prelude.{◌≡◌, ◌+◌, ◌<◌, ◌++◌, [], ◌∷◌, length, OnOk};
 ghost use Rattle.cl_picture.specs.Pieces.{spelled, print};
 ghost use Rattle.cl_draw.specs.ChainLines.{words_place, words_line, words_rest};
@@ -11,7 +11,7 @@ use cl_picture::{Piece, put_line, put_pieces};
 use cl_text::Text;
 use cl_time::NoMemory;
 
-/// Puts the words of a reaction, on the side where there is room for them.
+/// Puts the line of the words on a reaction, on the side where there is room for them.
 pub(crate) fn put_words(
     text: &mut Text,
     model: &ValidModel,
@@ -20,7 +20,8 @@ pub(crate) fn put_words(
 ) -> Result<(), NoMemory>
     requires look { IsLook look }
     requires stops { AreStopsOf model.now reaction.now.stops }
-    ensures { OnOk result (text.new ≡ text.old ++ print (words_line model.now look reaction.now ∷ [])) }
+    ensures { OnOk result
+        (text.new ≡ text.old ++ print (words_line model.now look reaction.now ∷ [])) }
 {
     let first = first_stop(reaction);
     let last = last_stop(reaction);
@@ -28,7 +29,8 @@ pub(crate) fn put_words(
     put_words_rest(text, model, look, reaction, &first, &last)
 }
 
-/// Puts the words of a reaction with these ends behind their place.
+/// Puts the words on a reaction with this first and this last stop, behind their place: its length,
+/// the job that just misses the input, and the job of the output.
 fn put_words_rest(
     text: &mut Text,
     model: &ValidModel,
@@ -40,7 +42,8 @@ fn put_words_rest(
     requires look { IsLook look }
     requires first { first.now.task < length model.now.tasks }
     requires last { last.now.task < length model.now.tasks }
-    ensures { OnOk result (text.new ≡ text.old ++ print (words_rest model.now look reaction.now first.now last.now ∷ [])) }
+    ensures { OnOk result
+        (text.new ≡ text.old ++ print (words_rest model.now look reaction.now first.now last.now ∷ [])) }
 {
     put_line(
         text,
@@ -61,7 +64,8 @@ fn put_words_rest(
     )
 }
 
-/// Puts where the words of a reaction begin, or end.
+/// Puts where the words on a reaction begin or, where there is more room on the other side, where
+/// they end.
 fn put_words_place(text: &mut Text, look: Look, reaction: &Reaction) -> Result<(), NoMemory>
     requires { IsLook look }
     ensures { OnOk result (text.new ≡ text.old ++ spelled (words_place look reaction.now)) }

@@ -15,7 +15,7 @@ use cl_run_data::RunData;
 use cl_time::NoMemory;
 use std::alloc::Global;
 
-/// The longest reaction of a chain, by the complete forward chain that was measured.
+/// Builds the longest reaction of a chain from the complete forward chain that was measured.
 fn reaction_of(
     alloc: Global,
     model: &ValidModel,
@@ -26,7 +26,8 @@ fn reaction_of(
     requires legal { IsLegal (system_of model.now) run.now }
     requires is_chain { chain < length model.now.chains }
     requires complete { IsForwardChain (run_moments (system_of model.now) run.now) (groups_at model.now chain) (job_chain_of longest.now) }
-    ensures { IfOk result (IsShown (run_moments (system_of model.now) run.now) (groups_at model.now chain) (job_chain_of longest.now)) }
+    ensures { IfOk result
+        (IsShown (run_moments (system_of model.now) run.now) (groups_at model.now chain) (job_chain_of longest.now)) }
 {
     let jobs = longest.jobs.as_slice();
     let mut stops = List::new(alloc);
@@ -41,7 +42,7 @@ fn reaction_of(
     })
 }
 
-/// The longest reaction of a chain in a run, where there is a complete one.
+/// Finds the longest reaction of a chain in a run, if the run has a complete one.
 pub(crate) fn longest_reaction(
     alloc: Global,
     model: &ValidModel,

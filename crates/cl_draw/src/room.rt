@@ -1,35 +1,37 @@
-//! How many bytes the text of a picture has at most, counted before any of it is written.
+//! A limit on the bytes of the text of a picture, found before any of it is written. It holds where
+//! the run has at most 1,000,000,000 ticks and the names of the model are of the name grammar.
 ghost use Rattle.std.specs.Prelude.{◌≡◌, ℕ, ◌*◌, ◌<◌, ◌≤◌, length};
 ghost use Rattle.cl_draw.specs.Lengths.{bars_of_task, bar_count, group_count, most_length};
 
 use crate::rows::Row;
 use cl_model::ValidModel;
 
-/// The most bytes of what stands in each picture.
+/// The greatest number of bytes of what every picture holds.
 pub const MOST_OF_PICTURE: usize = 6_000;
 
-/// The most bytes of a core.
+/// The greatest number of bytes for a core.
 pub const MOST_OF_CORE: usize = 110;
 
-/// The most bytes of a task, without its bars.
+/// The greatest number of bytes for a task, without its bars.
 pub const MOST_OF_TASK: usize = 9_400;
 
-/// The most bytes of a bar.
+/// The greatest number of bytes for a bar.
 pub const MOST_OF_BAR: usize = 280;
 
-/// The most bytes of a chain, without its groups.
+/// The greatest number of bytes for a chain, without its groups.
 pub const MOST_OF_CHAIN: usize = 1_200;
 
-/// The most bytes of a group of a chain.
+/// The greatest number of bytes for a group of a chain.
 pub const MOST_OF_GROUP: usize = 200;
 
-/// The most bars of a task: 960 for its bands, and as many for its parts.
+/// The greatest number of bars of a task: 960 for its bands, and 960 for its parts.
 pub const MOST_BARS: usize = 1_920;
 
-/// How many bars the rows of all tasks have.
+/// Counts the bars of the rows of all tasks.
 fn bar_count(model: &ValidModel, rows: &[Row]) -> usize
     requires count { length rows.now ≡ length model.now.tasks }
-    requires few { (task : ℕ) → task < length model.now.tasks → bars_of_task rows.now task ≤ MOST_BARS }
+    requires few { (task : ℕ) → task < length model.now.tasks
+        → bars_of_task rows.now task ≤ MOST_BARS }
     ensures bars { result ≡ bar_count model.now rows.now }
     ensures most { result ≤ MOST_BARS * length model.now.tasks }
 {
@@ -41,7 +43,7 @@ fn bar_count(model: &ValidModel, rows: &[Row]) -> usize
     bars
 }
 
-/// How many groups all chains have.
+/// Counts the groups of all chains.
 fn group_count(model: &ValidModel) -> usize
     ensures groups { result ≡ group_count model.now }
     ensures most { result ≤ 64 * length model.now.chains }
@@ -53,10 +55,11 @@ fn group_count(model: &ValidModel) -> usize
     groups
 }
 
-/// The most bytes of a picture with these rows.
+/// Returns the limit on the bytes of a picture with these rows.
 pub(crate) fn room_of(model: &ValidModel, rows: &[Row]) -> usize
     requires count { length rows.now ≡ length model.now.tasks }
-    requires few { (task : ℕ) → task < length model.now.tasks → bars_of_task rows.now task ≤ MOST_BARS }
+    requires few { (task : ℕ) → task < length model.now.tasks
+        → bars_of_task rows.now task ≤ MOST_BARS }
     ensures { result ≡ most_length model.now (bar_count model.now rows.now) }
 {
     MOST_OF_PICTURE

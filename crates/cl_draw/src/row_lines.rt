@@ -17,7 +17,7 @@ use cl_text::Text;
 use cl_time::NoMemory;
 use std::alloc::Global;
 
-/// Puts the lines of the row of a task, from a height on.
+/// Puts the lines of the row of a task that begins at the height `y`.
 pub(crate) fn put_row(
     alloc: Global,
     text: &mut Text,
@@ -30,7 +30,8 @@ pub(crate) fn put_row(
     requires of { IsTaskRun of.model.now of.run.now of.task }
     requires bands { All (IsDrawableBar (task_at of.model.now of.task)) row.now.bands }
     requires parts { All (IsDrawableBar (task_at of.model.now of.task)) row.now.parts }
-    ensures { OnOk result (text.new ≡ text.old ++ print (row_lines of.entry.model.now of.entry.run.now window of.entry.task y row.now)) }
+    ensures { OnOk result
+        (text.new ≡ text.old ++ print (row_lines of.entry.model.now of.entry.run.now window of.entry.task y row.now)) }
 {
     let marks = marks_of(alloc, window, of)?;
     let task = of.model.task(of.task);
@@ -49,7 +50,8 @@ fn put_bars(
     bars: &[Bar],
 ) -> Result<(), NoMemory>
     requires { All (IsDrawableBar task.now) bars.now }
-    ensures { OnOk result (text.new ≡ text.old ++ print (map (bar_line opening.now task.now) bars.now)) }
+    ensures { OnOk result
+        (text.new ≡ text.old ++ print (map (bar_line opening.now task.now) bars.now)) }
 {
     for bar in bars {
         put_bar(text, opening, task, bar)?;
@@ -65,14 +67,15 @@ fn put_bar(
     bar: &Bar,
 ) -> Result<(), NoMemory>
     requires { IsDrawableBar task.now bar.now }
-    ensures { OnOk result (text.new ≡ text.old ++ print (bar_line opening.now task.now bar.now ∷ [])) }
+    ensures { OnOk result
+        (text.new ≡ text.old ++ print (bar_line opening.now task.now bar.now ∷ [])) }
 {
     put_bar_head(text, opening, task, bar)?;
     put_words(text, task, &bar.first, bar.last)?;
     put_line(text, &[Piece::Fixed(b"</title></rect>")])
 }
 
-/// Puts a bar up to the name of its first item.
+/// Puts the line of a bar up to the name of the job of its first item.
 fn put_bar_head(
     text: &mut Text,
     opening: &'static [u8],
@@ -98,7 +101,7 @@ fn put_bar_head(
     )
 }
 
-/// Puts what is said of a bar behind the name of its first item.
+/// Puts what a bar says behind the name of the job of its first item.
 fn put_words(
     text: &mut Text,
     task: &TaskDef,
@@ -114,7 +117,8 @@ fn put_words(
     }
 }
 
-/// Puts the last item of a bar of several.
+/// Puts what a bar of several items says of them: the name of the last job, when the first item
+/// begins and when the last ends.
 fn put_last(text: &mut Text, task: &TaskDef, first: &Item, last: End) -> Result<(), NoMemory>
     ensures { OnOk result (text.new ≡ text.old ++ spelled (last_pieces task.now first.now last)) }
 {
@@ -133,10 +137,11 @@ fn put_last(text: &mut Text, task: &TaskDef, first: &Item, last: End) -> Result<
     )
 }
 
-/// Puts the rest of what is said of an item.
+/// Puts what a bar of one item says of it behind the name of its job.
 fn put_rest(text: &mut Text, task: &TaskDef, item: &Item) -> Result<(), NoMemory>
     requires { IsSayable task.now item.now }
-    ensures { OnOk result (text.new ≡ text.old ++ spelled (rest_pieces task.now item.now item.now.rest)) }
+    ensures { OnOk result
+        (text.new ≡ text.old ++ spelled (rest_pieces task.now item.now item.now.rest)) }
 {
     match item.rest {
         Rest::Part { place } => put_part(text, task, place, item),
@@ -148,7 +153,7 @@ fn put_rest(text: &mut Text, task: &TaskDef, item: &Item) -> Result<(), NoMemory
     }
 }
 
-/// Puts what is said of a part.
+/// Puts what is said of a part: its runnable, and when it begins and ends.
 fn put_part(text: &mut Text, task: &TaskDef, place: usize, item: &Item) -> Result<(), NoMemory>
     requires { place < length task.now.runnables }
     ensures { OnOk result (text.new ≡ text.old ++ spelled (part_pieces task.now place item.now)) }
@@ -166,7 +171,7 @@ fn put_part(text: &mut Text, task: &TaskDef, place: usize, item: &Item) -> Resul
     )
 }
 
-/// Puts what is said of a band.
+/// Puts what is said of a band: the arrival, release, finish and deadline of its job.
 fn put_band(
     text: &mut Text,
     arrival: u64,
@@ -174,7 +179,8 @@ fn put_band(
     finished: bool,
     item: &Item,
 ) -> Result<(), NoMemory>
-    ensures { OnOk result (text.new ≡ text.old ++ spelled (band_pieces arrival due finished item.now)) }
+    ensures { OnOk result
+        (text.new ≡ text.old ++ spelled (band_pieces arrival due finished item.now)) }
 {
     put_pieces(
         text,
@@ -190,7 +196,7 @@ fn put_band(
     put_pieces(text, &[Piece::Fixed(b" deadline "), Piece::Number(due)])
 }
 
-/// Puts the finish of a band.
+/// Puts the finish of the job of a band, or `none` where it doesn't finish.
 fn put_finish(text: &mut Text, finished: bool, to: u64) -> Result<(), NoMemory>
     ensures { OnOk result (text.new ≡ text.old ++ spelled (finish_piece finished to ∷ [])) }
 {

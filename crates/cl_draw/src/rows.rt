@@ -20,14 +20,15 @@ use cl_run_data::RunData;
 use cl_time::NoMemory;
 use std::alloc::Global;
 
-/// The bars of a row: those of the bands of the task's jobs, and those of the parts of what it executes.
+/// The bars of a row: those of the bands of the task's jobs, and those of the parts of what it
+/// executes.
 #[derive(Debug, Drop)]
 pub struct Row {
     pub bands: List<Bar>,
     pub parts: List<Bar>,
 }
 
-/// The row of a task that runs in these spans.
+/// Builds the row of a task that runs in these spans.
 fn row_of(alloc: Global, window: Window, of: TaskRun<'_>, spans: &[Span]) -> Result<Row, NoMemory>
     requires window { IsPictureWindow window }
     requires of { IsTaskRun of.model.now of.run.now of.task }
@@ -43,7 +44,7 @@ fn row_of(alloc: Global, window: Window, of: TaskRun<'_>, spans: &[Span]) -> Res
     })
 }
 
-/// The rows of all tasks, in file order.
+/// Builds the rows of all tasks, in file order.
 pub(crate) fn rows_of(
     alloc: Global,
     model: &ValidModel,

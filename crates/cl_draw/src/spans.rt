@@ -11,14 +11,14 @@ use cl_run_data::{RunData, Stretch};
 use cl_time::NoMemory;
 use std::alloc::Global;
 
-/// Some ticks, from one to another.
+/// The ticks `from..to`.
 #[derive(Clone, Copy, Debug, PartialEq, Eq)]
 pub struct Span {
     pub from: u64,
     pub to: u64,
 }
 
-/// So many empty lists.
+/// Builds an empty list of spans for each of `tasks` tasks.
 fn no_spans(alloc: Global, tasks: u32) -> Result<Vec<List<Span>>, NoMemory>
     ensures { IfOk result (λ spans. AreEmpty tasks spans.items) }
 {
@@ -29,7 +29,7 @@ fn no_spans(alloc: Global, tasks: u32) -> Result<Vec<List<Span>>, NoMemory>
     Ok(spans)
 }
 
-/// Puts a span behind those of a task, where there is such a task.
+/// Appends a span to the list of the task `who`, if there is such a task and it has a list.
 fn put_span(spans: &mut Vec<List<Span>>, who: Option<u32>, span: Span) -> Result<(), NoMemory>
     ensures { OnOk result (PutsSpan who span spans.old.items spans.new.items) }
 {
@@ -42,10 +42,11 @@ fn put_span(spans: &mut Vec<List<Span>>, who: Option<u32>, span: Span) -> Result
     Ok(())
 }
 
-/// Puts the spans of the stretches of a core behind those of their tasks.
+/// Appends the stretches of a core to the lists of the tasks that run in them.
 fn put_core(spans: &mut Vec<List<Span>>, stretches: &[Stretch]) -> Result<(), NoMemory>
     requires { AreLongest 0 stretches.now }
-    ensures { OnOk result (PutsCore (entries_from 0 stretches.now) spans.old.items spans.new.items) }
+    ensures { OnOk result
+        (PutsCore (entries_from 0 stretches.now) spans.old.items spans.new.items) }
 {
     let mut from = 0;
     for stretch in stretches {
@@ -56,7 +57,8 @@ fn put_core(spans: &mut Vec<List<Span>>, stretches: &[Stretch]) -> Result<(), No
     Ok(())
 }
 
-/// When each task of a model runs: its stretches, in order.
+/// Finds when the tasks of a model run: for each task in file order the list of its stretches, in
+/// order.
 pub(crate) fn spans_of(
     alloc: Global,
     model: &ValidModel,

@@ -1,4 +1,5 @@
-//! The jobs that carry a reaction, with the moments at which they read and write. Times are in ticks.
+//! The jobs that carry a reaction, with the moments at which they read and write. Times are in
+//! ticks.
 ghost use Rattle.std.specs.Prelude.{◌≡◌, ℕ, ◌<◌, length, IfOk};
 ghost use Rattle.cl_model.specs.ByNumber.{task_at};
 ghost use Rattle.cl_model.specs.Groups.{IsGroupOf};
@@ -26,7 +27,8 @@ pub struct Stop {
     pub write: u64,
 }
 
-/// The longest reaction of a chain: from when to when it lasts, and its stops, one for each group.
+/// The longest reaction of a chain: from when to when it lasts, and its stops, one for each group
+/// in order.
 #[derive(Debug, Drop)]
 pub struct Reaction {
     pub from: u64,
@@ -34,7 +36,7 @@ pub struct Reaction {
     pub stops: List<Stop>,
 }
 
-/// When a runnable of a job starts.
+/// Finds when a runnable of a job starts. It does start.
 fn start_of(
     alloc: Global,
     model: &ValidModel,
@@ -56,7 +58,7 @@ fn start_of(
     }
 }
 
-/// When a runnable of a job finishes.
+/// Finds when a runnable of a job finishes. It does finish.
 fn finish_of(
     alloc: Global,
     model: &ValidModel,
@@ -78,7 +80,7 @@ fn finish_of(
     }
 }
 
-/// When a job of a group that writes reads.
+/// Finds when a job of a group reads. The job also writes.
 fn read_of(
     alloc: Global,
     model: &ValidModel,
@@ -98,7 +100,7 @@ fn read_of(
     }
 }
 
-/// When a job of a group writes.
+/// Finds when a job of a group writes. It does write.
 fn write_of(
     alloc: Global,
     model: &ValidModel,
@@ -128,7 +130,7 @@ fn write_of(
     }
 }
 
-/// The stop of a job of a group that writes.
+/// Builds the stop of a job of a group. The job writes.
 pub(crate) fn stop_of(
     alloc: Global,
     model: &ValidModel,
@@ -149,7 +151,7 @@ pub(crate) fn stop_of(
     })
 }
 
-/// The stop of a group.
+/// Returns the stop of a group.
 pub(crate) fn stop_at(stops: &[Stop], group: usize) -> Stop
     requires { group < length stops.now }
     ensures stop { result ≡ stop_at_group stops.now group }
@@ -158,7 +160,7 @@ pub(crate) fn stop_at(stops: &[Stop], group: usize) -> Stop
     stops[group]
 }
 
-/// The first stop of a reaction.
+/// Returns the first stop of a reaction.
 pub(crate) fn first_stop(reaction: &Reaction) -> Stop
     requires { 0 < length reaction.now.stops }
     ensures stop { result ≡ first_stop reaction.now }
@@ -167,7 +169,7 @@ pub(crate) fn first_stop(reaction: &Reaction) -> Stop
     stop_at(reaction.stops.as_slice(), 0)
 }
 
-/// The last stop of a reaction.
+/// Returns the last stop of a reaction.
 pub(crate) fn last_stop(reaction: &Reaction) -> Stop
     requires { 0 < length reaction.now.stops }
     ensures stop { result ≡ last_stop reaction.now }

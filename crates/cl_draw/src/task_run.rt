@@ -17,7 +17,7 @@ pub(crate) struct TaskRun<'a> {
 }
 
 impl<'a> TaskRun<'a> {
-    /// The jobs of the task.
+    /// Returns the jobs of the task.
     pub(crate) fn jobs(self) -> &'a [Job]
         requires { IsTaskRun self.model.now self.run.now self.task }
         ensures { result.now ≡ jobs_of self.entry.run.now self.entry.task }
@@ -25,7 +25,7 @@ impl<'a> TaskRun<'a> {
         self.run.table().jobs_of(self.task)
     }
 
-    /// The deadline of the task, from arrival.
+    /// Returns the deadline of the task, from arrival.
     pub(crate) fn deadline(self) -> u64
         requires { IsTaskRun self.model.now self.run.now self.task }
         ensures { result ≡ deadline_of self.entry.model.now self.entry.task }
@@ -33,7 +33,7 @@ impl<'a> TaskRun<'a> {
         self.model.deadline_of(self.task)
     }
 
-    /// The runnables of the task.
+    /// Returns the runnables of the task.
     pub(crate) fn runnables(self) -> &'a [RunnableDef]
         requires { IsTaskRun self.model.now self.run.now self.task }
         ensures { result.now ≡ (task_at self.entry.model.now self.entry.task).runnables }
@@ -41,7 +41,7 @@ impl<'a> TaskRun<'a> {
         self.model.task(self.task).runnables.as_slice()
     }
 
-    /// How many ticks the run has.
+    /// Returns the number of ticks of the run.
     pub(crate) fn ticks(self) -> u64
         ensures { result ≡ self.entry.run.now.table.ticks }
     {

@@ -9,10 +9,10 @@ use std::alloc::Global;
 use std::marker::Brand;
 use std::sync::ledger::{Blank, Ledger};
 
-/// Room for every text of these tests.
+/// The room of a sink in memory, which every text of these tests fits.
 const ROOM: usize = 1024;
 
-/// The words of the analysis of a file of this very name.
+/// Makes the words of the analysis of a file of exactly this name.
 pub(crate) fn analysis_of(alloc: Global, name: &str) -> Result<Words, NoMemory> {
     let mut words = Words::new(alloc);
     words.push("analyse")?;
@@ -20,7 +20,7 @@ pub(crate) fn analysis_of(alloc: Global, name: &str) -> Result<Words, NoMemory> 
     Ok(words)
 }
 
-/// The words of a command on two files.
+/// Makes the words of a command on two files.
 pub(crate) fn of_two_files(
     alloc: Global,
     verb: &str,
@@ -34,7 +34,8 @@ pub(crate) fn of_two_files(
     Ok(words)
 }
 
-/// What the analysis of a file of this name and content answers: its status, a blank, and what was written.
+/// Analyses a file of this name and content, and returns the answer: the status, a blank, and what
+/// was written.
 pub(crate) fn analysed(alloc: Global, name: &str, content: &[u8]) -> Result<String, NoMemory> {
     let words = analysis_of(alloc, name)?;
     analysed_words(alloc, &words, name, content)
@@ -51,7 +52,8 @@ fn analysed_words(
     answered_over(alloc, words, &mut shelf)
 }
 
-/// What a command over a shelf answers into a sink in memory.
+/// Runs a command over a shelf and a sink in memory, and returns the answer: the status, a blank,
+/// and what was written.
 pub(crate) fn answered_over<S: Shelf>(
     alloc: Global,
     words: &Words,
@@ -62,7 +64,7 @@ pub(crate) fn answered_over<S: Shelf>(
     spelled(alloc, status, sink.bytes())
 }
 
-/// A status and what was written, as one text.
+/// Joins a status and what was written, with a blank between, to a text.
 fn spelled(alloc: Global, status: u8, written: &[u8]) -> Result<String, NoMemory> {
     let text = str::from_utf8(written).unwrap_or("no text");
     Ok(format!(in alloc; "{status} {text}")?)
@@ -78,7 +80,8 @@ pub(crate) fn run_here<S: Shelf, K: Sink>(
     run_uncounted::<S, K, Brand>(alloc, words, shelf, sink, Blank::new(1))
 }
 
-/// Runs a command with a counter on this blank; `Invariants.antt` of `run_here` picks the ledger of the blank.
+/// Runs a command with a counter on this blank; `Invariants.antt` of `run_here` picks the ledger of
+/// the blank.
 fn run_uncounted<S: Shelf, K: Sink, L: Ledger>(
     alloc: Global,
     words: &Words,
@@ -94,7 +97,8 @@ fn run_uncounted<S: Shelf, K: Sink, L: Ledger>(
     run(alloc, words, shelf, sink, &mut steps)
 }
 
-/// Runs a command over a shelf and a sink that never fail, with a counter of steps that nothing reads.
+/// Runs a command over a shelf and a sink that never fail, with a counter of steps that nothing
+/// reads.
 pub(crate) fn run_surely_here(
     alloc: Global,
     words: &Words,
@@ -104,7 +108,8 @@ pub(crate) fn run_surely_here(
     run_surely_uncounted::<Brand>(alloc, words, shelf, sink, Blank::new(1))
 }
 
-/// The same with a counter on this blank; `Invariants.antt` of `run_surely_here` picks the ledger of the blank.
+/// Runs a command over a shelf and a sink that never fail, with a counter on this blank;
+/// `Invariants.antt` of `run_surely_here` picks the ledger of the blank.
 fn run_surely_uncounted<L: Ledger>(
     alloc: Global,
     words: &Words,

@@ -8,7 +8,8 @@ use std::io::ErrorKind;
 use std::process::Abort;
 use std::test::Fail;
 
-/// Asserts how a file of twelve bytes is fetched that fails so behind its end.
+/// Asserts how a fetch of a file of twelve bytes fails whose reads end with an error of this kind:
+/// with the fault, where all bytes are wanted, and with `Long`, where one byte is past the limit.
 fn assert_failing(rt: &impl Abort, alloc: Global, kind: ErrorKind, fault: FetchFault) {
     let mut machine = Machine::new(alloc, &[], "model", b"twelve bytes");
     machine.step = 5;

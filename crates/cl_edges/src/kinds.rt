@@ -8,7 +8,7 @@ use std::alloc::Global;
 use std::process::Abort;
 use std::test::Fail;
 
-/// Asserts what the analysis of a model of nothing in a file of this name answers.
+/// Asserts what the analysis of a model without an entry, in a file of this name, answers.
 fn assert_name(rt: &impl Abort, alloc: Global, name: &str) -> Result<(), NoMemory> {
     let found = analysed(alloc, name, EMPTY.as_bytes())?;
     assert_eq!(rt; found.as_str(), "0 chainlat report 1\n", "{name}");
@@ -23,13 +23,13 @@ fn a_file_word_may_be_any_text(rt: HostRuntime) -> Result<(), Fail> {
     Ok(())
 }
 
-/// What is answered of a file of so many bytes, which is no text.
+/// Returns the answer to the analysis of a file of `len` bytes that are no text.
 fn answer_of_bytes(alloc: Global, len: usize) -> Result<String, NoMemory> {
     let content = vec![in alloc; 0xff; len]?;
     analysed(alloc, "model", content.as_slice())
 }
 
-/// Asserts what is answered of a file of so many bytes.
+/// Asserts what is answered to a file of `len` bytes that are no text.
 fn assert_bytes(rt: &impl Abort, alloc: Global, len: usize, wanted: &str) -> Result<(), NoMemory> {
     let found = answer_of_bytes(alloc, len)?;
     assert_eq!(rt; found.as_str(), wanted, "{len}");
@@ -68,7 +68,7 @@ fn what_a_sure_shelf_lacks_is_an_empty_file(rt: HostRuntime) -> Result<(), Fail>
     Ok(())
 }
 
-/// A sure shelf with a model of nothing, and a second file.
+/// Makes a sure shelf with a model without an entry, and a second file.
 fn shelf_with(alloc: Global, second: &[u8]) -> Result<SureShelf, NoMemory> {
     let mut shelf = SureShelf::new(alloc);
     shelf.put("model", EMPTY.as_bytes())?;
@@ -76,8 +76,8 @@ fn shelf_with(alloc: Global, second: &[u8]) -> Result<SureShelf, NoMemory> {
     Ok(shelf)
 }
 
-/// Asserts what a command on a model of nothing and a second file answers over a sure shelf: this status and text into a
-/// sink in memory, and the same status into a sure sink.
+/// Asserts what a command on a model without an entry and a second file answers over a sure shelf:
+/// this status and text into a sink in memory, and the same status into a sure sink.
 fn assert_sure(
     rt: &impl Abort,
     alloc: Global,

@@ -1,6 +1,6 @@
-//! The edges, over a machine of values: the start of the program, its files and its output; and commands over shelves
-//! and sinks of every kind: tests, but for the call over a shelf and a sink that never fail. What a file of cases can say
-//! stands in the program `rows`.
+//! Tests of the edges of the program over a machine of values (its start, its files and its
+//! output), and of commands over shelves and sinks of every kind; and `run_surely`, the call over a
+//! shelf and a sink that never fail. What a file of cases can say is tested by the program `rows`.
 #![tactic(auto)]
 
 #[cfg(test)]

@@ -14,12 +14,13 @@ use std::rt::{Env, Files};
 /// How many bytes the machine's output can hold.
 pub(crate) const OUTPUT: usize = 256;
 
-/// How a read, or a write, fails once no more bytes are left for it.
+/// The error of a read, or of a write, once no more bytes are left for it, if there is one.
 pub(crate) type Failure = Option<ErrorKind>;
 
-/// A machine with a file under one name, whose reads give `step` bytes each and then the end or an error, and with an
-/// output that takes `room` bytes, seven at a time, and then nothing or an error. Where `letters` isn't 0, there is a file
-/// of so many times `x` under every other name; its bytes are made as they are read.
+/// A machine with a file under one name, whose reads give at most `step` bytes each and then the
+/// end or an error, and with an output that takes `room` bytes, at most seven at a time, and then
+/// nothing or an error. Where `letters` isn't 0, under every other name there is a file of
+/// `letters` times `x`; its bytes are made as they are read.
 #[derive(Drop)]
 pub(crate) struct Machine<'a> {
     pub(crate) alloc: Global,
@@ -36,7 +37,7 @@ pub(crate) struct Machine<'a> {
 }
 
 impl<'a> Machine<'a> {
-    /// A machine whose file is read whole, and whose output takes all that it can hold.
+    /// Makes a machine whose file is read whole, and whose output takes all that it can hold.
     pub(crate) fn new(
         alloc: Global,
         arguments: &'a [&'a [u8]],
@@ -58,7 +59,7 @@ impl<'a> Machine<'a> {
         }
     }
 
-    /// All that was written to the output.
+    /// Returns the buffer of the output, and how many bytes of it were written.
     pub(crate) fn output(&self) -> ([u8; OUTPUT], usize)
         ensures { result.1 ≤ 256 }
     {
@@ -134,7 +135,8 @@ impl Print for Machine<'_> {
     }
 }
 
-/// What is left of a file of the machine: bytes, and behind them so many times `x`.
+/// What is left of a file of the machine: `letters` times `x`, and behind them the bytes of `left`.
+/// A file has only one of the two.
 #[derive(Drop)]
 pub(crate) struct MachineFile<'a> {
     left: &'a [u8],
@@ -144,7 +146,7 @@ pub(crate) struct MachineFile<'a> {
 }
 
 impl MachineFile<'_> {
-    /// Gives letters that are left.
+    /// Fills the buffer with letters that are left, at most 1,048,576, and returns how many.
     fn spell(&mut self, buf: &mut [u8]) -> usize
         ensures { result ≤ length buf.old }
     {

@@ -1,11 +1,11 @@
 //! Two models, as texts.
 
-/// A model of nothing.
+/// A model without an entry.
 pub(crate) const EMPTY: &str = r#"format = "chainlat"
 version = 1
 "#;
 
-/// A sporadic task.
+/// A model with one sporadic task.
 pub(crate) const SPORADIC: &str = r#"format = "chainlat"
 version = 1
 

@@ -7,7 +7,8 @@ use std::io::ErrorKind;
 use std::process::Abort;
 use std::test::Fail;
 
-/// Asserts what a machine's output has taken once it has no room left.
+/// Asserts what a machine's output has taken where it has room for ten bytes and then fails in this
+/// way.
 fn assert_full(rt: &impl Abort, alloc: Global, failure: Failure) {
     let mut machine = Machine::new(alloc, &[], "", b"");
     machine.room.set(10);

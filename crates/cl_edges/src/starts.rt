@@ -9,14 +9,14 @@ use std::process::Abort;
 /// The arguments of the analysis of one file.
 const ANALYSE: [&[u8]; 3] = [b"chainlat", b"analyse", b"model"];
 
-/// Asserts what the program ends with and what it has written.
+/// Asserts the status that the program ends with and what it has written.
 fn assert_output(rt: &impl Abort, machine: &Machine, status: u8, text: &[u8]) {
     assert_eq!(rt; start(machine), status);
     let (output, written) = machine.output();
     assert_eq!(rt; &output[..written], text);
 }
 
-/// The same, of these arguments and of a file.
+/// Asserts the same of a machine with these arguments and this file.
 fn assert_start(
     rt: &impl Abort,
     alloc: Global,
@@ -80,7 +80,8 @@ fn a_program_ends_with_what_its_command_answers(rt: HostRuntime) {
     assert_start(&rt, rt.alloc(), &ANALYSE, ("model", ""), 5, refusal);
 }
 
-/// Asserts what the program has written once its output has no room left.
+/// Asserts that the program has written ten bytes and ends with status 9, where its output has room
+/// for ten bytes and then fails in this way.
 fn assert_cut(rt: &impl Abort, alloc: Global, failure: Failure) {
     let mut machine = Machine::new(alloc, &ANALYSE, "model", EMPTY.as_bytes());
     machine.room.set(10);

@@ -8,8 +8,8 @@ use cl_top::run;
 use std::alloc::Global;
 use std::sync::ledger::Ledger;
 
-/// Runs a command over a shelf and a sink of which no call fails, as `run` does: it never ends with a read fault, nor with a
-/// write fault.
+/// Runs a command as `run` does, over a shelf and a sink of which no call fails. The status is
+/// neither `READ_FAULT` nor `WRITE_FAULT`.
 pub fn run_surely<L: Ledger>(
     alloc: Global,
     words: &Words,

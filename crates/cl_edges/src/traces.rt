@@ -1,11 +1,12 @@
-//! Traces at the limit of their bytes, and one past it, on a machine that makes them as they are read.
+//! Traces at the limit of their bytes, and one past it, on a machine that makes them as they are
+//! read.
 use crate::machine::Machine;
 use crate::models::EMPTY;
 use cl_top::{TRACE_LIMIT, start};
 use std::alloc::Global;
 use std::process::Abort;
 
-/// Asserts what the replay of a trace of so many times `x` ends with and writes.
+/// Asserts what the replay of a trace of `letters` times `x` ends with and writes.
 fn assert_trace(rt: &impl Abort, alloc: Global, letters: u64, status: u8, text: &[u8]) {
     let arguments: [&[u8]; 4] = [b"chainlat", b"replay", b"model", b"trace"];
     let mut machine = Machine::new(alloc, &arguments, "model", EMPTY.as_bytes());

@@ -1,4 +1,4 @@
-//! The model that an edit makes of another.
+//! Applying an edit to a copy of a valid model.
 ghost use Rattle.std.specs.Prelude.{◌≡◌, [], ◌++◌, nat_lt, length, OnOk, IfOk};
 ghost use Rattle.cl_model.specs.Answers.{Answers, Passes, Gives};
 ghost use Rattle.cl_model.specs.Named.{task_names, chain_names, kind_named};
@@ -32,7 +32,8 @@ fn set_range(
 ) -> Result<(), ModelFault>
     requires { IsInRange model.old }
     ensures checks { Passes result (found runnable.now (all_names model.old)) }
-    ensures change { OnOk result (model.new ≡ with_range model.old (step_named model.old runnable.now) least greatest) }
+    ensures change { OnOk result
+        (model.new ≡ with_range model.old (step_named model.old runnable.now) least greatest) }
 {
     let step = found_step(model, runnable)?;
     model.set_range(step, least, greatest);
@@ -42,17 +43,20 @@ fn set_range(
 fn set_whole(model: &mut SystemModel, runnable: &Name, whole: bool) -> Result<(), ModelFault>
     requires { IsInRange model.old }
     ensures checks { Passes result (found runnable.now (all_names model.old)) }
-    ensures change { OnOk result (model.new ≡ with_whole model.old (step_named model.old runnable.now) whole) }
+    ensures change { OnOk result
+        (model.new ≡ with_whole model.old (step_named model.old runnable.now) whole) }
 {
     let step = found_step(model, runnable)?;
     model.set_whole(step, whole);
     Ok(())
 }
 
-/// Sets the numbers of a stimulus. E3 where the edit doesn't set its kind.
+/// Sets the numbers of a stimulus. E2 where no stimulus has the name, E3 where the edit doesn't set
+/// its kind.
 fn set_stimulus(model: &mut SystemModel, name: &Name, edit: &Edit) -> Result<(), ModelFault>
     ensures checks { Passes result (kind_found (kind_named model.old name.now) (sets edit.now)) }
-    ensures change { OnOk result (model.new ≡ with_kind model.old (stimulus_number model.old name.now) (with_numbers edit.now)) }
+    ensures change { OnOk result
+        (model.new ≡ with_kind model.old (stimulus_number model.old name.now) (with_numbers edit.now)) }
 {
     let number = found(model.stimuli.as_slice(), name)?;
     let kind = model.stimuli.as_slice()[number].kind;
@@ -71,7 +75,8 @@ fn set_deadline(
     deadline: Option<u64>,
 ) -> Result<(), ModelFault>
     ensures checks { Passes result (found task.now (task_names model.old)) }
-    ensures change { OnOk result (model.new ≡ with_deadline model.old (task_number model.old task.now) deadline) }
+    ensures change { OnOk result
+        (model.new ≡ with_deadline model.old (task_number model.old task.now) deadline) }
 {
     let number = found(model.tasks.as_slice(), task)?;
     model.set_deadline(number, deadline);
@@ -79,8 +84,10 @@ fn set_deadline(
 }
 
 fn swap(model: &mut SystemModel, one: &Name, other: &Name) -> Result<(), ModelFault>
-    ensures checks { Passes result (found one.now (task_names model.old) ++ found other.now (task_names model.old)) }
-    ensures change { OnOk result (model.new ≡ with_swap model.old (task_number model.old one.now) (task_number model.old other.now)) }
+    ensures checks { Passes result
+        (found one.now (task_names model.old) ++ found other.now (task_names model.old)) }
+    ensures change { OnOk result
+        (model.new ≡ with_swap model.old (task_number model.old one.now) (task_number model.old other.now)) }
 {
     let one = found(model.tasks.as_slice(), one)?;
     let other = found(model.tasks.as_slice(), other)?;
@@ -95,7 +102,8 @@ fn set_place(
     priority: u64,
 ) -> Result<(), ModelFault>
     ensures checks { Passes result (found task.now (task_names model.old)) }
-    ensures change { OnOk result (model.new ≡ with_place model.old (task_number model.old task.now) core.now priority) }
+    ensures change { OnOk result
+        (model.new ≡ with_place model.old (task_number model.old task.now) core.now priority) }
 {
     let number = found(model.tasks.as_slice(), task)?;
     model.set_place(number, core, priority);
@@ -104,7 +112,8 @@ fn set_place(
 
 fn set_access(model: &mut SystemModel, task: &Name, access: AccessKind) -> Result<(), ModelFault>
     ensures checks { Passes result (found task.now (task_names model.old)) }
-    ensures change { OnOk result (model.new ≡ with_access model.old (task_number model.old task.now) access) }
+    ensures change { OnOk result
+        (model.new ≡ with_access model.old (task_number model.old task.now) access) }
 {
     let number = found(model.tasks.as_slice(), task)?;
     model.set_access(number, access);
@@ -113,7 +122,8 @@ fn set_access(model: &mut SystemModel, task: &Name, access: AccessKind) -> Resul
 
 fn drop_task(model: &mut SystemModel, task: &Name) -> Result<(), ModelFault>
     ensures checks { Passes result (found task.now (task_names model.old)) }
-    ensures change { OnOk result (model.new ≡ without_task model.old (task_number model.old task.now)) }
+    ensures change { OnOk result
+        (model.new ≡ without_task model.old (task_number model.old task.now)) }
 {
     let number = found(model.tasks.as_slice(), task)?;
     model.drop_task(number);
@@ -122,7 +132,8 @@ fn drop_task(model: &mut SystemModel, task: &Name) -> Result<(), ModelFault>
 
 fn drop_chain(model: &mut SystemModel, chain: &Name) -> Result<(), ModelFault>
     ensures checks { Passes result (found chain.now (chain_names model.old)) }
-    ensures change { OnOk result (model.new ≡ without_chain model.old (chain_number model.old chain.now)) }
+    ensures change { OnOk result
+        (model.new ≡ without_chain model.old (chain_number model.old chain.now)) }
 {
     let number = found(model.chains.as_slice(), chain)?;
     model.drop_chain(number);
@@ -130,7 +141,8 @@ fn drop_chain(model: &mut SystemModel, chain: &Name) -> Result<(), ModelFault>
 }
 
 fn add_task(alloc: Global, model: &mut SystemModel, task: &TaskDef) -> Result<(), ModelFault>
-    ensures checks { Passes result (unless (nat_lt (length model.old.tasks) MOST_TASKS) Code.M10 (section_place Part.Task)) }
+    ensures checks { Passes result
+        (unless (nat_lt (length model.old.tasks) MOST_TASKS) Code.M10 (section_place Part.Task)) }
     ensures change { OnOk result (model.new ≡ with_new_task model.old task.now) }
 {
     let has_room = model.tasks.len() < MOST_TASKS;
@@ -140,7 +152,8 @@ fn add_task(alloc: Global, model: &mut SystemModel, task: &TaskDef) -> Result<()
 }
 
 fn add_chain(alloc: Global, model: &mut SystemModel, chain: &ChainDef) -> Result<(), ModelFault>
-    ensures checks { Passes result (unless (nat_lt (length model.old.chains) MOST_CHAINS) Code.M10 (section_place Part.Chain)) }
+    ensures checks { Passes result
+        (unless (nat_lt (length model.old.chains) MOST_CHAINS) Code.M10 (section_place Part.Chain)) }
     ensures change { OnOk result (model.new ≡ with_new_chain model.old chain.now) }
 {
     let has_room = model.chains.len() < MOST_CHAINS;
@@ -149,7 +162,8 @@ fn add_chain(alloc: Global, model: &mut SystemModel, chain: &ChainDef) -> Result
     Ok(())
 }
 
-/// Makes the change of an edit, unless one of its first checks refuses it: E2, E3, M10.
+/// Changes a model as the edit says, unless one of its first checks refuses it: E2, E3 or M10. The
+/// changed model isn't validated.
 #[tactic(auto, unfolding(crate::specs::Edited::edit_checks, crate::specs::Edited::with_edit))]
 pub(crate) fn change(alloc: Global, model: &mut SystemModel, edit: &Edit) -> Result<(), ModelFault>
     requires { IsInRange model.old }
@@ -184,7 +198,8 @@ pub(crate) fn change(alloc: Global, model: &mut SystemModel, edit: &Edit) -> Res
     }
 }
 
-/// The plain model that an edit makes of another, not validated.
+/// Copies a model and changes the copy as the edit says, unless one of its first checks refuses it:
+/// E2, E3 or M10. The copy isn't validated.
 fn changed(alloc: Global, model: &SystemModel, edit: &Edit) -> Result<SystemModel, ModelFault>
     requires { IsInRange model.now }
     ensures checks { Passes result (edit_checks model.now edit.now) }
@@ -197,7 +212,7 @@ fn changed(alloc: Global, model: &SystemModel, edit: &Edit) -> Result<SystemMode
     }
 }
 
-/// The model, where it is valid.
+/// Validates a model, or refuses it with its first refusal.
 fn validated(alloc: Global, model: SystemModel) -> Result<ValidModel, ModelFault>
     requires { IsInRange model }
     ensures { Answers result (refusals_of model) model }
@@ -208,7 +223,7 @@ fn validated(alloc: Global, model: SystemModel) -> Result<ValidModel, ModelFault
     }
 }
 
-/// The valid model that an edit makes of another, by the checks of the whole changed model.
+/// Applies an edit to a copy of a valid model, and checks the whole changed model.
 pub(crate) fn apply_whole(
     alloc: Global,
     model: &ValidModel,
@@ -223,14 +238,15 @@ pub(crate) fn apply_whole(
     }
 }
 
-/// The valid model that an edit makes of another, once no check refuses it.
+/// Applies an edit that no check refuses to a copy of a valid model.
 pub(crate) fn apply_checked(
     alloc: Global,
     model: &ValidModel,
     edit: &Edit,
 ) -> Result<ValidModel, ModelFault>
     requires in_range { IsEditInRange edit.now }
-    requires checked { edit_checks model.now edit.now ++ refusals_of (with_edit model.now edit.now) ≡ [] }
+    requires checked { edit_checks model.now edit.now ++ refusals_of (with_edit model.now edit.now)
+        ≡ [] }
     ensures { Gives result (edited model.now edit.now) }
 {
     let changed = changed(alloc, model.plain(), edit)?;
@@ -240,7 +256,7 @@ pub(crate) fn apply_checked(
     }
 }
 
-/// The valid model that an edit makes of another, by few checks.
+/// Applies an edit to a copy of a valid model, by the few checks of `check_edit`.
 fn apply_few(alloc: Global, model: &ValidModel, edit: &Edit) -> Result<ValidModel, ModelFault>
     requires { IsEditInRange edit.now }
     ensures { Gives result (edited model.now edit.now) }
@@ -251,10 +267,13 @@ fn apply_few(alloc: Global, model: &ValidModel, edit: &Edit) -> Result<ValidMode
     }
 }
 
-/// The valid model that an edit makes of another. The model that it is lent stands. It is refused exactly where the
-/// edited model is: with E2 where the edit looks up a name that isn't there, with E3 where it doesn't set this kind of
-/// stimulus, with M10 where it adds a task or a chain to a full section, and then with the first refusal of the changed
-/// model. `NoMemory` where memory ran out.
+/// Applies an edit to a copy of a valid model and returns the copy, which is valid. The model
+/// itself stays as it is.
+///
+/// The edit is refused with E2 where it looks up a name that isn't there, with E3 where the
+/// stimulus is of a kind that it doesn't set, with M10 where it adds a task or a chain to a full
+/// section, and else exactly where the changed model isn't valid, with the first refusal of that
+/// model. `NoMemory` comes where memory ran out. Either error leaves nothing of the copy.
 pub fn apply_edit(alloc: Global, model: &ValidModel, edit: &Edit) -> Result<ValidModel, ModelFault>
     requires { IsEditInRange edit.now }
     ensures { Gives result (edited model.now edit.now) }

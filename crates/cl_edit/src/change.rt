@@ -1,4 +1,4 @@
-//! The change of a valid model by an edit that may be made of it.
+//! Changing a valid model in place by an edit.
 ghost use Rattle.std.specs.Prelude.{◌≡◌, [], Ok, IfOk};
 ghost use Rattle.cl_model.specs.Answers.{Gives};
 ghost use Rattle.cl_model.specs.Validity.{IsValid};
@@ -13,7 +13,7 @@ use cl_model::{ModelFault, ValidModel};
 use cl_time::NoMemory;
 use std::alloc::Global;
 
-/// The changed model, once the changes of the edit are known to pass its checks and to leave a valid model.
+/// Changes a valid model in place by an edit that passes its first checks and leaves a valid model.
 #[tactic(auto, unfolding(crate::specs::Edited::edit_checks, crate::specs::Edited::with_edit))]
 fn change_checked(alloc: Global, model: ValidModel, edit: &Edit) -> Result<ValidModel, NoMemory>
     requires checked { edit_checks model edit.now ≡ [] }
@@ -48,8 +48,9 @@ fn change_checked(alloc: Global, model: ValidModel, edit: &Edit) -> Result<Valid
     }
 }
 
-/// The valid model that an edit makes of another, which it consumes. The model is changed in place: an edit that sets or
-/// drops something takes no memory. `NoMemory` where memory ran out: then nothing is left of the model.
+/// Applies an edit that no check refuses to a valid model, which it consumes and changes in place.
+/// Only `Edit::Move`, `Edit::AddTask` and `Edit::AddChain` take memory. `NoMemory` comes where
+/// there is none for them, and leaves nothing of the model.
 pub fn change_valid(alloc: Global, model: ValidModel, edit: &Edit) -> Result<ValidModel, NoMemory>
     requires in_range { IsEditInRange edit.now }
     requires passes { edited model edit.now ≡ Ok (with_edit model edit.now) }
@@ -59,8 +60,9 @@ pub fn change_valid(alloc: Global, model: ValidModel, edit: &Edit) -> Result<Val
     change_checked(alloc, model, edit)
 }
 
-/// The valid model that an edit makes of another, which it consumes. It is refused exactly where `apply_edit` refuses it,
-/// and with the same refusal. `NoMemory` where memory ran out. Either leaves nothing.
+/// Applies an edit to a valid model, which it consumes and changes in place. It refuses the edit
+/// exactly where `apply_edit` does, with the same refusal. `NoMemory` comes where memory ran out.
+/// Either error leaves nothing of the model.
 pub fn edit_valid(alloc: Global, model: ValidModel, edit: &Edit) -> Result<ValidModel, ModelFault>
     requires { IsEditInRange edit.now }
     ensures { Gives result (edited model edit.now) }

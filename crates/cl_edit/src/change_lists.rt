@@ -1,5 +1,5 @@
-//! The changes in place of edits that add, drop or move, once their checks pass. Where memory runs out, nothing is left
-//! of the model.
+//! The changes in place by edits that add, drop or move something, once their checks have passed.
+//! Where memory runs out, nothing is left of the model.
 ghost use Rattle.std.specs.Prelude.{◌≡◌, [], IfOk};
 ghost use Rattle.cl_model.specs.Changes.{with_place, with_new_task, without_task, with_new_chain, without_chain};
 ghost use Rattle.cl_model.specs.Named.{task_names, chain_names};
@@ -18,7 +18,8 @@ pub(crate) fn move_task(
 ) -> Result<ValidModel, NoMemory>
     requires checked { found task.now (task_names model) ≡ [] }
     requires valid { IsValid (with_place model (task_number model task.now) core.now priority) }
-    ensures { IfOk result (λ changed. changed ≡ with_place model (task_number model task.now) core.now priority) }
+    ensures { IfOk result
+        (λ changed. changed ≡ with_place model (task_number model task.now) core.now priority) }
 {
     match model.task_named(task) {
         Some(number) => model.with_place(number, core, priority),

@@ -1,4 +1,5 @@
-//! The changes in place of edits that set what stands in a valid model, once their checks pass. Times are in ticks.
+//! The changes in place by edits that set something of a valid model, once their checks have
+//! passed. Times are in ticks.
 ghost use Rattle.std.specs.Prelude.{◌≡◌, [], ◌++◌};
 ghost use Rattle.cl_model.specs.ByNumber.{stimulus_number};
 ghost use Rattle.cl_model.specs.Changes.{with_range, with_whole, with_kind, with_deadline, with_swap, with_access};
@@ -34,7 +35,7 @@ pub(crate) fn set_whole(model: ValidModel, runnable: &Name, whole: bool) -> Vali
     }
 }
 
-/// Sets the numbers of a stimulus of a kind that the edit sets.
+/// Sets the numbers of a stimulus, whose kind the edit sets.
 pub(crate) fn set_stimulus(model: ValidModel, name: &Name, edit: &Edit) -> ValidModel
     requires checked { kind_found (kind_named model name.now) (sets edit.now) ≡ [] }
     requires valid { IsValid (with_kind model (stimulus_number model name.now) (with_numbers edit.now)) }

@@ -1,4 +1,4 @@
-//! Whether an edit may be made of a valid model, answered before any change.
+//! Whether an edit may be applied to a valid model, checked before any change.
 ghost use Rattle.std.specs.Prelude.{◌++◌};
 ghost use Rattle.cl_model.specs.Answers.{Passes};
 ghost use Rattle.cl_model.specs.Validity.{refusals_of};
@@ -15,7 +15,7 @@ use crate::edit::Edit;
 use cl_model::{ModelFault, ValidModel};
 use std::alloc::Global;
 
-/// A report may be made of every valid model.
+/// Accepts a report, since every valid model may be reported on.
 fn check_nothing(model: &ValidModel) -> Result<(), ModelFault>
     ensures { Passes result (refusals_of model.now) }
 {
@@ -23,12 +23,14 @@ fn check_nothing(model: &ValidModel) -> Result<(), ModelFault>
     Ok(())
 }
 
-/// Whether an edit may be made of a valid model, which stands. It is refused exactly where `apply_edit` refuses it, and
-/// with the same refusal. `NoMemory` where memory ran out.
+/// Checks whether an edit may be applied to a valid model. Changes nothing. The edit is refused
+/// exactly where `apply_edit` refuses it, with the same refusal. Only the check of `Edit::AddTask`
+/// takes memory; `NoMemory` comes where there is none for it.
 #[tactic(auto, unfolding(crate::specs::Edited::edit_checks, crate::specs::Edited::with_edit))]
 pub fn check_edit(alloc: Global, model: &ValidModel, edit: &Edit) -> Result<(), ModelFault>
     requires { IsEditInRange edit.now }
-    ensures { Passes result (edit_checks model.now edit.now ++ refusals_of (with_edit model.now edit.now)) }
+    ensures { Passes result
+        (edit_checks model.now edit.now ++ refusals_of (with_edit model.now edit.now)) }
 {
     match edit {
         Edit::Range {

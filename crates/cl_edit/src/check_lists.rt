@@ -1,4 +1,5 @@
-//! Whether a task or a chain may be added to a valid model or dropped from it, by the few checks that such an edit needs.
+//! Whether a task or a chain may be added to a valid model or dropped from it, by the few checks
+//! that such an edit needs.
 ghost use Rattle.std.specs.Prelude.{◌≡◌, ◌==◌, ◌<◌, ◌^◌, ◌++◌, not, length, slice_get, nat_lt, IfSome, is_some, All, Some};
 ghost use Rattle.std.specs.List.{list_any};
 ghost use Rattle.std.specs.Option.{option_copied};
@@ -30,7 +31,7 @@ pub(crate) fn contains(labels: &[Name], label: &Name) -> bool
 
 // ---- a new chain
 
-/// The runnable of that name. There is none exactly where no runnable has it.
+/// Finds the runnable of this name. There is none exactly where no runnable has the name.
 fn runnable_named<'a>(model: &'a ValidModel, name: &Name) -> Option<&'a RunnableDef>
     ensures { option_copied result ≡ runnable_named model.now name.now }
 {
@@ -40,7 +41,8 @@ fn runnable_named<'a>(model: &'a ValidModel, name: &Name) -> Option<&'a Runnable
     }
 }
 
-/// What step k of a chain is, where it is known.
+/// Finds the runnable of step `k` of a chain. There is none exactly where the chain has no such
+/// step, or no runnable has the name of the step.
 fn step_of<'a>(model: &'a ValidModel, chain: &ChainDef, k: usize) -> Option<&'a RunnableDef>
     ensures { option_copied result ≡ step_of model.now chain.now k }
 {
@@ -48,9 +50,10 @@ fn step_of<'a>(model: &'a ValidModel, chain: &ChainDef, k: usize) -> Option<&'a 
     runnable_named(model, name)
 }
 
-/// Whether a step is known and doesn't write a label.
+/// Whether the runnable of a step is known and doesn't write a label.
 fn misses_write(step: Option<&RunnableDef>, label: &Name) -> bool
-    ensures { result ≡ is_some_and (option_copied step.entry) (λ writer. not (has_name label.now writer.writes)) }
+    ensures { result ≡ is_some_and (option_copied step.entry)
+        (λ writer. not (has_name label.now writer.writes)) }
 {
     match step {
         Some(writer) => !contains(writer.writes.as_slice(), label),
@@ -58,9 +61,10 @@ fn misses_write(step: Option<&RunnableDef>, label: &Name) -> bool
     }
 }
 
-/// Whether a step is known and doesn't read a label.
+/// Whether the runnable of a step is known and doesn't read a label.
 fn misses_read(step: Option<&RunnableDef>, label: &Name) -> bool
-    ensures { result ≡ is_some_and (option_copied step.entry) (λ reader. not (has_name label.now reader.reads)) }
+    ensures { result ≡ is_some_and (option_copied step.entry)
+        (λ reader. not (has_name label.now reader.reads)) }
 {
     match step {
         Some(reader) => !contains(reader.reads.as_slice(), label),
@@ -68,7 +72,8 @@ fn misses_read(step: Option<&RunnableDef>, label: &Name) -> bool
     }
 }
 
-/// Whether a label isn't handed over from step k to the next one.
+/// Whether step `k` is known and doesn't write a label, or the next step is known and doesn't read
+/// it.
 fn misses_label(model: &ValidModel, chain: &ChainDef, k: usize, label: &Name) -> bool
     requires { k < 2 ^ 32 }
     ensures { result ≡ misses_label model.now chain.now k label.now }
@@ -132,7 +137,7 @@ fn check_hops(model: &ValidModel, place: Place, chain: &ChainDef) -> Result<(), 
     Ok(())
 }
 
-/// Checks M43 to M45 for a chain of number i.
+/// Checks M43 to M45 for chain `i`.
 #[tactic(auto, using(cl_model::proofs::FirstRefusals::faults), unfolding(cl_model::specs::Validity::chain_check))]
 fn check_chain(model: &ValidModel, i: usize, chain: &ChainDef) -> Result<(), ModelFault>
     requires item { i < 2 ^ 32 }
@@ -166,7 +171,8 @@ fn check_chain_name(model: &ValidModel, chain: &ChainDef) -> Result<(), ModelFau
 }
 
 fn check_chain_room(model: &ValidModel) -> Result<(), ModelFault>
-    ensures { Answers result (unless (nat_lt (length model.now.chains) MOST_CHAINS) Code.M10 (section_place Part.Chain)) tt }
+    ensures { Answers result
+        (unless (nat_lt (length model.now.chains) MOST_CHAINS) Code.M10 (section_place Part.Chain)) tt }
 {
     let has_room = (model.chains() as usize) < MOST_CHAINS;
     refuse_unless(has_room, Code::M10, Part::Chain.section_place())
@@ -175,7 +181,8 @@ fn check_chain_room(model: &ValidModel) -> Result<(), ModelFault>
 #[tactic(auto, using(cl_model::proofs::FirstRefusals::faults), unfolding(crate::specs::Edited::edit_checks))]
 fn check_parts_of_chain(model: &ValidModel, chain: &ChainDef) -> Result<(), ModelFault>
     requires { IsChainInRange chain.now }
-    ensures checked { Answers result (edit_checks model.now (edits.AddChain chain.now) ++ new_chain_checks model.now chain.now) tt }
+    ensures checked { Answers result
+        (edit_checks model.now (edits.AddChain chain.now) ++ new_chain_checks model.now chain.now) tt }
     ensures valid { IsValid model.now }
 {
     let number = model.chains() as usize;
@@ -185,11 +192,12 @@ fn check_parts_of_chain(model: &ValidModel, chain: &ChainDef) -> Result<(), Mode
     Ok(())
 }
 
-/// Whether a chain may be added: M10 where there is no room for it, and else the first refusal of the changed model. It
-/// takes no memory.
+/// Checks whether a chain may be added: M10 where there is no room for it, and else the first
+/// refusal of the changed model. Takes no memory.
 pub(crate) fn check_new_chain(model: &ValidModel, chain: &ChainDef) -> Result<(), ModelFault>
     requires { IsChainInRange chain.now }
-    ensures { Passes result (edit_checks model.now (edits.AddChain chain.now) ++ refusals_of (with_edit model.now (edits.AddChain chain.now))) }
+    ensures { Passes result
+        (edit_checks model.now (edits.AddChain chain.now) ++ refusals_of (with_edit model.now (edits.AddChain chain.now))) }
 {
     check_parts_of_chain(model, chain)
 }
@@ -227,7 +235,8 @@ fn check_chain_found(model: &ValidModel, chain: &Name) -> Result<(), ModelFault>
 
 #[tactic(auto, using(cl_model::proofs::FirstRefusals::faults), unfolding(crate::specs::Edited::edit_checks))]
 fn check_requirements_of(model: &ValidModel, chain: &Name) -> Result<(), ModelFault>
-    ensures checked { Answers result (edit_checks model.now (edits.DropChain chain.now) ++ dropped_chain_checks model.now chain.now) tt }
+    ensures checked { Answers result
+        (edit_checks model.now (edits.DropChain chain.now) ++ dropped_chain_checks model.now chain.now) tt }
     ensures valid { IsValid model.now }
 {
     let requirements = model.plain().requirements.as_slice();
@@ -236,17 +245,18 @@ fn check_requirements_of(model: &ValidModel, chain: &Name) -> Result<(), ModelFa
     Ok(())
 }
 
-/// Whether a chain may be dropped: E2 where there is none of that name, and else the first refusal of the changed model.
-/// It takes no memory.
+/// Checks whether a chain may be dropped: E2 where no chain has the name, and else the first
+/// refusal of the changed model. Takes no memory.
 pub(crate) fn check_dropped_chain(model: &ValidModel, chain: &Name) -> Result<(), ModelFault>
-    ensures { Passes result (edit_checks model.now (edits.DropChain chain.now) ++ refusals_of (with_edit model.now (edits.DropChain chain.now))) }
+    ensures { Passes result
+        (edit_checks model.now (edits.DropChain chain.now) ++ refusals_of (with_edit model.now (edits.DropChain chain.now))) }
 {
     check_requirements_of(model, chain)
 }
 
 // ---- a dropped task
 
-/// Whether a runnable has that name.
+/// Whether one of the runnables has this name.
 fn has_runnable(runnables: &[RunnableDef], name: &Name) -> bool
     ensures { result ≡ list_any (λ runnable. same_name name.now runnable.name) runnables.now }
 {
@@ -272,7 +282,7 @@ fn check_kept_steps(task: &TaskDef, place: Place, steps: &[Name]) -> Result<(), 
     Ok(())
 }
 
-/// Whether a chain passes a task.
+/// Whether chain `c` passes a task.
 fn passes(model: &ValidModel, c: u32, task: u32) -> bool
     requires { c < length model.now.chains }
     ensures { result ≡ list_any (λ group. group.task == task) (groups_at model.now c) }
@@ -280,7 +290,8 @@ fn passes(model: &ValidModel, c: u32, task: u32) -> bool
     model.groups(c).iter().any(|group| group.task == task)
 }
 
-/// Checks M44 for a chain: only one that passes the task is gone through.
+/// Checks M44 for chain `c` after a task is dropped. Only a chain that passes the task has its
+/// steps checked.
 fn check_kept_chain(
     model: &ValidModel,
     task: u32,
@@ -318,7 +329,8 @@ fn check_kept_chains(model: &ValidModel, task: u32, chains: &[ChainDef]) -> Resu
 }
 
 fn check_chains_of(model: &ValidModel, task: &Name) -> Result<(), ModelFault>
-    ensures checked { Answers result (edit_checks model.now (edits.DropTask task.now) ++ dropped_task_checks model.now task.now) tt }
+    ensures checked { Answers result
+        (edit_checks model.now (edits.DropTask task.now) ++ dropped_task_checks model.now task.now) tt }
     ensures valid { IsValid model.now }
 {
     let chains = model.plain().chains.as_slice();
@@ -328,10 +340,11 @@ fn check_chains_of(model: &ValidModel, task: &Name) -> Result<(), ModelFault>
     }
 }
 
-/// Whether a task may be dropped: E2 where there is none of that name, and else the first refusal of the changed model.
-/// It takes no memory.
+/// Checks whether a task may be dropped: E2 where no task has the name, and else the first refusal
+/// of the changed model. Takes no memory.
 pub(crate) fn check_dropped_task(model: &ValidModel, task: &Name) -> Result<(), ModelFault>
-    ensures { Passes result (edit_checks model.now (edits.DropTask task.now) ++ refusals_of (with_edit model.now (edits.DropTask task.now))) }
+    ensures { Passes result
+        (edit_checks model.now (edits.DropTask task.now) ++ refusals_of (with_edit model.now (edits.DropTask task.now))) }
 {
     check_chains_of(model, task)
 }

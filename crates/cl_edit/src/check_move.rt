@@ -1,4 +1,5 @@
-//! Whether a task of a valid model may be moved to another core and priority, answered before any change.
+//! Whether a task of a valid model may be moved to another core and priority, checked before any
+//! change.
 ghost use Rattle.std.specs.Prelude.{◌≡◌, ℕ, ◌<◌, ◌++◌, length};
 ghost use Rattle.cl_model.specs.Answers.{Answers, Passes};
 ghost use Rattle.cl_model.specs.Changes.{with_place};
@@ -17,7 +18,9 @@ use crate::clash::later_of;
 use crate::pace::Change;
 use cl_model::{Code, Key, MOST_TASKS_OF_CORE, ModelFault, Name, ValidModel};
 
-/// The first task that would find its core full if a task were moved there: the later of that task and the last of the core.
+/// Finds the first task that M34 refuses after a task is moved to this core: the later in file
+/// order of the moved task and the last task of the core. There is none exactly where the task is
+/// already on the core, or the core isn't full.
 fn first_beyond(model: &ValidModel, task: u32, core: u32) -> Option<u32>
     requires valid { IsValid model.now }
     requires task { task < length model.now.tasks }
@@ -34,21 +37,22 @@ fn first_beyond(model: &ValidModel, task: u32, core: u32) -> Option<u32>
     }
 }
 
-/// M31 of a task.
+/// The refusal M31 of a task.
 fn taken(task: u32) -> ModelFault
     ensures { result ≡ ModelFault.Refused (record { code = Code.M31; place = keys.task_key task Key.Priority }) }
 {
     ModelFault::refused(Code::M31, task_key(task as usize, Key::Priority))
 }
 
-/// M34 of a task.
+/// The refusal M34 of a task.
 fn crowded(task: u32) -> ModelFault
     ensures { result ≡ ModelFault.Refused (record { code = Code.M34; place = keys.task_key task Key.Core }) }
 {
     ModelFault::refused(Code::M34, task_key(task as usize, Key::Core))
 }
 
-/// Checks M31 and M34, by the first task that each refuses.
+/// Checks M31 and M34 for all tasks, from the first task that each of the two refuses. Where both
+/// refuse the same task, it is M31.
 fn check_first(clash: Option<u32>, beyond: Option<u32>) -> Result<(), ModelFault>
     ensures { Answers result (first_checks clash beyond) tt }
 {
@@ -60,7 +64,7 @@ fn check_first(clash: Option<u32>, beyond: Option<u32>) -> Result<(), ModelFault
     }
 }
 
-/// Checks M31 and M34 for all tasks after a move to a core of the model.
+/// Checks M31 and M34 for all tasks after a task is moved to a core of the model.
 fn check_places(model: &ValidModel, task: u32, core: u32, priority: u64) -> Result<(), ModelFault>
     requires valid { IsValid model.now }
     requires task { task < length model.now.tasks }
@@ -76,13 +80,14 @@ fn check_places(model: &ValidModel, task: u32, core: u32, priority: u64) -> Resu
     check_first(clash, first_beyond(model, task, core))
 }
 
-/// Checks M31, M34 and M42 for all tasks after a move to a core of the model.
+/// Checks M31, M34 and M42 for all tasks after a task is moved to a core of the model.
 #[tactic(auto, using(cl_model::proofs::FirstRefusals::faults))]
 fn check_moved(model: &ValidModel, task: u32, core: u32, priority: u64) -> Result<(), ModelFault>
     requires valid { IsValid model.now }
     requires task { task < length model.now.tasks }
     requires core { core < length model.now.cores }
-    ensures { let changed = with_change model.now (Move task core priority) in Passes result (place_checks changed ++ deadline_checks changed) }
+    ensures { let changed = with_change model.now (Move task core priority) in Passes result
+        (place_checks changed ++ deadline_checks changed) }
 {
     check_places(model, task, core, priority)?;
     let change = Change::Move {
@@ -93,14 +98,17 @@ fn check_moved(model: &ValidModel, task: u32, core: u32, priority: u64) -> Resul
     change.check_deadlines(model)
 }
 
-/// Whether a task may be moved: E2 where no task has the name, M29 where no core has its name.
+/// Checks whether a task may be moved to another core and priority: E2 where no task has the name,
+/// M29 where no core has the other name, and else the first refusal of the changed model. Takes no
+/// memory.
 pub(crate) fn check_move(
     model: &ValidModel,
     task: &Name,
     core: &Name,
     priority: u64,
 ) -> Result<(), ModelFault>
-    ensures { Passes result (found task.now (task_names model.now) ++ refusals_of (with_place model.now (task_number model.now task.now) core.now priority)) }
+    ensures { Passes result
+        (found task.now (task_names model.now) ++ refusals_of (with_place model.now (task_number model.now task.now) core.now priority)) }
 {
     let task = found_task(model, task)?;
     match model.core_named(core) {

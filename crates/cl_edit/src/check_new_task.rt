@@ -27,7 +27,7 @@ use cl_model::{
 use cl_valid::entry_of;
 use std::alloc::Global;
 
-/// A key of a task.
+/// The place of a key of task `i`.
 pub(crate) fn task_key(i: usize, key: Key) -> Place
     requires { i < 2 ^ 32 }
     ensures { result ≡ task_key i key }
@@ -38,7 +38,8 @@ pub(crate) fn task_key(i: usize, key: Key) -> Place
 // ---- names
 
 fn check_task_room(model: &ValidModel) -> Result<(), ModelFault>
-    ensures { Answers result (unless (nat_lt (length model.now.tasks) MOST_TASKS) Code.M10 (places.section_place Part.Task)) tt }
+    ensures { Answers result
+        (unless (nat_lt (length model.now.tasks) MOST_TASKS) Code.M10 (places.section_place Part.Task)) tt }
 {
     let has_room = (model.tasks() as usize) < MOST_TASKS;
     refuse_unless(has_room, Code::M10, Part::Task.section_place())
@@ -50,7 +51,7 @@ fn has_task(model: &ValidModel, name: &Name) -> bool
     model.task_named(name).is_some()
 }
 
-/// Checks M23.
+/// Checks M23: no task has the name of the new one.
 fn check_task_name(model: &ValidModel, task: &TaskDef) -> Result<(), ModelFault>
     ensures { Answers result (new_task_name_check model.now task.now) tt }
 {
@@ -59,14 +60,16 @@ fn check_task_name(model: &ValidModel, task: &TaskDef) -> Result<(), ModelFault>
     refuse_when(is_taken, Code::M23, place.at_key(Key::Name))
 }
 
-/// Checks M24 for one name: neither the model's runnables nor the new ones before it have it.
+/// Checks M24 for one name: neither a runnable of the model nor an earlier runnable of the new task
+/// has it. Then it is added to the names of the new runnables.
 fn check_new_name(
     model: &ValidModel,
     new: &mut NameSet,
     name: &Name,
     place: Place,
 ) -> Result<(), ModelFault>
-    ensures checked { Answers result (when (has_name name.now (all_names model.now ++ new.old)) Code.M24 place) tt }
+    ensures checked { Answers result
+        (when (has_name name.now (all_names model.now ++ new.old)) Code.M24 place) tt }
     ensures names { OnOk result (new.new ≡ new.old ++ name.now ∷ []) }
 {
     let is_taken = model.step_named(name).is_some();
@@ -81,7 +84,7 @@ fn name_of_runnable(place: Place, p: usize) -> Place
     place.at_sub(p as u32).at_key(Key::Name)
 }
 
-/// Checks M24.
+/// Checks M24 for the runnables of a new task at a place.
 fn check_runnable_names(
     alloc: Global,
     model: &ValidModel,
@@ -89,7 +92,8 @@ fn check_runnable_names(
     runnables: &[RunnableDef],
 ) -> Result<(), ModelFault>
     requires { length runnables.now < 2 ^ 32 }
-    ensures { Answers result (repeats Code.M24 (λ p. places.at_key Key.Name (places.at_sub p place)) (all_names model.now) (runnable_names runnables.now)) tt }
+    ensures { Answers result
+        (repeats Code.M24 (λ p. places.at_key Key.Name (places.at_sub p place)) (all_names model.now) (runnable_names runnables.now)) tt }
 {
     let mut new = NameSet::new(alloc);
     for (p, runnable) in runnables.iter().enumerate() {
@@ -107,7 +111,7 @@ fn is_core(cores: &[CoreDef], name: &Name) -> bool
     cores.iter().any(|core| *name == core.name)
 }
 
-/// Checks M29.
+/// Checks M29: the core of the task is known.
 fn check_core(cores: &[CoreDef], i: usize, task: &TaskDef) -> Result<(), ModelFault>
     requires { i < 2 ^ 32 }
     ensures { Answers result (core_check (map (λ core. core.name) cores.now) i task.now) tt }
@@ -116,7 +120,8 @@ fn check_core(cores: &[CoreDef], i: usize, task: &TaskDef) -> Result<(), ModelFa
     refuse_unless(is_known, Code::M29, task_key(i, Key::Core))
 }
 
-/// The kind of the stimulus of that name. There is none exactly where no stimulus has it.
+/// Finds the kind of the stimulus of this name. There is none exactly where no stimulus has the
+/// name.
 fn kind_named(model: &ValidModel, name: &Name) -> Option<StimulusKind>
     ensures { result ≡ kind_named model.now name.now }
 {
@@ -127,7 +132,7 @@ fn kind_named(model: &ValidModel, name: &Name) -> Option<StimulusKind>
     }
 }
 
-/// Checks M30.
+/// Checks M30: the stimulus of the task is known.
 fn check_stimulus(kind: Option<StimulusKind>, i: usize) -> Result<(), ModelFault>
     requires { i < 2 ^ 32 }
     ensures { Answers result (stimulus_check kind i) tt }
@@ -135,14 +140,15 @@ fn check_stimulus(kind: Option<StimulusKind>, i: usize) -> Result<(), ModelFault
     refuse_unless(kind.is_some(), Code::M30, task_key(i, Key::Stimulus))
 }
 
-/// Whether a task of its core has its priority.
+/// Whether one of the tasks has the core and the priority of another task.
 fn has_priority(tasks: &[TaskDef], task: &TaskDef) -> bool
-    ensures { result ≡ list_any (λ other. same_name task.now.core other.core && (other.priority == task.now.priority)) tasks.now }
+    ensures { result ≡ list_any
+        (λ other. same_name task.now.core other.core && (other.priority == task.now.priority)) tasks.now }
 {
     tasks.iter().any(|other| task.core == other.core && other.priority == task.priority)
 }
 
-/// Checks M31.
+/// Checks M31: no task of its core has its priority.
 fn check_priority(tasks: &[TaskDef], i: usize, task: &TaskDef) -> Result<(), ModelFault>
     requires { i < 2 ^ 32 }
     ensures { Answers result (priority_check (tasks_on task.now.core tasks.now) i task.now) tt }
@@ -152,7 +158,8 @@ fn check_priority(tasks: &[TaskDef], i: usize, task: &TaskDef) -> Result<(), Mod
 }
 
 fn is_due_late(kind: Option<StimulusKind>, task: &TaskDef) -> bool
-    ensures { result ≡ is_some_and kind (λ kind. nat_lt (least_distance kind) (deadline_under kind task.now)) }
+    ensures { result ≡ is_some_and kind
+        (λ kind. nat_lt (least_distance kind) (deadline_under kind task.now)) }
 {
     match kind {
         Some(kind) => kind.least_distance() < task.deadline_under(kind),
@@ -160,7 +167,7 @@ fn is_due_late(kind: Option<StimulusKind>, task: &TaskDef) -> bool
     }
 }
 
-/// Checks M32.
+/// Checks M32: the deadline doesn't exceed the least distance of the stimulus.
 fn check_late(kind: Option<StimulusKind>, i: usize, task: &TaskDef) -> Result<(), ModelFault>
     requires { i < 2 ^ 32 }
     ensures { Answers result (late_check kind i task.now) tt }
@@ -170,7 +177,8 @@ fn check_late(kind: Option<StimulusKind>, i: usize, task: &TaskDef) -> Result<()
 }
 
 fn is_released_late(kind: Option<StimulusKind>, task: &TaskDef) -> bool
-    ensures { result ≡ is_some_and kind (λ kind. nat_le (deadline_under kind task.now) (greatest_jitter kind)) }
+    ensures { result ≡ is_some_and kind
+        (λ kind. nat_le (deadline_under kind task.now) (greatest_jitter kind)) }
 {
     match kind {
         Some(kind) => task.deadline_under(kind) <= kind.greatest_jitter(),
@@ -178,7 +186,7 @@ fn is_released_late(kind: Option<StimulusKind>, task: &TaskDef) -> bool
     }
 }
 
-/// Checks M33.
+/// Checks M33: each job is released before its deadline.
 fn check_release(kind: Option<StimulusKind>, i: usize, task: &TaskDef) -> Result<(), ModelFault>
     requires { i < 2 ^ 32 }
     ensures { Answers result (release_check kind i task.now) tt }
@@ -193,7 +201,7 @@ fn count_on(tasks: &[TaskDef], core: &Name) -> usize
     tasks.iter().filter(|task| *core == task.core).count()
 }
 
-/// Checks M34.
+/// Checks M34: the core of the task isn't full.
 fn check_room(tasks: &[TaskDef], i: usize, task: &TaskDef) -> Result<(), ModelFault>
     requires { i < 2 ^ 32 }
     ensures { Answers result (room_check (length (tasks_on task.now.core tasks.now)) i) tt }
@@ -202,7 +210,7 @@ fn check_room(tasks: &[TaskDef], i: usize, task: &TaskDef) -> Result<(), ModelFa
     refuse_when(is_full, Code::M34, task_key(i, Key::Core))
 }
 
-/// Checks M35.
+/// Checks M35: the task has a runnable.
 fn check_empty(i: usize, task: &TaskDef) -> Result<(), ModelFault>
     requires { i < 2 ^ 32 }
     ensures { Answers result (empty_check i task.now) tt }
@@ -211,7 +219,7 @@ fn check_empty(i: usize, task: &TaskDef) -> Result<(), ModelFault>
     refuse_when(is_empty, Code::M35, entry_of(Part::Task, i))
 }
 
-/// Checks M29 to M35 for a task of number i beside others.
+/// Checks M29 to M35 for a new task of number `i`, beside the tasks of the model.
 #[tactic(auto, using(cl_model::proofs::FirstRefusals::faults))]
 fn check_naming(
     cores: &[CoreDef],
@@ -221,7 +229,8 @@ fn check_naming(
     task: &TaskDef,
 ) -> Result<(), ModelFault>
     requires { i < 2 ^ 32 }
-    ensures { Answers result (added_naming_checks (map (λ core. core.name) cores.now) tasks.now kind i task.now) tt }
+    ensures { Answers result
+        (added_naming_checks (map (λ core. core.name) cores.now) tasks.now kind i task.now) tt }
 {
     check_core(cores, i, task)?;
     check_stimulus(kind, i)?;
@@ -240,7 +249,8 @@ fn count_runnables(tasks: &[TaskDef]) -> usize
     tasks.iter().map(|task| task.runnables.len()).sum()
 }
 
-/// Checks M41 for a task of number i beside others.
+/// Checks M41 for a new task of number `i`: with those of the other tasks it doesn't have too many
+/// runnables.
 fn check_count(tasks: &[TaskDef], i: usize, task: &TaskDef) -> Result<(), ModelFault>
     requires few { sum_by (λ task. length task.runnables) tasks.now < 2 ^ 32 }
     requires item { i < 2 ^ 32 }
@@ -254,7 +264,7 @@ fn check_count(tasks: &[TaskDef], i: usize, task: &TaskDef) -> Result<(), ModelF
 
 // ---- the whole task
 
-/// Checks M24 for a new task.
+/// Checks M24 for the runnables of a new task.
 fn check_new_runnables(alloc: Global, model: &ValidModel, task: &TaskDef) -> Result<(), ModelFault>
     requires { IsTaskInRange task.now }
     ensures { Answers result (new_runnables_check model.now task.now) tt }
@@ -267,7 +277,8 @@ fn check_new_runnables(alloc: Global, model: &ValidModel, task: &TaskDef) -> Res
 #[tactic(auto, using(cl_model::proofs::FirstRefusals::faults))]
 fn check_names(alloc: Global, model: &ValidModel, task: &TaskDef) -> Result<(), ModelFault>
     requires { IsTaskInRange task.now }
-    ensures { Answers result (new_task_name_check model.now task.now ++ new_runnables_check model.now task.now) tt }
+    ensures { Answers result
+        (new_task_name_check model.now task.now ++ new_runnables_check model.now task.now) tt }
 {
     check_task_name(model, task)?;
     check_new_runnables(alloc, model, task)?;
@@ -321,15 +332,16 @@ fn check_all(
     Ok(())
 }
 
-/// Whether a task may be added: M10 where there is no room for it, and else the first refusal of the changed model.
-/// `NoMemory` where memory ran out.
+/// Checks whether a task may be added: M10 where there is no room for it, and else the first
+/// refusal of the changed model. `NoMemory` comes where memory ran out.
 pub(crate) fn check_new_task(
     alloc: Global,
     model: &ValidModel,
     task: &TaskDef,
 ) -> Result<(), ModelFault>
     requires { IsTaskInRange task.now }
-    ensures { Passes result (edit_checks model.now (edits.AddTask task.now) ++ refusals_of (with_edit model.now (edits.AddTask task.now))) }
+    ensures { Passes result
+        (edit_checks model.now (edits.AddTask task.now) ++ refusals_of (with_edit model.now (edits.AddTask task.now))) }
 {
     let kind = kind_named(model, &task.stimulus);
     check_all(alloc, model, kind, model.plain().tasks.as_slice(), task)

@@ -1,4 +1,5 @@
-//! The few checks of edits that set what stands in a valid model, answered before any change. Times are in ticks.
+//! The few checks of edits that set something of a valid model, made before any change. Times are
+//! in ticks.
 ghost use Rattle.std.specs.Prelude.{◌≡◌, ◌<◌, ◌++◌, length, IfOk};
 ghost use Rattle.cl_model.specs.Answers.{Answers, Passes};
 ghost use Rattle.cl_model.specs.Groups.{step_named};
@@ -23,7 +24,7 @@ use cl_model::{
 };
 use cl_valid::{has_late_offset, has_long_burst, has_no_distance};
 
-/// The number of the task of that name. E2 where no task has it.
+/// Finds the number of the task of this name. E2 where no task has the name.
 #[tactic(auto, using(crate::proofs::FoundFacts::finding))]
 pub(crate) fn found_task(model: &ValidModel, name: &Name) -> Result<u32, ModelFault>
     ensures checked { Passes result (found name.now (task_names model.now)) }
@@ -31,7 +32,7 @@ pub(crate) fn found_task(model: &ValidModel, name: &Name) -> Result<u32, ModelFa
     ensures within { IfOk result (λ number. number < length model.now.tasks) }
     ensures valid { IsValid model.now }
 {
-    // The checks of the changed model come down to few because this one is valid.
+    // because this model is valid, few checks of the changed model are left
     let _valid = model.plain();
     match model.task_named(name) {
         Some(number) => Ok(number),
@@ -39,7 +40,7 @@ pub(crate) fn found_task(model: &ValidModel, name: &Name) -> Result<u32, ModelFa
     }
 }
 
-/// The runnable of that name. E2 where none has it.
+/// Finds the runnable of this name. E2 where no runnable has the name.
 fn found_runnable(model: &ValidModel, name: &Name) -> Result<Step, ModelFault>
     ensures checked { Passes result (found name.now (all_names model.now)) }
     ensures step { IfOk result (λ step. step ≡ step_named model.now name.now) }
@@ -52,7 +53,7 @@ fn found_runnable(model: &ValidModel, name: &Name) -> Result<Step, ModelFault>
     }
 }
 
-/// Checks M36 for the runnable of a step with other execution times.
+/// Checks M36 for a runnable that gets other execution times.
 fn check_times(step: Step, least: u64, greatest: u64) -> Result<(), ModelFault>
     ensures { Answers result (range_refusals step least greatest) tt }
 {
@@ -69,7 +70,8 @@ pub(crate) fn check_range(
     least: u64,
     greatest: u64,
 ) -> Result<(), ModelFault>
-    ensures { Passes result (found runnable.now (all_names model.now) ++ refusals_of (with_range model.now (step_named model.now runnable.now) least greatest)) }
+    ensures { Passes result
+        (found runnable.now (all_names model.now) ++ refusals_of (with_range model.now (step_named model.now runnable.now) least greatest)) }
 {
     let step = found_runnable(model, runnable)?;
     check_times(step, least, greatest)
@@ -80,7 +82,8 @@ pub(crate) fn check_whole(
     runnable: &Name,
     whole: bool,
 ) -> Result<(), ModelFault>
-    ensures { Passes result (found runnable.now (all_names model.now) ++ refusals_of (with_whole model.now (step_named model.now runnable.now) whole)) }
+    ensures { Passes result
+        (found runnable.now (all_names model.now) ++ refusals_of (with_whole model.now (step_named model.now runnable.now) whole)) }
 {
     let _step = found_runnable(model, runnable)?;
     Ok(())
@@ -91,7 +94,8 @@ pub(crate) fn check_access(
     task: &Name,
     access: AccessKind,
 ) -> Result<(), ModelFault>
-    ensures { Passes result (found task.now (task_names model.now) ++ refusals_of (with_access model.now (task_number model.now task.now) access)) }
+    ensures { Passes result
+        (found task.now (task_names model.now) ++ refusals_of (with_access model.now (task_number model.now task.now) access)) }
 {
     let _number = found_task(model, task)?;
     Ok(())
@@ -102,7 +106,8 @@ pub(crate) fn check_deadline(
     task: &Name,
     deadline: Option<u64>,
 ) -> Result<(), ModelFault>
-    ensures { Passes result (found task.now (task_names model.now) ++ refusals_of (with_deadline model.now (task_number model.now task.now) deadline)) }
+    ensures { Passes result
+        (found task.now (task_names model.now) ++ refusals_of (with_deadline model.now (task_number model.now task.now) deadline)) }
 {
     let number = found_task(model, task)?;
     let change = Change::Deadline {
@@ -112,7 +117,7 @@ pub(crate) fn check_deadline(
     change.check_task(model, number)
 }
 
-/// Checks M27, M28 and M47 for a stimulus of a kind.
+/// Checks M27, M28 and M47 for a stimulus that becomes one of this kind.
 #[tactic(auto, using(cl_model::proofs::FirstRefusals::faults))]
 fn check_numbers(stimulus: u32, kind: StimulusKind) -> Result<(), ModelFault>
     ensures { Answers result (number_refusals stimulus kind) tt }
@@ -128,21 +133,25 @@ fn check_numbers(stimulus: u32, kind: StimulusKind) -> Result<(), ModelFault>
     Ok(())
 }
 
-/// The few checks of another kind of a stimulus.
+/// Checks M27, M28 and M47 for a stimulus that becomes one of this kind, then M32 and M33 for each
+/// task that names it, and then M42 for all tasks.
 #[tactic(auto, using(cl_model::proofs::FirstRefusals::faults))]
 fn check_kind(model: &ValidModel, stimulus: u32, kind: StimulusKind) -> Result<(), ModelFault>
     requires valid { IsValid model.now }
     requires stimulus { stimulus < length model.now.stimuli }
-    ensures { Passes result (number_refusals stimulus kind ++ (all_limits_on model.now (Change.Kind stimulus kind) stimulus ++ deadline_checks (with_kind model.now stimulus (λ _. kind)))) }
+    ensures { Passes result
+        (number_refusals stimulus kind ++ (all_limits_on model.now (Change.Kind stimulus kind) stimulus ++ deadline_checks (with_kind model.now stimulus (λ _. kind)))) }
 {
     check_numbers(stimulus, kind)?;
     let change = Change::Kind { stimulus, kind };
     change.check_stimulus(model, stimulus)
 }
 
-/// Whether an edit may set the numbers of a stimulus. E3 where it doesn't set its kind.
+/// Checks whether an edit may set the numbers of a stimulus: E2 where no stimulus has the name, E3
+/// where the edit doesn't set its kind, and else the first refusal of the changed model.
 pub(crate) fn check_stimulus(model: &ValidModel, name: &Name, edit: &Edit) -> Result<(), ModelFault>
-    ensures { Passes result (kind_found (kind_named model.now name.now) (sets edit.now) ++ refusals_of (with_kind model.now (stimulus_number model.now name.now) (with_numbers edit.now))) }
+    ensures { Passes result
+        (kind_found (kind_named model.now name.now) (sets edit.now) ++ refusals_of (with_kind model.now (stimulus_number model.now name.now) (with_numbers edit.now))) }
 {
     let Some(number) = model.stimulus_named(name) else {
         return Err(not_found());
@@ -155,7 +164,8 @@ pub(crate) fn check_stimulus(model: &ValidModel, name: &Name, edit: &Edit) -> Re
 }
 
 pub(crate) fn check_swap(model: &ValidModel, one: &Name, other: &Name) -> Result<(), ModelFault>
-    ensures { Passes result (found one.now (task_names model.now) ++ found other.now (task_names model.now) ++ refusals_of (with_swap model.now (task_number model.now one.now) (task_number model.now other.now))) }
+    ensures { Passes result
+        (found one.now (task_names model.now) ++ found other.now (task_names model.now) ++ refusals_of (with_swap model.now (task_number model.now one.now) (task_number model.now other.now))) }
 {
     let one = found_task(model, one)?;
     let other = found_task(model, other)?;

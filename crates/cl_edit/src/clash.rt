@@ -1,4 +1,5 @@
-//! Priorities on cores after a change of when tasks run, checked before it.
+//! The checks of the priorities on each core after a change of when tasks run, made before the
+//! change.
 ghost use Rattle.std.specs.Prelude.{◌≡◌, ◌++◌, ◌==◌, ◌&&◌, not, ℕ, ◌<◌, length, nat_lt, if◌then◌else◌};
 ghost use Rattle.cl_model.specs.Answers.{Answers, Passes};
 ghost use Rattle.cl_model.specs.ByNumber.{core_of};
@@ -13,14 +14,14 @@ use crate::check_new_task::task_key;
 use crate::pace::{Change, noted};
 use cl_model::{Code, Key, ModelFault, ValidModel};
 
-/// The one of two tasks that stands later.
+/// The later of two tasks in file order.
 pub(crate) fn later_of(task: u32, other: u32) -> u32
     ensures { result ≡ (if nat_lt task other then other else task) }
 {
     if task < other { other } else { task }
 }
 
-/// Whether two tasks are apart but have one priority.
+/// Whether two tasks differ but have the same priority.
 fn is_clash(task: u32, own: u64, other: u32, its: u64) -> bool
     ensures { result ≡ (not (task == other) && (own == its)) }
 {
@@ -28,7 +29,8 @@ fn is_clash(task: u32, own: u64, other: u32, its: u64) -> bool
 }
 
 impl Change {
-    /// The first task whose priority an earlier one has, of those so far and of two tasks of one core.
+    /// Returns the earlier task of `first` and, where these two tasks of one core have the same
+    /// priority after the change, the later of the two.
     fn clash_of_pair(
         self,
         model: &ValidModel,
@@ -40,7 +42,8 @@ impl Change {
         requires change { IsChangeOf model.now self }
         requires task { task < length model.now.tasks }
         requires other { other < length model.now.tasks }
-        requires core { core_of (with_change model.now self) task ≡ core_of (with_change model.now self) other }
+        requires core { core_of (with_change model.now self) task
+            ≡ core_of (with_change model.now self) other }
         requires first { IsClashing (with_change model.now self) first }
         ensures first { IsClashing (with_change model.now self) result }
         ensures kept { (k : ℕ) → IsAtMost first k → IsAtMost result k }
@@ -52,7 +55,8 @@ impl Change {
         noted(first, is_clash, later_of(task, other))
     }
 
-    /// The same of all pairs of a task with one of its core.
+    /// Returns the first task of `first` and of those that M31 refuses after the change for a pair
+    /// of this task and another one of its core.
     pub(crate) fn clash_beside(
         self,
         model: &ValidModel,
@@ -80,7 +84,7 @@ impl Change {
     }
 }
 
-/// Checks M31 for all tasks after an exchange of two priorities.
+/// Checks M31 for all tasks after two tasks exchange their priorities.
 fn check_swap(model: &ValidModel, one: u32, other: u32) -> Result<(), ModelFault>
     requires valid { IsValid model.now }
     requires one { one < length model.now.tasks }
@@ -95,13 +99,14 @@ fn check_swap(model: &ValidModel, one: u32, other: u32) -> Result<(), ModelFault
     }
 }
 
-/// Checks M31 and M42 for all tasks after an exchange of two priorities.
+/// Checks M31 and M42 for all tasks after two tasks exchange their priorities.
 #[tactic(auto, using(cl_model::proofs::FirstRefusals::faults))]
 pub(crate) fn check_swapped(model: &ValidModel, one: u32, other: u32) -> Result<(), ModelFault>
     requires valid { IsValid model.now }
     requires one { one < length model.now.tasks }
     requires other { other < length model.now.tasks }
-    ensures { Passes result (clash_checks (with_swap model.now one other) ++ deadline_checks (with_swap model.now one other)) }
+    ensures { Passes result
+        (clash_checks (with_swap model.now one other) ++ deadline_checks (with_swap model.now one other)) }
 {
     check_swap(model, one, other)?;
     let change = Change::Swap { one, other };

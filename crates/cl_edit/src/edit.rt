@@ -1,7 +1,7 @@
 //! Edits: small changes of a model. Times are in ticks.
 use cl_model::{AccessKind, ChainDef, Name, TaskDef};
 
-/// A change of a model.
+/// A change of a model. Times are in ticks.
 #[derive(Debug, PartialEq, Eq, Drop)]
 pub enum Edit {
     /// Sets the execution times of a runnable.
@@ -10,7 +10,8 @@ pub enum Edit {
         least: u64,
         greatest: u64,
     },
-    /// Sets whether a runnable runs to its end without a break.
+    /// Sets whether a runnable is whole: whether it runs to its end without a break once it has
+    /// started.
     Whole {
         runnable: Name,
         whole: bool,
@@ -30,20 +31,21 @@ pub enum Edit {
         stimulus: Name,
         jitter: u64,
     },
-    /// Sets the distances of a sporadic stimulus.
+    /// Sets the least and the greatest distance of a sporadic stimulus.
     Distances {
         stimulus: Name,
         least: u64,
         greatest: u64,
     },
-    /// Sets the numbers of a burst, except for its offset.
+    /// Sets the period, the count and the distance of a burst. The offset stays as it is.
     Burst {
         stimulus: Name,
         period: u64,
         count: u64,
         distance: u64,
     },
-    /// Sets the deadline of a task, or clears it.
+    /// Sets the deadline of a task, or clears it, so that it becomes the least distance of the
+    /// task's stimulus.
     Deadline {
         task: Name,
         deadline: Option<u64>,
@@ -59,7 +61,7 @@ pub enum Edit {
         core: Name,
         priority: u64,
     },
-    /// Sets when the runnables of a task read and write.
+    /// Sets the kind of access of a task: when its runnables read and write labels.
     Kind {
         task: Name,
         access: AccessKind,
@@ -76,6 +78,6 @@ pub enum Edit {
     DropChain {
         chain: Name,
     },
-    /// Changes nothing: here the findings are reported.
+    /// Changes nothing. The findings are reported here.
     Report,
 }

@@ -1,4 +1,4 @@
-//! The edits of a text, one at a time.
+//! Reading the edits of a text one at a time.
 ghost use Rattle.std.specs.Prelude.{◌≡◌, ◌≢◌, ℕ, List, ◌++◌, Err, IfOk, IfSome, IfNone, OnErr};
 ghost use Rattle.cl_text.specs.LinesFault.{IfBadLine};
 ghost use Rattle.cl_text.specs.Standing.{NoneStands};
@@ -16,7 +16,8 @@ use cl_time::NoMemory;
 use std::alloc::Global;
 use std::marker::Model;
 
-/// What follows the first line, where a text begins with it.
+/// Returns what follows the title line. There is none exactly where the text doesn't begin with
+/// that line.
 fn behind_title(text: &[u8]) -> Option<&[u8]>
     ensures some { IfSome result (λ lines. text.now ≡ title_line ++ lines.now) }
     ensures none { IfNone result ((rest : List ℕ) → text.now ≢ title_line ++ rest) }
@@ -24,8 +25,9 @@ fn behind_title(text: &[u8]) -> Option<&[u8]>
     text.strip_prefix(b"chainlat edits 1\n".as_slice())
 }
 
-/// Whether the edit of the line that the text begins with is a report, and what follows the line, as long as there is
-/// room for that edit: so many edits stand above it, and so many of them are reports.
+/// Reads the edit line that the text begins with, and returns whether the edit is a report, and
+/// what follows the line. `Bad` where there is no such line, or no room for the edit below `edits`
+/// edits, of which `reports` are reports.
 fn line_after(
     alloc: Global,
     text: &[u8],
@@ -39,7 +41,7 @@ fn line_after(
     Ok((is_report(&edit), rest))
 }
 
-/// The lines of edits that are left of a text that lists edits. Contracts see their bytes.
+/// The edit lines that are left to read, of a text that lists edits. Contracts see their bytes.
 #[derive(Drop)]
 pub struct EditLines<'a> {
     left: &'a [u8],
@@ -57,13 +59,16 @@ impl<'a> Model for EditLines<'a> {
 }
 
 impl<'a> EditLines<'a> {
-    /// The lines of all edits that a text lists. It holds no edit, and reads each once to see that its line is one.
+    /// Checks that a text lists edits, and returns the lines of all of them. Each line is read once
+    /// as a check, and no edit is kept.
     ///
-    /// `BadLine` comes exactly where the text lists no edits: at its first line that is outside the grammar, that is one
-    /// too many, or that has no end, counted from 1. `NoMemory` comes where there is no memory for an edit. Either
-    /// leaves nothing.
+    /// `BadLine` comes exactly where the text lists no edits. It has the number of the first line
+    /// that is outside the grammar, that is one too many, or that has no end, counted from 1.
+    /// `NoMemory` comes where there is no memory for an edit. Either error leaves nothing.
     pub fn of(alloc: Global, text: &'a [u8]) -> Result<EditLines<'a>, EditsFault>
-        ensures lines { IfOk result (λ lines. (edits : List Edit) × AreEditsOf text.now edits × (lines ≡ edit_lines edits)) }
+        ensures lines { IfOk result
+            (λ lines. (edits : List Edit) × AreEditsOf text.now edits
+            × (lines ≡ edit_lines edits)) }
         ensures bad_line { IfBadLine result (IsBadEditLine text.now) }
     {
         let Some(lines) = behind_title(text) else {
@@ -89,8 +94,8 @@ impl<'a> EditLines<'a> {
         Ok(EditLines { left: lines })
     }
 
-    /// The next edit, while there is one. `NoMemory` comes where there is no memory for it; it leaves the lines as they
-    /// were.
+    /// Reads the next edit. `None` comes exactly where no line is left. `NoMemory` comes where
+    /// there is no memory for the edit, and leaves the lines as they were.
     pub fn next(&mut self, alloc: Global) -> Result<Option<Edit>, NoMemory>
         ensures next { IfOk result (λ next. GivesNext next self.old self.new) }
         ensures unread { OnErr result (self.new ≡ self.old) }

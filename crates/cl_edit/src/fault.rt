@@ -1,8 +1,8 @@
-//! What the reading of edits may answer in place of a list.
+//! The errors of reading edits.
 use cl_text::LinesFault;
 use cl_time::NoMemory;
 
-/// Why a text was not read as a list of edits.
+/// Why a text isn't read as a list of edits: its first bad line, or memory ran out.
 pub type EditsFault = LinesFault;
 
 /// Why a word or a line isn't read: it is outside the grammar, or memory ran out.

@@ -1,4 +1,4 @@
-//! Single words of an edit: names, numbers, words of a list, and lists of names.
+//! Reading single words of an edit: names, numbers, keywords, and lists of names.
 ghost use Rattle.std.specs.Prelude.{◌≡◌, [], ◌∷◌, IfOk, IfErr};
 ghost use Rattle.cl_edit.specs.declared.fault.Unread.TheVariants.{Bad};
 ghost use Rattle.cl_edit.specs.Inner.Parts.{first_read, ReadsPart, ReadsUpTo};
@@ -77,7 +77,7 @@ fn names_of(alloc: Global, word: &[u8], most: usize) -> Result<List<Name>, Unrea
     Ok(names)
 }
 
-/// The next word of a line.
+/// Returns the next word of a line. `Bad` where no word is left.
 fn word<'a>(words: &mut Parts<'a>) -> Result<&'a [u8], Unread>
     ensures some { IfOk result (λ word. words.old ≡ word.now ∷ words.new) }
     ensures none { IfErr result (λ fault. (fault ≡ Bad) × (words.old ≡ [])) }
@@ -85,49 +85,49 @@ fn word<'a>(words: &mut Parts<'a>) -> Result<&'a [u8], Unread>
     words.next().ok_or(Unread::Bad)
 }
 
-/// A name.
+/// Reads a name.
 pub(crate) fn name(words: &mut Parts<'_>) -> Result<Name, Unread>
     ensures { ReadsUpTo result words.new (first_read name_in words.old) }
 {
     name_of(word(words)?)
 }
 
-/// A number from `least` to `most`.
+/// Reads a number from `least` to `most`.
 pub(crate) fn number(words: &mut Parts<'_>, least: u64, most: u64) -> Result<u64, Unread>
     ensures { ReadsUpTo result words.new (first_read (number_in least most) words.old) }
 {
     number_of(word(words)?, least, most)
 }
 
-/// A time from 1 tick up.
+/// Reads a time of 1 tick or more.
 pub(crate) fn time(words: &mut Parts<'_>) -> Result<u64, Unread>
     ensures { ReadsUpTo result words.new (first_read time_in words.old) }
 {
     time_of(word(words)?)
 }
 
-/// Yes or no.
+/// Reads `yes` or `no`.
 pub(crate) fn flag(words: &mut Parts<'_>) -> Result<bool, Unread>
     ensures { ReadsUpTo result words.new (first_read flag_in words.old) }
 {
     flag_of(word(words)?)
 }
 
-/// A kind of access.
+/// Reads a kind of access.
 pub(crate) fn access(words: &mut Parts<'_>) -> Result<AccessKind, Unread>
     ensures { ReadsUpTo result words.new (first_read access_in words.old) }
 {
     access_of(word(words)?)
 }
 
-/// A deadline, or that there is none.
+/// Reads a deadline in ticks, or `*`, which stands for no deadline.
 pub(crate) fn deadline(words: &mut Parts<'_>) -> Result<Option<u64>, Unread>
     ensures { ReadsUpTo result words.new (first_read deadline_in words.old) }
 {
     deadline_of(word(words)?)
 }
 
-/// At most so many names, or that there is none.
+/// Reads up to `most` names with commas between them, or `*`, which stands for no names.
 pub(crate) fn names(alloc: Global, words: &mut Parts<'_>, most: usize) -> Result<List<Name>, Unread>
     ensures { ReadsUpTo result words.new (first_read (names_in most) words.old) }
 {

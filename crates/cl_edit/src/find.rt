@@ -1,4 +1,4 @@
-//! What the names of an edit stand for in a model.
+//! Finding what the names of an edit stand for in a model.
 ghost use Rattle.std.specs.Prelude.{◌≡◌, ◌<◌, ◌^◌, length, map, All, IfOk, IfErr, OnErr, Some, None, unwrap_or};
 ghost use Rattle.cl_model.specs.Answers.{Passes};
 ghost use Rattle.cl_model.specs.Named.{index_of};
@@ -10,7 +10,8 @@ ghost use Rattle.cl_edit.specs.Inner.Steps.{step_search};
 
 use cl_model::{Code, ModelFault, Name, Named, Place, Step, SystemModel, TaskDef};
 
-/// The number of the entry of that name. There is none exactly where no entry has it.
+/// Finds the number of the first entry of this name. There is none exactly where no entry has the
+/// name.
 fn number_of<T: Named>(entries: &[T], name: &Name) -> Option<usize>
     ensures { result ≡ index_of name.now (map T.name_of entries.now) }
 {
@@ -22,20 +23,22 @@ fn number_of<T: Named>(entries: &[T], name: &Name) -> Option<usize>
     None
 }
 
-/// The fault of a name that isn't there.
+/// The refusal E2 of a name that isn't there.
 pub(crate) fn not_found() -> ModelFault
     ensures { result ≡ ModelFault.Refused (record { code = Code.E2; place = top }) }
 {
     ModelFault::refused(Code::E2, Place::top())
 }
 
-/// The number of the entry of that name. E2 where no entry has it.
+/// Finds the number of the first entry of this name. E2 where no entry has the name.
 #[tactic(auto, using(crate::proofs::FoundFacts::finding))]
 pub(crate) fn found<T: Named>(entries: &[T], name: &Name) -> Result<usize, ModelFault>
     ensures checked { Passes result (found name.now (map T.name_of entries.now)) }
-    ensures number { IfOk result (λ number. index_of name.now (map T.name_of entries.now) ≡ Some number) }
+    ensures number { IfOk result
+        (λ number. index_of name.now (map T.name_of entries.now) ≡ Some number) }
     ensures missing { OnErr result (index_of name.now (map T.name_of entries.now) ≡ None) }
-    ensures fault { IfErr result (λ fault. fault ≡ ModelFault.Refused (record { code = Code.E2; place = top })) }
+    ensures fault { IfErr result
+        (λ fault. fault ≡ ModelFault.Refused (record { code = Code.E2; place = top })) }
 {
     match number_of(entries, name) {
         Some(number) => Ok(number),
@@ -43,7 +46,8 @@ pub(crate) fn found<T: Named>(entries: &[T], name: &Name) -> Result<usize, Model
     }
 }
 
-/// The first runnable of that name.
+/// Finds the first runnable of this name, in file order. There is none exactly where no runnable
+/// has the name.
 pub(crate) fn step_search(tasks: &[TaskDef], name: &Name) -> Option<Step>
     requires tasks { length tasks.now < 2 ^ 32 }
     requires runnables { All (λ task. length task.runnables < 2 ^ 32) tasks.now }
@@ -60,7 +64,7 @@ pub(crate) fn step_search(tasks: &[TaskDef], name: &Name) -> Option<Step>
     None
 }
 
-/// The runnable of that name. E2 where none has it.
+/// Finds the first runnable of this name, in file order. E2 where no runnable has the name.
 pub(crate) fn found_step(model: &SystemModel, name: &Name) -> Result<Step, ModelFault>
     requires { IsInRange model.now }
     ensures checked { Passes result (found name.now (all_names model.now)) }

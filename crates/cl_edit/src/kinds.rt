@@ -1,4 +1,4 @@
-//! Kinds of stimuli with other numbers. Times are in ticks.
+//! Kinds of stimuli with the numbers of an edit. Times are in ticks.
 ghost use Rattle.std.specs.Prelude.{◌≡◌, if◌then◌else◌, Some, None};
 ghost use Rattle.cl_model.specs.Kinds.{is_periodic};
 ghost use Rattle.cl_model.specs.Changes.{with_period, with_offset, with_jitter, with_distances, with_burst};
@@ -81,7 +81,8 @@ fn with_burst(kind: StimulusKind, period: u64, count: u64, distance: u64) -> Opt
     }
 }
 
-/// The kind with the numbers of the edit. There is none exactly where the edit doesn't set this kind.
+/// Replaces the numbers of a kind by those of the edit. There is none exactly where the edit
+/// doesn't set this kind.
 pub(crate) fn kind_with(kind: StimulusKind, edit: &Edit) -> Option<StimulusKind>
     ensures { result ≡ (if sets edit.now kind then Some (with_numbers edit.now kind) else None) }
 {

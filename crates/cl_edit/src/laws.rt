@@ -1,5 +1,5 @@
-//! Each text has one answer: it lists edits, or it has a first bad line. And what an edit makes of a valid model is
-//! valid.
+//! Each text has one answer: it lists edits, or it has a first bad line. An edit of a valid model
+//! makes a valid model.
 ghost use Rattle.std.specs.Prelude.{◌≡◌, ◌⊎◌, ℕ, List, Ok, All};
 ghost use Rattle.cl_model.specs.declared.model.SystemModel.{SystemModel};
 ghost use Rattle.cl_model.specs.AreNamed.{AreNamed};
@@ -14,29 +14,38 @@ pub mod lists;
 
 /// A text lists edits, or it has a first bad line.
 pub fn texts_have_an_answer()
-    ensures { (text : List ℕ) → ((edits : List Edit) × AreEditsOf text edits) ⊎ ((line : ℕ) × IsBadEditLine text line) }
+    ensures { (text : List ℕ) → ((edits : List Edit) × AreEditsOf text edits)
+        ⊎ ((line : ℕ) × IsBadEditLine text line) }
 {}
 
-/// It lists one list of edits at most, and then it has no bad line; it has one first bad line at most.
+/// A text lists at most one list of edits, and it has at most one first bad line. A text that lists
+/// edits has no bad line.
 pub fn texts_have_one_answer()
-    ensures edits { (text : List ℕ) (one other : List Edit) → AreEditsOf text one → AreEditsOf text other → one ≡ other }
-    ensures line { (text : List ℕ) (one other : ℕ) → IsBadEditLine text one → IsBadEditLine text other → one ≡ other }
-    ensures apart { (text : List ℕ) (edits : List Edit) (line : ℕ) → AreEditsOf text edits → IsBadEditLine text line → ⊥ }
+    ensures edits { (text : List ℕ) (one other : List Edit) → AreEditsOf text one
+        → AreEditsOf text other → one ≡ other }
+    ensures line { (text : List ℕ) (one other : ℕ) → IsBadEditLine text one
+        → IsBadEditLine text other → one ≡ other }
+    ensures apart { (text : List ℕ) (edits : List Edit) (line : ℕ) → AreEditsOf text edits
+        → IsBadEditLine text line → ⊥ }
 {}
 
-/// Edits that a text lists are in range.
+/// All edits that a text lists are in range.
 pub fn listed_edits_are_in_range()
-    ensures { (text : List ℕ) (edits : List Edit) → AreEditsOf text edits → All IsEditInRange edits }
+    ensures { (text : List ℕ) (edits : List Edit) → AreEditsOf text edits
+        → All IsEditInRange edits }
 {}
 
-/// What an edit in range makes of a valid model is valid, unless it is refused.
+/// An edit in range makes a valid model of a valid model, unless it is refused.
 pub fn edited_models_are_valid()
-    ensures { (model : SystemModel) (edit : Edit) (changed : SystemModel) → IsValid model → IsEditInRange edit
+    ensures { (model : SystemModel) (edit : Edit) (changed : SystemModel) → IsValid model
+        → IsEditInRange edit
         → edited model edit ≡ Ok changed → IsValid changed }
 {}
 
-/// And an edit whose names are of the name grammar keeps the names of a model so.
+/// Where all names in a model and in an edit are of the name grammar, so are all names in the
+/// edited model, unless the edit is refused.
 pub fn edited_models_are_named()
-    ensures { (model : SystemModel) (edit : Edit) (changed : SystemModel) → AreNamed model → IsEditNamed edit
+    ensures { (model : SystemModel) (edit : Edit) (changed : SystemModel) → AreNamed model
+        → IsEditNamed edit
         → edited model edit ≡ Ok changed → AreNamed changed }
 {}

@@ -1,4 +1,5 @@
-//! Edits of a model: small changes, the texts that list them, and the model that an edit makes of another.
+//! Edits of a model: small changes, the texts that list them, and the models that result from
+//! applying them.
 #![tactic(auto)]
 
 mod apply;
@@ -38,5 +39,5 @@ pub use fault::EditsFault;
 pub use limits::{MOST_EDITS, MOST_REPORTS};
 pub use reading::read_edits;
 
-/// Why an edit isn't made: its first refusal, or want of memory.
+/// Why an edit isn't applied: its first refusal, or memory ran out.
 pub type EditFault = ModelFault;

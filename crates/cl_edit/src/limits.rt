@@ -1,6 +1,6 @@
 //! The limits of a list of edits.
 
-/// The most edits in a text, reports among them.
+/// The most edits in a text, including reports.
 pub const MOST_EDITS: usize = 4_096;
 
 /// The most reports in a text.

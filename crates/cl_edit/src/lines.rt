@@ -1,4 +1,5 @@
-//! The lines of edits, one function a kind: each reads the words behind the keyword.
+//! Reading the lines of edits. There is one function for each keyword, which reads the words after
+//! it.
 ghost use Rattle.std.specs.Prelude.{◌≡◌};
 ghost use Rattle.std.specs.Str.{bytes_eq};
 ghost use Rattle.cl_edit.specs.Inner.Parts.{ReadsPart, ReadsUpTo};
@@ -158,7 +159,7 @@ fn is_word(word: &[u8], text: &str) -> bool
     word == text.as_bytes()
 }
 
-/// The edit of a keyword and of the words behind it.
+/// Reads the edit of a keyword from the words after it.
 fn fields(alloc: Global, keyword: &[u8], words: &mut Parts<'_>) -> Result<Edit, Unread>
     ensures { ReadsUpTo result words.new (fields_in keyword.now words.old) }
 {
@@ -199,7 +200,7 @@ fn fields(alloc: Global, keyword: &[u8], words: &mut Parts<'_>) -> Result<Edit, 
     }
 }
 
-/// The edit of a line, which comes without its end.
+/// Reads the edit of a line, given without its line feed.
 pub(crate) fn edit_of(alloc: Global, line: &[u8]) -> Result<Edit, Unread>
     ensures { ReadsPart result (edit_in line.now) }
 {

@@ -1,4 +1,4 @@
-//! The deadlines that a new task is checked against: those of the tasks below it, and its own.
+//! The checks of deadlines for a new task: the deadlines of the tasks below it, and its own.
 ghost use Rattle.std.specs.Prelude.{◌≡◌, ◌<◌, ◌^◌, ◌++◌, length, slice_get, Some};
 ghost use Rattle.std.specs.List.{list_any};
 ghost use Rattle.cl_model.specs.Answers.{Answers};
@@ -15,13 +15,15 @@ use crate::check_new_task::task_key;
 use cl_model::{Code, Key, ModelFault, StimulusKind, TaskDef, ValidModel, refuse_when};
 use cl_valid::spans_too_many;
 
-/// Whether the deadline of a task spans too many distances of another one, where both stimuli are known.
+/// Whether the stimuli of two tasks are known, and the deadline of the first spans too many least
+/// distances of the second.
 fn spans_distances(
     task: &TaskDef,
     kind: Option<StimulusKind>,
     other_kind: Option<StimulusKind>,
 ) -> bool
-    ensures { result ≡ is_some_and kind (λ kind. is_some_and other_kind (spans_too_many (deadline_under kind task.now))) }
+    ensures { result ≡ is_some_and kind
+        (λ kind. is_some_and other_kind (spans_too_many (deadline_under kind task.now))) }
 {
     match kind {
         Some(kind) => match other_kind {
@@ -32,7 +34,8 @@ fn spans_distances(
     }
 }
 
-/// The same of one above it.
+/// Whether M42 refuses a task for another one: that one has a higher priority on the same core, and
+/// the deadline of the task spans too many of its least distances.
 fn is_outpaced_by(
     task: &TaskDef,
     kind: Option<StimulusKind>,
@@ -46,7 +49,7 @@ fn is_outpaced_by(
         && spans_distances(task, kind, other_kind)
 }
 
-/// Checks M42 for task i and a new one above it.
+/// Checks M42 for task `i`, against a new task if that has a higher priority on its core.
 fn check_below(
     model: &ValidModel,
     new: &TaskDef,
@@ -64,7 +67,7 @@ fn check_below(
     refuse_when(is_late, Code::M42, task_key(i, Key::Deadline))
 }
 
-/// Checks M42 for the tasks below a new one.
+/// Checks M42 for all tasks of the model, against a new task.
 #[tactic(auto, using(cl_model::proofs::FirstRefusals::loop_faults))]
 fn check_all_below(
     model: &ValidModel,
@@ -84,7 +87,8 @@ fn check_all_below(
     Ok(())
 }
 
-/// Whether the deadline of a new task spans too many distances of task i, where that one is above it.
+/// Whether M42 refuses a new task for task `i`: that task has a higher priority on the same core,
+/// and the deadline of the new task spans too many of its least distances.
 fn is_above(
     model: &ValidModel,
     new: &TaskDef,
@@ -101,7 +105,8 @@ fn is_above(
     is_outpaced_by(new, kind, task, Some(model.stimulus_of(i as u32)))
 }
 
-/// Whether the deadline of a new task spans too many distances of a task above it.
+/// Whether the deadline of a new task spans too many least distances of a task of higher priority
+/// on its core.
 fn is_late(model: &ValidModel, new: &TaskDef, kind: Option<StimulusKind>, tasks: &[TaskDef]) -> bool
     requires valid { IsValid model.now }
     requires tasks { tasks.now ≡ model.now.tasks }
@@ -117,7 +122,7 @@ fn is_late(model: &ValidModel, new: &TaskDef, kind: Option<StimulusKind>, tasks:
     false
 }
 
-/// Checks M42 for a new task of number i.
+/// Checks M42 for a new task, which gets number `i`.
 fn check_deadline(
     model: &ValidModel,
     task: &TaskDef,
@@ -136,7 +141,7 @@ fn check_deadline(
     refuse_when(is_late, Code::M42, task_key(i, Key::Deadline))
 }
 
-/// Checks M42 for the tasks below a new one, and then for itself.
+/// Checks M42 for all tasks of the model against a new task, and then for the new task itself.
 #[tactic(auto, using(cl_model::proofs::FirstRefusals::faults))]
 pub(crate) fn check_deadlines(
     model: &ValidModel,
@@ -148,7 +153,8 @@ pub(crate) fn check_deadlines(
     requires tasks { tasks.now ≡ model.now.tasks }
     requires count { length tasks.now < 2 ^ 32 }
     requires kind { kind ≡ kind_named model.now task.now.stimulus }
-    ensures { Answers result (each (below_new_check model.now task.now) tasks.now ++ deadline_check (with_new_task model.now task.now) (length tasks.now) task.now) tt }
+    ensures { Answers result
+        (each (below_new_check model.now task.now) tasks.now ++ deadline_check (with_new_task model.now task.now) (length tasks.now) task.now) tt }
 {
     check_all_below(model, task, kind, tasks)?;
     check_deadline(model, task, kind, tasks, tasks.len())?;

@@ -1,4 +1,4 @@
-//! The checks of the labels that a new task reads and writes, over these labels alone.
+//! The checks of the labels that a new task reads and writes. They look up only these labels.
 ghost use Rattle.std.specs.Prelude.{[], ◌∷◌, ◌++◌, map, IfOk, OnOk};
 ghost use Rattle.cl_model.specs.Answers.{Answers};
 ghost use Rattle.cl_model.specs.Named.{label_names, labels_written, all_runnables};
@@ -11,7 +11,7 @@ use cl_time::NoMemory;
 use cl_valid::check_runnables;
 use std::alloc::Global;
 
-/// Adds names.
+/// Adds names to a set.
 fn add_all(names: &mut NameSet, labels: &[Name]) -> Result<(), NoMemory>
     ensures { OnOk result (AreAlike names.new (names.old ++ labels.now)) }
 {
@@ -21,7 +21,7 @@ fn add_all(names: &mut NameSet, labels: &[Name]) -> Result<(), NoMemory>
     Ok(())
 }
 
-/// The labels that runnables read and write.
+/// Collects the labels that runnables read and write.
 fn own_labels(alloc: Global, runnables: &[RunnableDef]) -> Result<NameSet, NoMemory>
     ensures { IfOk result (λ own. AreAlike own (labels_of runnables.now)) }
 {
@@ -33,7 +33,7 @@ fn own_labels(alloc: Global, runnables: &[RunnableDef]) -> Result<NameSet, NoMem
     Ok(own)
 }
 
-/// Adds a name, where it is one of one's own.
+/// Adds a name to `among` if `own` has it.
 fn add_own(among: &mut NameSet, own: &NameSet, name: &Name) -> Result<(), NoMemory>
     ensures { OnOk result (AgreeOn own.now among.new (among.old ++ name.now ∷ [])) }
 {
@@ -43,7 +43,7 @@ fn add_own(among: &mut NameSet, own: &NameSet, name: &Name) -> Result<(), NoMemo
     Ok(())
 }
 
-/// The labels of the model among one's own.
+/// Collects the labels of the model that are in `own`.
 fn labels_among(alloc: Global, own: &NameSet, labels: &[LabelDef]) -> Result<NameSet, NoMemory>
     ensures { IfOk result (λ among. AgreeOn own.now among (map (λ label. label.name) labels.now)) }
 {
@@ -76,9 +76,10 @@ fn add_written(
     Ok(())
 }
 
-/// The labels that the tasks write among one's own.
+/// Collects the labels in `own` that the tasks write.
 fn written_among(alloc: Global, own: &NameSet, tasks: &[TaskDef]) -> Result<NameSet, NoMemory>
-    ensures { IfOk result (λ among. AgreeOn own.now among (labels_written (all_runnables tasks.now))) }
+    ensures { IfOk result
+        (λ among. AgreeOn own.now among (labels_written (all_runnables tasks.now))) }
 {
     let mut among = NameSet::new(alloc);
     for task in tasks {
@@ -87,8 +88,8 @@ fn written_among(alloc: Global, own: &NameSet, tasks: &[TaskDef]) -> Result<Name
     Ok(among)
 }
 
-/// Checks M36 to M40 for a new task at a place, in one pass over the labels of the model and one over what its runnables
-/// write.
+/// Checks M36 to M40 for a new task at a place, in one pass over the labels of the model and one
+/// over the labels that its runnables write.
 pub(crate) fn check_labels(
     alloc: Global,
     model: &ValidModel,
@@ -96,7 +97,8 @@ pub(crate) fn check_labels(
     task: &TaskDef,
 ) -> Result<(), ModelFault>
     requires { IsTaskInRange task.now }
-    ensures { Answers result (body_checks (label_names model.now) (labels_written (all_runnables model.now.tasks)) place task.now) tt }
+    ensures { Answers result
+        (body_checks (label_names model.now) (labels_written (all_runnables model.now.tasks)) place task.now) tt }
 {
     let plain = model.plain();
     let own = own_labels(alloc, task.runnables.as_slice())?;

@@ -1,4 +1,5 @@
-//! The checks of deadlines after a change of when tasks run, answered before it. Times are in ticks.
+//! The checks of deadlines after a change of when tasks run, made before the change. Times are in
+//! ticks.
 ghost use Rattle.std.specs.Prelude.{◌≡◌, ℕ, ◌<◌, true, ◌++◌, length};
 ghost use Rattle.cl_model.specs.Answers.{Answers, Passes};
 ghost use Rattle.cl_model.specs.ByNumber.{core_of};
@@ -17,13 +18,13 @@ pub(crate) enum Change {
     Deadline { task: u32, deadline: Option<u64> },
     /// Another kind of a stimulus.
     Kind { stimulus: u32, kind: StimulusKind },
-    /// The priorities of two tasks, exchanged.
+    /// Exchanged priorities of two tasks.
     Swap { one: u32, other: u32 },
     /// Another core and priority of a task.
     Move { task: u32, core: u32, priority: u64 },
 }
 
-/// What the check of deadlines against tasks above sees of a task.
+/// The properties of a task that the check of deadlines against tasks of higher priority looks at.
 #[derive(Clone, Copy)]
 pub(crate) struct Pace {
     pub priority: u64,
@@ -55,14 +56,15 @@ fn least_of(first: Option<u32>, number: u32) -> Option<u32>
     }
 }
 
-/// Notes a number, where the test passes.
+/// Returns the lesser of `first` and a number if the test passes, and else `first`.
 pub(crate) fn noted(first: Option<u32>, test: bool, number: u32) -> Option<u32>
     ensures { result ≡ noted first test number }
 {
     if test { least_of(first, number) } else { first }
 }
 
-/// Checks M32 and M33 for a task.
+/// Checks M32 and M33 for a task: its deadline doesn't exceed the least distance of its stimulus,
+/// and it is later than the greatest jitter.
 #[tactic(auto, using(cl_model::proofs::FirstRefusals::faults))]
 fn check_limits(pace: Pace, task: u32) -> Result<(), ModelFault>
     ensures { Answers result (limit_checks pace task) tt }
@@ -130,7 +132,7 @@ impl Change {
         }
     }
 
-    /// The deadline that is given for a task after the change.
+    /// The deadline that a task has of its own after the change, if it has one.
     fn given(self, model: &ValidModel, task: u32) -> Option<u64>
         requires { task < length model.now.tasks }
         ensures { result ≡ given_after model.now self task }
@@ -152,7 +154,7 @@ impl Change {
         }
     }
 
-    /// What the check of deadlines sees of a task after the change.
+    /// The properties of a task after the change that the check of deadlines looks at.
     fn pace(self, model: &ValidModel, task: u32) -> Pace
         requires change { IsChangeOf model.now self }
         requires task { task < length model.now.tasks }
@@ -176,7 +178,7 @@ impl Change {
         check_limits(self.pace(model, task), task)
     }
 
-    /// The same, where the task names a stimulus.
+    /// Checks M32 and M33 for a task after the change, if it names a stimulus.
     fn check_limits_on(self, model: &ValidModel, stimulus: u32, task: u32) -> Result<(), ModelFault>
         requires change { IsChangeOf model.now self }
         requires stimulus { stimulus < length model.now.stimuli }
@@ -190,7 +192,7 @@ impl Change {
         }
     }
 
-    /// Checks M32 and M33 for each task that names a stimulus after the change.
+    /// Checks M32 and M33 after the change, for each task that names a stimulus.
     #[tactic(auto, using(crate::proofs::LimitChecks::each_limit))]
     fn check_all_limits_on(self, model: &ValidModel, stimulus: u32) -> Result<(), ModelFault>
         requires change { IsChangeOf model.now self }
@@ -203,7 +205,8 @@ impl Change {
         Ok(())
     }
 
-    /// The first task that another one outpaces, of those so far and of two tasks of one core.
+    /// Returns the first task of `first` and of those of two tasks of one core that M42 refuses for
+    /// the other one after the change.
     fn first_of_pair(
         self,
         model: &ValidModel,
@@ -215,7 +218,8 @@ impl Change {
         requires change { IsChangeOf model.now self }
         requires task { task < length model.now.tasks }
         requires other { other < length model.now.tasks }
-        requires core { core_of (with_change model.now self) task ≡ core_of (with_change model.now self) other }
+        requires core { core_of (with_change model.now self) task
+            ≡ core_of (with_change model.now self) other }
         requires first { IsOutpaced (with_change model.now self) first }
         ensures first { IsOutpaced (with_change model.now self) result }
         ensures kept { (k : ℕ) → IsAtMost first k → IsAtMost result k }
@@ -227,7 +231,8 @@ impl Change {
         noted(first, outpaces(its, own), other)
     }
 
-    /// The first task that another one outpaces, of those so far and of the pairs of a task with one of its core.
+    /// Returns the first task of `first` and of those that M42 refuses after the change for a pair
+    /// of this task and another one of its core.
     fn first_beside(
         self,
         model: &ValidModel,
@@ -254,14 +259,16 @@ impl Change {
         first
     }
 
-    /// The same of all tasks that name a stimulus.
+    /// Finds the first task that M42 refuses after the change for a pair of a task that names a
+    /// stimulus and another one of its core.
     fn first_on(self, model: &ValidModel, stimulus: u32) -> Option<u32>
         requires valid { IsValid model.now }
         requires change { IsChangeOf model.now self }
         requires stimulus { stimulus < length model.now.stimuli }
         requires cores { (k : ℕ) → core_after model.now self k ≡ core_of model.now k }
         ensures first { IsOutpaced (with_change model.now self) result }
-        ensures seen { (k j : ℕ) → k < length model.now.tasks → is_on model.now stimulus k ≡ true → HasSeen (with_change model.now self) result k j }
+        ensures seen { (k j : ℕ) → k < length model.now.tasks → is_on model.now stimulus k ≡ true
+            → HasSeen (with_change model.now self) result k j }
     {
         let mut first = None;
         for task in 0..model.tasks() {
@@ -272,12 +279,14 @@ impl Change {
         first
     }
 
-    /// The first task that another one outpaces after the change.
+    /// Finds the first task that M42 refuses after the change: its deadline spans too many least
+    /// distances of a task of higher priority on its core.
     fn first_outpaced(self, model: &ValidModel) -> Option<u32>
         requires valid { IsValid model.now }
         requires change { IsChangeOf model.now self }
         ensures first { IsOutpaced (with_change model.now self) result }
-        ensures least { (k : ℕ) → k < length (with_change model.now self).tasks → is_outpaced (with_change model.now self) k ≡ true → IsAtMost result k }
+        ensures least { (k : ℕ) → k < length (with_change model.now self).tasks
+            → is_outpaced (with_change model.now self) k ≡ true → IsAtMost result k }
     {
         match self {
             Change::Deadline { task, .. } => {
@@ -307,25 +316,28 @@ impl Change {
         }
     }
 
-    /// Checks M32 and M33 for a task and M42 for all tasks after the change.
+    /// Checks M32 and M33 for a task, and then M42 for all tasks, after the change.
     #[tactic(auto, using(cl_model::proofs::FirstRefusals::faults))]
     pub fn check_task(self, model: &ValidModel, task: u32) -> Result<(), ModelFault>
         requires valid { IsValid model.now }
         requires change { IsChangeOf model.now self }
         requires task { task < length model.now.tasks }
-        ensures { Passes result (limit_checks (pace_after model.now self task) task ++ deadline_checks (with_change model.now self)) }
+        ensures { Passes result
+            (limit_checks (pace_after model.now self task) task ++ deadline_checks (with_change model.now self)) }
     {
         self.check_limits(model, task)?;
         self.check_deadlines(model)
     }
 
-    /// Checks M32 and M33 for each task that names a stimulus and M42 for all tasks after the change.
+    /// Checks M32 and M33 for each task that names a stimulus, and then M42 for all tasks, after
+    /// the change.
     #[tactic(auto, using(cl_model::proofs::FirstRefusals::faults))]
     pub fn check_stimulus(self, model: &ValidModel, stimulus: u32) -> Result<(), ModelFault>
         requires valid { IsValid model.now }
         requires change { IsChangeOf model.now self }
         requires stimulus { stimulus < length model.now.stimuli }
-        ensures { Passes result (all_limits_on model.now self stimulus ++ deadline_checks (with_change model.now self)) }
+        ensures { Passes result
+            (all_limits_on model.now self stimulus ++ deadline_checks (with_change model.now self)) }
     {
         self.check_all_limits_on(model, stimulus)?;
         self.check_deadlines(model)

@@ -1,4 +1,4 @@
-//! Whether an edit is in range.
+//! The range check of an edit.
 ghost use Rattle.std.specs.Prelude.{◌↔◌, IsTrue};
 ghost use Rattle.cl_edit.specs.Ranges.{IsEditInRange};
 
@@ -9,8 +9,8 @@ use cl_valid::{
 };
 
 impl Edit {
-    /// Whether each of its numbers may stand in a model file at the key that the edit sets, and each of its lists has
-    /// no more members than there. It takes no memory.
+    /// Whether each number of the edit may stand in a model file at the key that the edit sets, and
+    /// each list of the edit is no longer than a model file allows. Takes no memory.
     pub fn in_range(&self) -> bool
         ensures { IsTrue result ↔ IsEditInRange self.now }
     {

@@ -1,4 +1,4 @@
-//! A text, read as a list of edits.
+//! Reading a text as a list of edits.
 ghost use Rattle.std.specs.Prelude.{◌≡◌, ◌↔◌, ◌++◌, List, IsTrue, Err, IfOk};
 ghost use Rattle.cl_text.specs.Standing.{NoneStands};
 ghost use Rattle.cl_text.specs.LinesFault.{IfBadLine, ReadsThis};
@@ -16,9 +16,11 @@ use cl_model::List;
 use cl_text::next_line;
 use std::alloc::Global;
 
-/// The edit of the line that the text begins with, and what follows the line.
+/// Reads the edit line that the text begins with, and returns the edit and what follows the line.
+/// `Bad` where there is no such line.
 pub(crate) fn edit_after(alloc: Global, text: &[u8]) -> Result<(Edit, &[u8]), Unread>
-    ensures some { IfOk result (λ read. IsLineEdit read.0 × (text.now ≡ edit_line read.0 ++ read.1.now)) }
+    ensures some { IfOk result
+        (λ read. IsLineEdit read.0 × (text.now ≡ edit_line read.0 ++ read.1.now)) }
     ensures none { result ≡ Err Bad → NoneStands edit_line IsLineEdit text.now }
 {
     let Some(end) = next_line(text, 0) else {
@@ -34,22 +36,23 @@ pub(crate) fn is_report(edit: &Edit) -> bool
     matches!(edit, Edit::Report)
 }
 
-/// Whether so many edits, with so many reports among them, leave room for one more.
+/// Whether an edit may follow `edits` edits, of which `reports` are reports.
 fn has_room(edits: usize, reports: usize, edit: &Edit) -> bool
     ensures { IsTrue result ↔ HasRoom edits reports edit.now }
 {
     edits < MOST_EDITS && (reports < MOST_REPORTS || !is_report(edit))
 }
 
-/// The same, as long as the list has room for that edit: so many edits are listed above it, and so many of them are
-/// reports.
+/// As `edit_after`, but also `Bad` where the edit may not follow `edits` edits, of which `reports`
+/// are reports.
 pub(crate) fn listed_after(
     alloc: Global,
     text: &[u8],
     edits: usize,
     reports: usize,
 ) -> Result<(Edit, &[u8]), Unread>
-    ensures some { IfOk result (λ read. MayFollow edits reports read.0 × (text.now ≡ edit_line read.0 ++ read.1.now)) }
+    ensures some { IfOk result
+        (λ read. MayFollow edits reports read.0 × (text.now ≡ edit_line read.0 ++ read.1.now)) }
     ensures none { result ≡ Err Bad → NoneStands edit_line (MayFollow edits reports) text.now }
 {
     let (edit, rest) = edit_after(alloc, text)?;
@@ -60,11 +63,12 @@ pub(crate) fn listed_after(
     }
 }
 
-/// The edits that a text lists. Times are in ticks.
+/// Reads the edits that a text lists. Times are in ticks.
 ///
-/// Each is in range, and each name in it is of the name grammar. `BadLine` comes exactly where the text lists no edits:
-/// at its first line that is outside the grammar, that is one too many, or that has no end, counted from 1. `NoMemory`
-/// comes where there is no memory for the edits. Either leaves nothing.
+/// Each edit is in range, and each name in it is of the name grammar. `BadLine` comes exactly where
+/// the text lists no edits. It has the number of the first line that is outside the grammar, that
+/// is one too many, or that has no end, counted from 1. `NoMemory` comes where there is no memory
+/// for the edits. Either error leaves nothing.
 pub fn read_edits(alloc: Global, text: &[u8]) -> Result<List<Edit>, EditsFault>
     ensures edits { IfOk result (AreEditsOf text.now) }
     ensures bad_line { IfBadLine result (IsBadEditLine text.now) }

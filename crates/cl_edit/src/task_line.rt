@@ -1,4 +1,5 @@
-//! The line of a new task: what the task is, and then its runnables up to the line's end.
+//! Reading the line of a new task: its properties, and then its runnables up to the end of the
+//! line.
 ghost use Rattle.std.specs.Prelude.{◌≡◌, [], IfOk};
 ghost use Rattle.cl_edit.specs.Inner.Parts.{ReadsPart, ReadsUpTo};
 ghost use Rattle.cl_edit.specs.Inner.LineReads.{runnable_in, runnables_in, task_head_in, task_in};
@@ -11,7 +12,7 @@ use crate::words::Parts;
 use cl_model::{List, MOST_ACCESSES, MOST_PRIORITY, MOST_RUNNABLES, RunnableDef, TaskDef};
 use std::alloc::Global;
 
-/// A runnable. The words of a line can't say that it is whole.
+/// Reads a runnable. No line says that a runnable is whole.
 fn runnable(alloc: Global, words: &mut Parts<'_>) -> Result<RunnableDef, Unread>
     ensures { ReadsUpTo result words.new (runnable_in words.old) }
 {
@@ -30,7 +31,7 @@ fn runnable(alloc: Global, words: &mut Parts<'_>) -> Result<RunnableDef, Unread>
     })
 }
 
-/// The runnables of all words that are left.
+/// Reads all words that are left as runnables. `Bad` where they are more than a task may have.
 fn runnables(alloc: Global, words: &mut Parts<'_>) -> Result<List<RunnableDef>, Unread>
     ensures all { IfOk result (λ _. words.new ≡ []) }
     ensures read { ReadsPart result (runnables_in MOST_RUNNABLES words.old) }
@@ -45,7 +46,7 @@ fn runnables(alloc: Global, words: &mut Parts<'_>) -> Result<List<RunnableDef>, 
     Ok(runnables)
 }
 
-/// The task without its runnables.
+/// Reads the properties of a task that stand before its runnables.
 fn head(alloc: Global, words: &mut Parts<'_>) -> Result<TaskDef, Unread>
     ensures { ReadsUpTo result words.new (task_head_in words.old) }
 {
@@ -66,7 +67,7 @@ fn head(alloc: Global, words: &mut Parts<'_>) -> Result<TaskDef, Unread>
     })
 }
 
-/// A new task. It has a runnable.
+/// Reads a new task. `Bad` where it has no runnable.
 pub(crate) fn task(alloc: Global, words: &mut Parts<'_>) -> Result<Edit, Unread>
     ensures { ReadsUpTo result words.new (task_in words.old) }
 {

@@ -1,11 +1,11 @@
-//! The parts of a text between separators: the words of a line, and the names in a word.
+//! Splitting a text at separators: a line into words, and a word into names.
 ghost use Rattle.std.specs.Prelude.{◌≡◌, ◌↔◌, [], ◌∷◌, IsTrue, IfSome, IfNone};
 ghost use Rattle.cl_edit.specs.Inner.Parts.{parts};
 
 use memchr::memchr;
 use std::marker::Model;
 
-/// The parts of a text that are left to read. Contracts see the list of them.
+/// The parts of a text that are left to read. Contracts see the list of these parts.
 #[derive(Drop)]
 pub(crate) struct Parts<'a> {
     left: Option<&'a [u8]>,
@@ -22,7 +22,7 @@ impl<'a> Model for Parts<'a> {
 }
 
 impl<'a> Parts<'a> {
-    /// All parts of a text: one more than it has separators.
+    /// Splits a text at each separator. There is one part more than there are separators.
     pub fn of(text: &'a [u8], separator: u8) -> Parts<'a>
         ensures { result ≡ parts separator text.now }
     {
@@ -32,7 +32,7 @@ impl<'a> Parts<'a> {
         }
     }
 
-    /// The next part.
+    /// Returns the next part. `None` comes exactly where no part is left.
     pub fn next(&mut self) -> Option<&'a [u8]>
         ensures some { IfSome result (λ part. self.old ≡ part.now ∷ self.new) }
         ensures none { IfNone result (self.old ≡ []) }

@@ -3,8 +3,8 @@ pub mod TwoCalls
 pub mod OpenedFiles
 pub mod Comings
 pub mod Endings
-pub mod Tellings
 pub mod Answered
 pub mod Starts
 pub mod Numbers
 pub mod Outcomes
+pub mod Tellings

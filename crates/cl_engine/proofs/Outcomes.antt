@@ -1,5 +1,6 @@
--- Outcomes of files that are open: there is one, two say the same, and one of status 0 is that of what the files hold.
-use Rattle.std.proofs.Common.{◌≡◌, ℕ, ◌≤◌, Bool, true, false, List, Option, Some, None, Result, Ok, Err, refl, sym, ap, ◌∙◌, subst, arith, length}
+-- Outcomes of files that are open: there is one, two say the same, and one with a status of the command's own is that of
+-- what the files hold.
+use Rattle.std.proofs.Common.{◌≡◌, ℕ, ◌≤◌, inl, inr, Bool, true, false, List, Option, Some, None, Result, Ok, Err, refl, sym, ap, ◌∙◌, subst, arith, length}
 use Rattle.std.specs.Prelude.{nat_lt, if◌then◌else◌}
 use Rattle.cl_model.specs.declared.model.SystemModel.{SystemModel}
 use Rattle.cl_model.specs.declared.refusal.Refusal.{Refusal}
@@ -11,10 +12,11 @@ use Rattle.cl_engine.specs.declared.files.Files.{Files}
 use Rattle.cl_engine.specs.declared.files.Files.TheVariants as files
 use Rattle.cl_engine.specs.declared.files.TheConstants.{FILE_LIMIT}
 use Rattle.cl_engine.specs.declared.outcome.Outcome.{Outcome}
-use Rattle.cl_engine.specs.declared.status.TheConstants.{DONE}
+use Rattle.cl_engine.specs.declared.status.TheConstants.{WRITE_FAULT, NO_MEMORY}
 use Rattle.cl_engine.specs.Content.{Content, Nothing, Bytes as Whole, Model, ModelAnd, Fits, MeansModel, Means}
 use Rattle.cl_engine.specs.Fetched.{Fetched, Unasked, Bytes, Fault, TooLong, EachFile, WasFetched, told_fetch}
 use Rattle.cl_engine.specs.Files.{File, model_file, second_file, files_named}
+use Rattle.cl_engine.specs.Language.{IsOfContent}
 use Rattle.cl_engine.specs.Outcome.{read_fault, long_file, model_refused, ValidatesTo, ReadsTo, OpensTo, Opens}
 use Rattle.cl_engine.proofs.Openings.{valid_read}
 
@@ -96,7 +98,7 @@ module _ (Same : Outcome → Outcome → Type 0) (equal : (one other : Outcome) 
         (λ bytes. same_read second (λ model good. same_file 2 (gave (second_file limit)) (λ text. next (ModelAnd model text)) (λ text. same (ModelAnd model text) good))
         bytes (model_of bytes) refl) h k
 
--- ---- an outcome of status 0
+-- ---- an outcome with a status of the command's own
 
 status_of : (found other : Outcome) → found ≡ other → found.status ≡ other.status
 status_of found other is = ap (λ (o : Outcome). o.status) is
@@ -112,52 +114,72 @@ same_bytes limit content bytes is = by_test (nat_lt limit (length content)) is
     by_test true is = absurd cc
     by_test false is = sym (equal content bytes is)
 
-module _ (found : Outcome) (done : found.status ≡ DONE) where
+-- such a status isn't that of a fetch, nor of a model that is refused
+pub no_fault_of_file : (status : ℕ) → IsOfContent status → 3 ≤ status → status ≤ 5 → ⊥
+no_fault_of_file status (inl done) low high = omega (arith, done, low)
+no_fault_of_file status (inr (inl few)) low high = omega (arith, few.0, high)
+no_fault_of_file status (inr (inr many)) low high = omega (arith, many, high)
+
+-- nor that of a write fault, or of want of memory
+pub no_write_fault : (status : ℕ) → IsOfContent status → status ≡ WRITE_FAULT → ⊥
+no_write_fault status (inl done) is = omega (arith, done, is)
+no_write_fault status (inr (inl few)) is = omega (arith, few.1, is)
+no_write_fault status (inr (inr many)) is = omega (arith, many, is)
+
+pub no_want : (status : ℕ) → IsOfContent status → status ≡ NO_MEMORY → ⊥
+no_want status (inl done) is = omega (arith, done, is)
+no_want status (inr (inl few)) is = omega (arith, few.1, is)
+no_want status (inr (inr many)) is = omega (arith, many, is)
+
+module _ (found : Outcome) (own : IsOfContent found.status) where
+  fails : (other : Outcome) → found ≡ other → 3 ≤ other.status → other.status ≤ 5 → ⊥
+  fails other is low high = no_fault_of_file found.status own (omega (arith, status_of found other is, low)) (omega (arith, status_of found other is, high))
+
   -- the bytes of a file
   done_file : (place : ℕ) (fetch : Fetched) (next : List ℕ → Outcome → Type 0) → OpensTo place fetch next found → (bytes : List ℕ) × (fetch ≡ Bytes bytes) × next bytes found
   done_file place Unasked next opens = absurd opens
-  done_file place Fault next opens = absurd (omega (arith, done, status_of found (read_fault place) opens))
-  done_file place TooLong next opens = absurd (omega (arith, done, status_of found (long_file place) opens))
+  done_file place Fault next opens = absurd (fails (read_fault place) opens (omega arith) (omega arith))
+  done_file place TooLong next opens = absurd (fails (long_file place) opens (omega arith) (omega arith))
   done_file place (Bytes bytes) next opens = (bytes, refl, opens)
 
   done_validated : (bytes : List ℕ) (model : SystemModel) (refusal : Option Refusal) (next : SystemModel → Outcome → Type 0) → model_of bytes ≡ Ok model → refusal_of model ≡ refusal
       → ValidatesTo model refusal next found → (m : SystemModel) × MeansModel bytes m × next m found
   done_validated bytes model None next means none is = (model, record { means = means; unrefused = none }, is)
-  done_validated bytes model (Some refusal) next means some is = absurd (omega (arith, done, status_of found (model_refused refusal) is))
+  done_validated bytes model (Some refusal) next means some is = absurd (fails (model_refused refusal) is (omega arith) (omega arith))
 
   done_read : (bytes : List ℕ) (read : Result SystemModel Refusal) (next : SystemModel → Outcome → Type 0) → model_of bytes ≡ read
       → ReadsTo read next found → (m : SystemModel) × MeansModel bytes m × next m found
   done_read bytes (Ok model) next means is = done_validated bytes model (refusal_of model) next means refl is
-  done_read bytes (Err refusal) next means is = absurd (omega (arith, done, status_of found (model_refused refusal) is))
+  done_read bytes (Err refusal) next means is = absurd (fails (model_refused refusal) is (omega arith) (omega arith))
 
   -- the model of a file
   pub done_model : (fetch : Fetched) (next : SystemModel → Outcome → Type 0) → OpensTo 1 fetch (λ bytes. ReadsTo (model_of bytes) next) found
       → (bytes : List ℕ) × (fetch ≡ Bytes bytes) × ((m : SystemModel) × MeansModel bytes m × next m found)
   done_model fetch next opens = let (bytes, gave, reads) = done_file 1 fetch (λ bytes. ReadsTo (model_of bytes) next) opens in (bytes, gave, done_read bytes (model_of bytes) next refl reads)
 
--- what told files hold, where a command did what it says, and what comes next of it
+-- what told files hold, where a command ends with a status of its own, and what comes next of it
 pub record IsOfTold (named : Files) (contents : ℕ → List ℕ) (next : Content → Outcome → Type 0) (found : Outcome) : Type 0 where
   pub content : Content
   pub means : Means named contents content
   pub opened : IsOpened content
   pub comes : next content found
 
-module _ (contents : ℕ → List ℕ) (next : Content → Outcome → Type 0) (found : Outcome) (done : found.status ≡ DONE) where
+module _ (contents : ℕ → List ℕ) (next : Content → Outcome → Type 0) (found : Outcome) (own : IsOfContent found.status) where
   told_model : (n : SystemModel → Outcome → Type 0) → OpensTo 1 (told_fetch contents model_file) (λ bytes. ReadsTo (model_of bytes) n) found
       → (m : SystemModel) × MeansModel (contents 1) m × n m found
   told_model n opens =
-      let (bytes, gave, (m, means, comes)) = done_model found done (told_fetch contents model_file) n opens in
+      let (bytes, gave, (m, means, comes)) = done_model found own (told_fetch contents model_file) n opens in
       (m, subst (λ (b : List ℕ). MeansModel b m) (same_bytes FILE_LIMIT (contents 1) bytes gave) means, comes)
 
   pub opens_of_told : (named : Files) → Opens named (told_fetch contents) next found → IsOfTold named contents next found
   opens_of_told files.Nothing opens = record { content = Nothing; means = tt; opened = tt; comes = opens }
   opens_of_told files.Content opens =
-      let (bytes, gave, comes) = done_file found done 1 (told_fetch contents model_file) (λ bytes. next (Whole bytes)) opens in
+      let (bytes, gave, comes) = done_file found own 1 (told_fetch contents model_file) (λ bytes. next (Whole bytes)) opens in
       record { content = Whole bytes; means = same_bytes FILE_LIMIT (contents 1) bytes gave; opened = tt; comes = comes }
   opens_of_told files.Model opens =
       let (m, means, comes) = told_model (λ m. next (Model m)) opens in
       record { content = Model m; means = means; opened = good_model (contents 1) m means; comes = comes }
   opens_of_told (files.ModelAnd limit) opens =
       let (m, means, reads) = told_model (λ m. OpensTo 2 (told_fetch contents (second_file limit)) (λ text. next (ModelAnd m text))) opens in
-      let (text, gave, comes) = done_file found done 2 (told_fetch contents (second_file limit)) (λ text. next (ModelAnd m text)) reads in
+      let (text, gave, comes) = done_file found own 2 (told_fetch contents (second_file limit)) (λ text. next (ModelAnd m text)) reads in
       record { content = ModelAnd m text; means = (means, same_bytes limit (contents 2) text gave); opened = good_model (contents 1) m means; comes = comes }

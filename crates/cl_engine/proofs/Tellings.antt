@@ -14,16 +14,16 @@ use Rattle.cl_model.specs.Validity.{refusal_of}
 use Rattle.cl_engine.specs.declared.files.Files.{Files}
 use Rattle.cl_engine.specs.declared.files.Files.TheVariants as files
 use Rattle.cl_engine.specs.declared.outcome.Outcome.{Outcome}
-use Rattle.cl_engine.specs.declared.status.TheConstants.{DONE}
 use Rattle.cl_engine.specs.Calls.{ShelfCall, SinkCall}
 use Rattle.cl_engine.specs.Content.{Content, Nothing, Bytes as Whole, Model, ModelAnd, MeansModel, Means}
 use Rattle.cl_engine.specs.Fetched.{Fetched, Unasked, Bytes, Fault, TooLong, EachFile, SomeFile, FileRose, FileGave, MayGive, TellsFiles, NoneRose, told_fetch}
 use Rattle.cl_engine.specs.Files.{File, model_file, second_file, files_named, word}
 use Rattle.cl_engine.specs.Inner.Opened.{GivesModel, GivesContent}
-use Rattle.cl_engine.specs.Language.{Language, files_asked, files_of}
+use Rattle.cl_engine.specs.Language.{Language, files_asked, files_of, IsOfContent}
 use Rattle.cl_engine.specs.Outcome.{ReadsTo, ValidatesTo, OpensTo, OpensFile, Opens, HasOutcome}
 use Rattle.cl_engine.specs.Run.{ComesAs, ComesTo, ComesToTold, IsFileFault, IsWhole, IsCarriedOut}
 use Rattle.cl_engine.proofs.Endings.{Carried, counted_rose}
+use Rattle.cl_engine.proofs.Outcomes.{no_fault_of_file, no_write_fault}
 
 pub told_bytes : (limit : ℕ) (content : List ℕ) → length content ≤ limit → (if nat_lt limit (length content) then TooLong else Bytes content) ≡ Bytes content
 told_bytes limit content within = grind (arith, nat_tests)
@@ -148,23 +148,23 @@ module _ (words : List (List ℕ)) (shelf : ShelfCall) (contents : ℕ → List 
             → (outcome : Outcome) × HasOutcome language (language.spelled words) (told_fetch contents) outcome × IsWhole sink outcome status
         told_keeps unfailed = elim carried [ inl whole ↦ whole_told whole | inr cut ↦ absurd (unfailed (counted_rose _ _ cut.once)) ]
 
--- what a command that did what it says was told
-pub record IsToldDone {C K : Type 0} (language : Language C) (words : List (List ℕ)) (contents : ℕ → List ℕ) (sink : SinkCall K) : Type 0 where
+-- what a command that ended with a status of its own was told
+pub record IsToldOwn {C K : Type 0} (language : Language C) (words : List (List ℕ)) (contents : ℕ → List ℕ) (sink : SinkCall K) (status : ℕ) : Type 0 where
   pub found : Outcome
   pub has : HasOutcome language (language.spelled words) (told_fetch contents) found
-  pub done : found.status ≡ DONE
+  pub own_status : found.status ≡ status
   pub whole : sink.written sink.after ≡ appended (sink.written sink.before) found.text
 
-pub told_done : {C K : Type 0} (language : Language C) (words : List (List ℕ)) (shelf : ShelfCall) (contents : ℕ → List ℕ) (sink : SinkCall K) (status : ℕ)
-    → status ≡ DONE → IsCarriedOut (ComesToTold language (language.spelled words) words shelf contents) sink status → IsToldDone language words contents sink
-told_done language words shelf contents sink status is carried = elim carried.carried [
+pub told_own : {C K : Type 0} (language : Language C) (words : List (List ℕ)) (shelf : ShelfCall) (contents : ℕ → List ℕ) (sink : SinkCall K) (status : ℕ)
+    → IsOfContent status → IsCarriedOut (ComesToTold language (language.spelled words) words shelf contents) sink status → IsToldOwn language words contents sink status
+told_own language words shelf contents sink status own carried = elim carried.carried [
   | inl whole ↦ elim carried.comes_to [
-    | inl told ↦ record { found = carried.found; has = told; done = sym whole.own_status ∙ is; whole = whole.whole_text }
-    | inr faulted ↦ absurd (no_fault faulted.0 (sym whole.own_status ∙ is) faulted.2.1)
+    | inl told ↦ record { found = carried.found; has = told; own_status = sym whole.own_status; whole = whole.whole_text }
+    | inr faulted ↦ absurd (no_fault faulted.0 whole.own_status faulted.2.1)
   ]
-  | inr cut ↦ absurd (omega (arith, cut.fault_status, is))
+  | inr cut ↦ absurd (no_write_fault status own cut.fault_status)
 ]
   where
-    no_fault : (file : File) → carried.found.status ≡ DONE → IsFileFault file carried.found → ⊥
-    no_fault file done (inl fault) = omega (arith, done, ap (λ (o : Outcome). o.status) fault)
-    no_fault file done (inr long) = omega (arith, done, ap (λ (o : Outcome). o.status) long)
+    no_fault : (file : File) → status ≡ carried.found.status → IsFileFault file carried.found → ⊥
+    no_fault file is (inl fault) = no_fault_of_file status own (omega (arith, is, ap (λ (o : Outcome). o.status) fault)) (omega (arith, is, ap (λ (o : Outcome). o.status) fault))
+    no_fault file is (inr long) = no_fault_of_file status own (omega (arith, is, ap (λ (o : Outcome). o.status) long)) (omega (arith, is, ap (λ (o : Outcome). o.status) long))

@@ -8,21 +8,27 @@ use cl_time::{NoMemory, Steps};
 use std::alloc::Global;
 use std::sync::ledger::Ledger;
 
-/// A command: what words ask for.
+/// A command of a program, which words spell.
 pub trait Command: Copy {
-    /// Which words spell a command, which files it needs, what it comes to, and the steps that it takes.
+    /// Which words spell a command, which files it needs, what its outcome is, and how many steps
+    /// it counts.
     ghost language: { Language Self };
 
-    /// Reads the command that the words spell. `None` exactly where they spell none. Takes no memory.
+    /// Reads the command that the words spell. `None` exactly where they spell none. Where they
+    /// spell one, there is a word for each of its files behind the verb. Takes no memory.
     fn read(words: &Words) -> Option<Self>
         ensures spelled { result ≡ language.spelled words.now }
         ensures file_words { IfSome result (HasFileWords language words.now) };
 
-    /// The files that it needs.
+    /// Returns the files that the command names behind its verb.
     fn files(self) -> Files
         ensures { result ≡ language.files self };
 
-    /// Comes to the outcome, of what its files hold. The only error is want of memory.
+    /// Finds the outcome of the command, by what its files hold. `NoMemory` is the only error.
+    ///
+    /// The status is `DONE` or one of a command's own (6 to 8, or 13 and greater); for a command
+    /// that names `Files::Content` it may be `MODEL_REFUSED`, too. Whether or not memory runs out,
+    /// the steps that were counted are those that `language` allows.
     fn answer<L: Ledger>(
         self,
         alloc: Global,

@@ -7,18 +7,19 @@ pub const FILE_LIMIT: u64 = 16_777_216;
 /// The files that a command names behind its verb.
 #[derive(Clone, Copy, Debug, PartialEq, Eq)]
 pub enum Files {
-    /// None.
+    /// No file.
     Nothing,
-    /// A model file, whose bytes the command looks into, whatever they are.
+    /// A model file, of which the command is given the bytes, whatever they are.
     Content,
     /// A model file, which has to hold a valid model.
     Model,
-    /// Such a model file, and behind it a file of at most `limit` bytes.
+    /// A model file, which has to hold a valid model, and behind it a second file of at most
+    /// `limit` bytes.
     ModelAnd { limit: u64 },
 }
 
 impl Files {
-    /// Counts them.
+    /// Counts the files.
     pub fn count(self) -> usize
         ensures { result ≡ file_count self }
     {

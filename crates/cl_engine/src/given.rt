@@ -1,4 +1,4 @@
-//! What a command is given of its files.
+//! What the files of a command hold, as it is given to the command.
 ghost use Rattle.std.specs.Prelude.{◌≡◌, ℕ};
 ghost use Rattle.cl_engine.specs.declared.files.Files.TheVariants as files;
 ghost use Rattle.cl_engine.specs.Content.{Bytes, Model, ModelAnd, content_of, Fits};
@@ -8,18 +8,18 @@ use cl_model::ValidModel;
 /// What the files of a command hold.
 #[derive(Drop)]
 pub enum Given {
-    /// It names none.
+    /// The command names no file.
     Nothing,
-    /// The bytes of its file.
+    /// The bytes of its one file, whatever they are.
     Content(Vec<u8>),
-    /// The valid model of its file.
+    /// The valid model of its one file.
     Model(ValidModel),
-    /// The valid model of the first, and the bytes of the second.
+    /// The valid model of its first file, and the bytes of its second.
     ModelAnd(ValidModel, Vec<u8>),
 }
 
 impl Given {
-    /// The bytes of the one file of a command that looks into it.
+    /// Returns the bytes of the one file of a command that names `Files::Content`.
     #[tactic(auto, unfolding(crate::specs::Content::Fits))]
     pub fn bytes(self) -> Vec<u8>
         requires { Fits files.Content (content_of self) }
@@ -31,7 +31,7 @@ impl Given {
         }
     }
 
-    /// The model of the one file of a command on a model.
+    /// Returns the model of the one file of a command that names `Files::Model`.
     #[tactic(auto, unfolding(crate::specs::Content::Fits))]
     pub fn model(self) -> ValidModel
         requires { Fits files.Model (content_of self) }
@@ -43,7 +43,8 @@ impl Given {
         }
     }
 
-    /// The model and the bytes of a command on a model and a second file.
+    /// Returns the model of the first file and the bytes of the second, for a command that names
+    /// `Files::ModelAnd`.
     #[tactic(auto, unfolding(crate::specs::Content::Fits))]
     pub fn both(self) -> (ValidModel, Vec<u8>)
         requires { (limit : ℕ) × Fits (files.ModelAnd limit) (content_of self) }

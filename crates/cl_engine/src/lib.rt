@@ -1,6 +1,6 @@
-//! The engine of a program of commands: words, files and output, whatever the commands are. Which words spell a command,
-//! which files it needs and what it comes to is a trait (`Command`); `run` opens the files, asks the command for its
-//! outcome, and writes that.
+//! The engine of a program of commands: words, files and output, whatever the commands are. The
+//! trait `Command` says which words spell a command, which files it needs and what its outcome is;
+//! `run` reads the command, opens its files, asks it for its outcome and writes the outcome's text.
 #![tactic(auto)]
 
 mod command;

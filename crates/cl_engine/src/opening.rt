@@ -1,4 +1,5 @@
-//! The opening of a command's files: what a fetch gave, the valid model that a file holds, and a second file beside it.
+//! The opening of a command's files: fetches them, reads and validates a model file, and fetches a
+//! second file only beside a valid model.
 ghost use Rattle.std.specs.Prelude.{◌≡◌, ◌<◌, ◌≤◌, length, IfOk};
 ghost use Rattle.cl_model.specs.Ranges.{IsInRange};
 ghost use Rattle.cl_model.specs.Reading.{model_of};
@@ -18,33 +19,38 @@ use cl_time::NoMemory;
 use cl_valid::{ValidFault, validate};
 use std::alloc::Global;
 
-/// What the fetch of a file gave.
+/// What the fetch of a file gave, where memory didn't run out.
 #[derive(Drop)]
 pub(crate) enum FileFetch {
+    /// All bytes of the file, at most as many as its limit.
     Bytes(Vec<u8>),
+    /// The file couldn't be read.
     Fault,
+    /// More bytes than its limit were taken.
     TooLong,
 }
 
-/// What the opening of a model gave.
+/// What the opening of a model file gave.
 #[derive(Drop)]
 pub(crate) enum OpenedModel {
+    /// The valid model that the file holds.
     Valid(ValidModel),
-    /// There is none, and this is the outcome of the command.
+    /// There is no valid model, and this is the outcome of the command.
     Stopped(Outcome),
 }
 
 /// What the opening of a command's files gave.
 #[derive(Drop)]
 pub(crate) enum Opened {
-    /// What they hold.
+    /// What the files hold.
     Held(Given),
-    /// One of them can't be opened, and this is the outcome of the command.
+    /// A file couldn't be read, is too long or holds no valid model, and this is the outcome of the
+    /// command.
     Stopped(Outcome),
 }
 
-/// Opens the files that the words behind the verb name: the model file first, and a second file only where there is a
-/// valid model.
+/// Opens the files that the words behind the verb name: the first one, and then, where the command
+/// needs two, the second one, but only where the first holds a valid model.
 pub(crate) fn open<S: Shelf>(
     alloc: Global,
     words: &Words,
@@ -53,7 +59,8 @@ pub(crate) fn open<S: Shelf>(
 ) -> Result<Opened, NoMemory>
     requires { file_count named < length words.now }
     ensures leaves { LeavesOthers (files_named named) words.now (shelf_call S.held S.faults S.longest shelf.old shelf.new) }
-    ensures opened { IfOk result (HaveOpened named words.now (shelf_call S.held S.faults S.longest shelf.old shelf.new)) }
+    ensures opened { IfOk result
+        (HaveOpened named words.now (shelf_call S.held S.faults S.longest shelf.old shelf.new)) }
 {
     match named {
         Files::Nothing => Ok(Opened::Held(Given::Nothing)),
@@ -63,7 +70,7 @@ pub(crate) fn open<S: Shelf>(
     }
 }
 
-/// Opens the one file of a command that looks into it.
+/// Fetches the file that word 1 names, whatever its bytes are.
 fn open_content<S: Shelf>(alloc: Global, words: &Words, shelf: &mut S) -> Result<Opened, NoMemory>
     requires { 1 < length words.now }
     ensures leaves { FetchesAlone (shelf_call S.held S.faults S.longest shelf.old shelf.new) (word words.now 1) }
@@ -77,7 +84,7 @@ fn open_content<S: Shelf>(alloc: Global, words: &Words, shelf: &mut S) -> Result
     }
 }
 
-/// Opens the one file of a command on a model.
+/// Opens the model file that word 1 names.
 fn open_alone<S: Shelf>(alloc: Global, words: &Words, shelf: &mut S) -> Result<Opened, NoMemory>
     requires { 1 < length words.now }
     ensures leaves { FetchesAlone (shelf_call S.held S.faults S.longest shelf.old shelf.new) (word words.now 1) }
@@ -90,7 +97,8 @@ fn open_alone<S: Shelf>(alloc: Global, words: &Words, shelf: &mut S) -> Result<O
     }
 }
 
-/// Opens a model file, and where there is a valid model the file behind it.
+/// Opens the model file that word 1 names and, where it holds a valid model, the file of at most
+/// `limit` bytes that word 2 names.
 fn open_two<S: Shelf>(
     alloc: Global,
     words: &Words,
@@ -108,7 +116,7 @@ fn open_two<S: Shelf>(
     }
 }
 
-/// Opens the second file beside a valid model.
+/// Fetches the file that word 2 names, of at most `limit` bytes, beside a valid model.
 fn open_second<S: Shelf>(
     alloc: Global,
     words: &Words,
@@ -128,7 +136,7 @@ fn open_second<S: Shelf>(
     }
 }
 
-/// Fetches the file that the word at a place names, of at most so many bytes.
+/// Fetches the file that word `place` names, of at most `limit` bytes.
 fn fetch_file<S: Shelf>(
     alloc: Global,
     words: &Words,
@@ -149,7 +157,8 @@ fn fetch_file<S: Shelf>(
     }
 }
 
-/// Opens the model file that the word behind the verb names: its valid model, or the outcome of its fault or its refusal.
+/// Opens the model file that word 1 names: gives its valid model, or the outcome of its fault or of
+/// its refusal.
 fn open_model<S: Shelf>(
     alloc: Global,
     words: &Words,
@@ -157,13 +166,15 @@ fn open_model<S: Shelf>(
 ) -> Result<OpenedModel, NoMemory>
     requires { 1 < length words.now }
     ensures leaves { FetchesAlone (shelf_call S.held S.faults S.longest shelf.old shelf.new) (word words.now 1) }
-    ensures opened { IfOk result (HasOpened (shelf_call S.held S.faults S.longest shelf.old shelf.new) (word words.now 1)) }
+    ensures opened { IfOk result
+        (HasOpened (shelf_call S.held S.faults S.longest shelf.old shelf.new) (word words.now 1)) }
 {
     let fetch = fetch_file(alloc, words, 1, FILE_LIMIT, shelf)?;
     open_fetched(alloc, &fetch)
 }
 
-/// What the fetch of a model file comes to.
+/// Makes a valid model of what the fetch of a model file gave, or the outcome that stops the
+/// command.
 fn open_fetched(alloc: Global, fetch: &FileFetch) -> Result<OpenedModel, NoMemory>
     ensures { IfOk result (IsOpenedAs (given fetch.now)) }
 {
@@ -174,7 +185,7 @@ fn open_fetched(alloc: Global, fetch: &FileFetch) -> Result<OpenedModel, NoMemor
     }
 }
 
-/// What a model file of these bytes comes to.
+/// Makes a valid model of the bytes of a model file, or the outcome of their refusal.
 fn open_bytes(alloc: Global, bytes: &[u8]) -> Result<OpenedModel, NoMemory>
     ensures { IfOk result (IsOpenedAs (Bytes bytes.now)) }
 {
@@ -187,7 +198,7 @@ fn open_bytes(alloc: Global, bytes: &[u8]) -> Result<OpenedModel, NoMemory>
     }
 }
 
-/// What a model that was read comes to.
+/// Validates a model that was read: gives the valid model, or the outcome of its first refusal.
 fn open_read(alloc: Global, model: SystemModel) -> Result<OpenedModel, NoMemory>
     requires { IsInRange model }
     ensures { IfOk result (IsValidatedAs model (refusal_of model)) }

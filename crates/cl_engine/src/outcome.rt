@@ -9,7 +9,7 @@ use cl_text::Text;
 use cl_time::NoMemory;
 use std::alloc::Global;
 
-/// What a command comes to: the number that it ends with, and the text that it writes.
+/// The outcome of a command: the status that it ends with, and the text that it writes.
 #[derive(Drop)]
 pub struct Outcome {
     pub status: u8,
@@ -17,7 +17,7 @@ pub struct Outcome {
 }
 
 impl Outcome {
-    /// The command did what it says, with this text.
+    /// Makes the outcome of a command that did what it says: status `DONE`, with this text.
     pub fn done(text: Text) -> Outcome
         ensures { result ≡ record { status = DONE; text = text } }
     {
@@ -27,8 +27,10 @@ impl Outcome {
         }
     }
 
+    /// Makes an outcome of this status whose text is these words on a line.
     fn of_line(alloc: Global, status: u8, words: &[u8]) -> Result<Outcome, NoMemory>
-        ensures { IfOk result (λ outcome. outcome ≡ record { status = status; text = line words.now }) }
+        ensures { IfOk result
+            (λ outcome. outcome ≡ record { status = status; text = line words.now }) }
     {
         let mut text = Text::new(alloc);
         text.put(words)?;
@@ -36,8 +38,11 @@ impl Outcome {
         Ok(Outcome { status, text })
     }
 
+    /// Makes an outcome of this status whose text is these words on a line, with the number of a
+    /// file behind them.
     fn of_file(alloc: Global, status: u8, words: &[u8], place: u64) -> Result<Outcome, NoMemory>
-        ensures { IfOk result (λ outcome. outcome ≡ record { status = status; text = line (words.now ++ decimal place) }) }
+        ensures { IfOk result
+            (λ outcome. outcome ≡ record { status = status; text = line (words.now ++ decimal place) }) }
     {
         let mut text = Text::new(alloc);
         text.put(words)?;
@@ -46,28 +51,29 @@ impl Outcome {
         Ok(Outcome { status, text })
     }
 
-    /// The words are no command.
+    /// Makes the outcome of words that are no command.
     pub(crate) fn words_refused(alloc: Global) -> Result<Outcome, NoMemory>
         ensures { IfOk result (λ outcome. outcome ≡ words_refused) }
     {
         Outcome::of_line(alloc, status::WORDS_REFUSED, b"words refused")
     }
 
-    /// The file that the word at this place names couldn't be read.
+    /// Makes the outcome where the file that word `place` names couldn't be read.
     pub(crate) fn read_fault(alloc: Global, place: u64) -> Result<Outcome, NoMemory>
         ensures { IfOk result (λ outcome. outcome ≡ read_fault place) }
     {
         Outcome::of_file(alloc, status::READ_FAULT, b"read fault ", place)
     }
 
-    /// The file that the word at this place names is longer than its limit.
+    /// Makes the outcome where the file that word `place` names is longer than its limit.
     pub(crate) fn long_file(alloc: Global, place: u64) -> Result<Outcome, NoMemory>
         ensures { IfOk result (λ outcome. outcome ≡ long_file place) }
     {
         Outcome::of_file(alloc, status::LONG_FILE, b"long file ", place)
     }
 
-    /// The model is refused.
+    /// Makes the outcome of a model that is refused: status `MODEL_REFUSED`, and a line with the
+    /// refusal. `NoMemory` comes where there is no memory for the line.
     pub fn model_refused(alloc: Global, refusal: Refusal) -> Result<Outcome, NoMemory>
         ensures { IfOk result (λ outcome. outcome ≡ model_refused refusal) }
     {

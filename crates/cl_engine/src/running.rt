@@ -12,13 +12,17 @@ use cl_time::{NoMemory, Steps};
 use std::alloc::Global;
 use std::sync::ledger::Ledger;
 
-/// Runs the command that the words spell: it comes to an outcome, a status and a text, by what the shelf gives of its
-/// files, and writes that text to the sink and answers that status, unless memory ran out before or a write failed.
+/// Runs the command that the words spell: finds its outcome, a status and a text, by what the shelf
+/// gives of its files, writes the text to the sink, and returns the status.
 ///
-/// The statuses are the constants of `status`. All memory is taken before the first write, so at `NO_MEMORY` the sink
-/// wasn't called; at `WRITE_FAULT` it took a proper prefix of the text, one write failed, and it was the last. A text
-/// that is empty needs no call of the sink. The shelf's numbers of names that are no file words stay as they were, where
-/// the words are no command the shelf isn't called, and a second file is fetched only where the first is accepted.
+/// The statuses are the constants of `status`. `NO_MEMORY` comes where memory runs out; since all
+/// memory is taken before the first write, the sink wasn't called. `WRITE_FAULT` comes where a
+/// write failed: the sink took a proper prefix of the text, exactly one write failed, and it was
+/// the last. An empty text needs no call of the sink.
+///
+/// The shelf isn't called where the words are no command, and a second file is fetched only where
+/// the first holds a valid model. What the shelf holds stays as it was, and so do its numbers of
+/// every name that is no file word.
 pub fn run<C: Command, S: Shelf, K: Sink, L: Ledger>(
     alloc: Global,
     words: &Words,
@@ -35,15 +39,18 @@ pub fn run<C: Command, S: Shelf, K: Sink, L: Ledger>(
     }
 }
 
-/// The outcome to which the words come, by as many fetches as that needs.
+/// Finds the outcome of the words: that of their command, or the one for words that are no command.
+/// Fetches only the files that this needs.
 fn find_outcome<C: Command, S: Shelf, L: Ledger>(
     alloc: Global,
     words: &Words,
     shelf: &mut S,
     steps: &mut Steps<L>,
 ) -> Result<Outcome, NoMemory>
-    ensures comes { IfOk result (ComesTo C.language words.now (shelf_call S.held S.faults S.longest shelf.old shelf.new)) }
-    ensures caused { IfOk result (IsCaused C.language words.now (shelf_call S.held S.faults S.longest shelf.old shelf.new)) }
+    ensures comes { IfOk result
+        (ComesTo C.language words.now (shelf_call S.held S.faults S.longest shelf.old shelf.new)) }
+    ensures caused { IfOk result
+        (IsCaused C.language words.now (shelf_call S.held S.faults S.longest shelf.old shelf.new)) }
     ensures leaves { LeavesRest C.language words.now (shelf_call S.held S.faults S.longest shelf.old shelf.new) steps.old steps.new }
     ensures unasked { C.language.spelled words.now ≡ None → shelf.new ≡ shelf.old }
 {
@@ -53,7 +60,8 @@ fn find_outcome<C: Command, S: Shelf, L: Ledger>(
     }
 }
 
-/// The outcome of the command that the words spell.
+/// Opens the files of the command that the words spell, and finds its outcome. Where the files
+/// can't be opened, the outcome says so.
 fn answer<C: Command, S: Shelf, L: Ledger>(
     alloc: Global,
     words: &Words,
@@ -63,8 +71,10 @@ fn answer<C: Command, S: Shelf, L: Ledger>(
 ) -> Result<Outcome, NoMemory>
     requires spelled { C.language.spelled words.now ≡ Some asked }
     requires file_words { HasFileWords C.language words.now asked }
-    ensures comes { IfOk result (ComesTo C.language words.now (shelf_call S.held S.faults S.longest shelf.old shelf.new)) }
-    ensures caused { IfOk result (IsCaused C.language words.now (shelf_call S.held S.faults S.longest shelf.old shelf.new)) }
+    ensures comes { IfOk result
+        (ComesTo C.language words.now (shelf_call S.held S.faults S.longest shelf.old shelf.new)) }
+    ensures caused { IfOk result
+        (IsCaused C.language words.now (shelf_call S.held S.faults S.longest shelf.old shelf.new)) }
     ensures leaves { LeavesRest C.language words.now (shelf_call S.held S.faults S.longest shelf.old shelf.new) steps.old steps.new }
 {
     match open(alloc, words, asked.files(), shelf)? {
@@ -73,7 +83,8 @@ fn answer<C: Command, S: Shelf, L: Ledger>(
     }
 }
 
-/// Writes the outcome's text, and answers its status, or that of a write fault.
+/// Writes the outcome's text, and returns the outcome's status, or `WRITE_FAULT` where a write
+/// failed.
 fn carry_out<K: Sink>(sink: &mut K, outcome: &Outcome) -> u8
     ensures { IsWhole (sink_call K.written K.faults K.last_failed sink.old sink.new) outcome.now result
         ⊎ IsCutShort (sink_call K.written K.faults K.last_failed sink.old sink.new) outcome.now result }

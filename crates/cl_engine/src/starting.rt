@@ -1,4 +1,5 @@
-//! The start of the program: its arguments, and a call of `run` over the files and the output of a real machine.
+//! The start of the program: takes its arguments and calls `run` over the files and the standard
+//! output of a real machine.
 ghost use Rattle.std.specs.Prelude.{◌≡◌, ◌<◌, map, drop, string_bytes, IfOk, IfErr, OnErr, MatchResult};
 ghost use Rattle.std.specs.Vec.Iter.{into_iter_items};
 ghost use Rattle.cl_engine.specs.Calls.{shelf_call, sink_call};
@@ -18,14 +19,19 @@ use std::rt::{Env, Files};
 use std::sync::ledger::{Blank, Ledger};
 use std::{env, io};
 
-/// Runs the program's own arguments over the files and the standard output of a runtime, and answers the status that
-/// the program ends with: that of `run`, or `ARGUMENT_NOT_TEXT`, or `NO_MEMORY`.
+/// Runs the command that the program's own arguments spell, over the files and the standard output
+/// of a runtime, and returns the status that the program ends with.
+///
+/// That is the status of `run`; or `ARGUMENT_NOT_TEXT`, where an argument isn't text (UTF-8); or
+/// `NO_MEMORY`, where there is no memory for the arguments. In the last two cases no file is read
+/// and nothing is written.
 pub fn start<C: Command, R: Env + Files + Print + AllocGlobal>(rt: &R) -> u8 {
     start_with::<C, R, Brand>(rt, env::args(rt), Blank::new(1))
 }
 
-/// The same of arguments, the program's own name among them, or of an error in their place, with a counter of steps that
-/// nothing reads.
+/// Runs the command that the arguments after the first spell (the first is the program's own name),
+/// with a counter of steps on this blank that nothing reads. Where there is an error in place of
+/// the arguments, returns the status of that error.
 fn start_with<C: Command, R: Files + Print + AllocGlobal, L: Ledger>(
     rt: &R,
     arguments: io::Result<Args>,
@@ -47,8 +53,8 @@ fn start_with<C: Command, R: Files + Print + AllocGlobal, L: Ledger>(
     )
 }
 
-/// Runs arguments over any shelf and any sink: the words are all but the first. Where there is an error in their place,
-/// neither is called.
+/// Runs the command that the arguments after the first spell, over any shelf and any sink. Where
+/// there is an error in place of the arguments, calls neither and returns the status of that error.
 fn run_arguments<C: Command, S: Shelf, K: Sink, L: Ledger>(
     alloc: Global,
     arguments: io::Result<Args>,
@@ -56,7 +62,8 @@ fn run_arguments<C: Command, S: Shelf, K: Sink, L: Ledger>(
     sink: &mut K,
     steps: &mut Steps<L>,
 ) -> u8
-    ensures given { IfOk arguments (λ given. IsSoundCall C.language (map string_bytes (drop 1 (into_iter_items given)))
+    ensures given { IfOk arguments
+        (λ given. IsSoundCall C.language (map string_bytes (drop 1 (into_iter_items given)))
         (shelf_call S.held S.faults S.longest shelf.old shelf.new) shelf.old shelf.new
         (sink_call K.written K.faults K.last_failed sink.old sink.new) steps.old steps.new result) }
     ensures not_given { IfErr arguments (λ error. IsStatusOfError error result) }
@@ -72,7 +79,7 @@ fn run_arguments<C: Command, S: Shelf, K: Sink, L: Ledger>(
     }
 }
 
-/// The arguments after the first, which is the program's own name: all of them, as they stand.
+/// Returns the arguments after the first, which is the program's own name, as they stand.
 fn words_of(alloc: Global, arguments: Args) -> Result<Words, NoMemory>
     ensures { IfOk result (λ words. words ≡ map string_bytes (drop 1 (into_iter_items arguments))) }
 {
@@ -83,14 +90,14 @@ fn words_of(alloc: Global, arguments: Args) -> Result<Words, NoMemory>
     }
 }
 
-/// All arguments as a vector.
+/// Collects all arguments in a vector.
 fn all_of(alloc: Global, arguments: Args) -> Result<Vec<String>, AllocError>
     ensures { IfOk result (λ all. all.items ≡ into_iter_items arguments) }
 {
     arguments.collect(alloc)
 }
 
-/// All of these words, as they stand.
+/// Copies these arguments as words, in order and as they stand.
 fn pushed(alloc: Global, arguments: &[String]) -> Result<Words, NoMemory>
     ensures { IfOk result (λ words. words ≡ map string_bytes arguments.now) }
 {
@@ -101,7 +108,8 @@ fn pushed(alloc: Global, arguments: &[String]) -> Result<Words, NoMemory>
     Ok(words)
 }
 
-/// The status where the arguments weren't given.
+/// Returns the status where the system didn't give the arguments: `NO_MEMORY` for want of memory,
+/// and `ARGUMENT_NOT_TEXT` for every other error.
 fn status_of(error: &io::Error) -> u8
     ensures { IsStatusOfError error.now result }
 {

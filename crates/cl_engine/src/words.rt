@@ -1,4 +1,4 @@
-//! The words of a command: the word at a place, and numbers that words write.
+//! The words of a command: the word at an index, and the numbers that words spell.
 ghost use Rattle.std.specs.Prelude.{◌≡◌, ◌<◌, ◌≤◌, drop, length};
 ghost use Rattle.cl_engine.specs.Files.{word};
 ghost use Rattle.cl_engine.specs.Words.{number_within, two_numbers};
@@ -6,14 +6,14 @@ ghost use Rattle.cl_engine.specs.Words.{number_within, two_numbers};
 use cl_io::Words;
 use cl_text::read_decimal;
 
-/// What a number among the words may be.
+/// The least and the greatest value of a number among the words.
 #[derive(Clone, Copy, Debug, PartialEq, Eq)]
 pub struct Bounds {
     pub least: u64,
     pub most: u64,
 }
 
-/// The word at a place.
+/// Returns the word at index `place`, from 0 for the verb.
 pub fn word_at(words: &Words, place: usize) -> &str
     requires { place < length words.now }
     ensures { result.now ≡ word words.now place }
@@ -21,7 +21,8 @@ pub fn word_at(words: &Words, place: usize) -> &str
     words.at(place).unwrap()
 }
 
-/// The number within these bounds that the word at a place writes. Takes no memory.
+/// Reads the number that the word at index `place` spells in decimal, without leading zeros. `None`
+/// where it spells none or one outside `bounds`. Takes no memory.
 pub fn number_at(words: &Words, place: usize, bounds: Bounds) -> Option<u64>
     requires { place < length words.now }
     ensures { result ≡ number_within bounds (word words.now place) }
@@ -32,7 +33,9 @@ pub fn number_at(words: &Words, place: usize, bounds: Bounds) -> Option<u64>
     }
 }
 
-/// The two numbers within these bounds that are the only words from a place on. Takes no memory.
+/// Reads the last two words, at the indices `place` and `place + 1`, as two decimal numbers, the
+/// first within `one` and the second within `other`. `None` where a word spells no such number, or
+/// where there are fewer or more words. Takes no memory.
 pub fn two_numbers(words: &Words, place: usize, one: Bounds, other: Bounds) -> Option<(u64, u64)>
     requires { place ≤ 3 }
     ensures { result ≡ two_numbers one other (drop place words.now) }

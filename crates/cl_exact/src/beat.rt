@@ -4,7 +4,8 @@ ghost use Rattle.cl_exact.specs.Inner.Beats.{IsBeat, read_at, write_at, first_re
 
 use cl_time::ceil_div;
 
-/// Job `k` of a group reads at `offset + k * period`, and writes its deadline later.
+/// The moments of a group: its job `k` reads at `offset + k * period`, and writes its deadline
+/// later.
 #[derive(Clone, Copy, Default)]
 pub(crate) struct Beat {
     pub(crate) offset: u64,
@@ -13,7 +14,7 @@ pub(crate) struct Beat {
 }
 
 impl Beat {
-    /// When a job reads.
+    /// Computes when a job reads.
     pub(crate) fn read(&self, job: u64) -> u64
         requires { read_at self.now job < 2 ^ 64 }
         ensures { result ≡ read_at self.now job }
@@ -21,7 +22,7 @@ impl Beat {
         self.offset + job * self.period
     }
 
-    /// When a job writes.
+    /// Computes when a job writes.
     pub(crate) fn write(&self, job: u64) -> u64
         requires { write_at self.now job < 2 ^ 64 }
         ensures { result ≡ write_at self.now job }
@@ -29,7 +30,7 @@ impl Beat {
         self.read(job) + self.deadline
     }
 
-    /// The first job that reads at or after a moment.
+    /// Finds the first job that reads at or after a moment.
     pub(crate) fn first_reader(&self, moment: u64) -> u64
         requires { IsBeat self.now }
         ensures { result ≡ first_reader self.now moment }
@@ -37,7 +38,8 @@ impl Beat {
         ceil_div(moment.saturating_sub(self.offset), self.period)
     }
 
-    /// The last job that writes at or before a moment, which doesn't lie before the first write.
+    /// Finds the last job that writes at or before a moment, which doesn't lie before the first
+    /// write.
     pub(crate) fn last_writer(&self, moment: u64) -> u64
         requires beat { IsBeat self.now }
         requires some { self.now.offset + self.now.deadline ≤ moment }

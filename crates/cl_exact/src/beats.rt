@@ -13,7 +13,7 @@ use crate::beat::Beat;
 use arrayvec::ArrayVec;
 use cl_model::{Group, MOST_STEPS, StimulusKind, ValidModel};
 
-/// Whether a task is timed and periodic.
+/// Checks whether a task is timed and periodic.
 fn is_timed_periodic_task(model: &ValidModel, task: u32) -> bool
     requires { task < length model.now.tasks }
     ensures { result ≡ is_timed_periodic_task (timing_at (system_of model.now) task) }
@@ -23,13 +23,15 @@ fn is_timed_periodic_task(model: &ValidModel, task: u32) -> bool
     timed && periodic
 }
 
-/// How many groups stand before the first whose task isn't timed and periodic.
+/// Counts the groups before the first whose task isn't timed and periodic.
 pub(crate) fn timed_periodic_count(model: &ValidModel, groups: &[Group]) -> usize
     requires { All (IsGroupOf model.now) groups.now }
     ensures within { result ≤ length groups.now }
-    ensures timed_periodic { are_timed_periodic (system_of model.now) (take result groups.now) ≡ true }
+    ensures timed_periodic { are_timed_periodic (system_of model.now) (take result groups.now)
+        ≡ true }
     ensures first_other { result < length groups.now
-        → is_timed_periodic_task (timing_at (system_of model.now) (group_at groups.now result).task) ≡ false }
+        → is_timed_periodic_task (timing_at (system_of model.now) (group_at groups.now result).task)
+        ≡ false }
 {
     for place in 0..groups.len() {
         if !is_timed_periodic_task(model, groups[place].task) {
@@ -39,7 +41,7 @@ pub(crate) fn timed_periodic_count(model: &ValidModel, groups: &[Group]) -> usiz
     groups.len()
 }
 
-/// Whether the tasks of these groups are all timed and periodic.
+/// Checks whether the tasks of these groups are all timed and periodic.
 ///
 /// It looks at each group at most once, and takes no memory.
 pub fn are_timed_periodic(model: &ValidModel, groups: &[Group]) -> bool
@@ -54,7 +56,7 @@ pub fn are_timed_periodic(model: &ValidModel, groups: &[Group]) -> bool
     true
 }
 
-/// Whether the tasks of a chain are all timed and periodic.
+/// Checks whether the tasks of a chain, given by its number, are all timed and periodic.
 ///
 /// It looks at each group of the chain at most once, and takes no memory.
 pub fn is_timed_periodic(model: &ValidModel, chain: u32) -> bool
@@ -64,7 +66,7 @@ pub fn is_timed_periodic(model: &ValidModel, chain: u32) -> bool
     are_timed_periodic(model, model.groups(chain))
 }
 
-/// The beat of a task that is timed and periodic.
+/// Returns the beat of a task that is timed and periodic.
 fn beat_of(model: &ValidModel, task: u32) -> Beat
     requires is_task { task < length model.now.tasks }
     requires periodic { is_timed_periodic_task (timing_at (system_of model.now) task) ≡ true }
@@ -84,7 +86,7 @@ fn beat_of(model: &ValidModel, task: u32) -> Beat
     }
 }
 
-/// The beats of groups whose tasks are all timed and periodic.
+/// Lists the beats of groups whose tasks are all timed and periodic, in order.
 pub(crate) fn beats_of(model: &ValidModel, groups: &[Group]) -> ArrayVec<Beat, MOST_STEPS>
     requires some { 0 < length groups.now }
     requires few { length groups.now ≤ MOST_STEPS }

@@ -6,7 +6,7 @@ ghost use Rattle.cl_exact.specs.Inner.Blocks.{AreSteps, AreWrites, AreStarts, Ar
 use crate::beat::Beat;
 use crate::hop::hop;
 
-/// Moments a period apart.
+/// Fills in moments a period apart, from `start` on.
 fn fill_steps(start: u64, period: u64, moments: &mut [u64])
     requires { start + length moments.old * period < 2 ^ 64 }
     ensures { AreSteps moments.new start period }
@@ -16,7 +16,8 @@ fn fill_steps(start: u64, period: u64, moments: &mut [u64])
     }
 }
 
-/// The moments from which the chains of the first jobs from `first` on last: the reads of the jobs before them.
+/// Fills in the moments from which the chains of the first jobs from `first` on last: the reads of
+/// the jobs before them.
 pub(crate) fn fill_starts(beats: &[Beat], first: u64, starts: &mut [u64])
     requires beats { AreBeats beats.now }
     requires some { 1 ≤ first }
@@ -27,7 +28,7 @@ pub(crate) fn fill_starts(beats: &[Beat], first: u64, starts: &mut [u64])
     fill_steps(beat.read(first - 1), beat.period, starts);
 }
 
-/// The writes of the first jobs from `first` on.
+/// Fills in the writes of the first jobs from `first` on.
 pub(crate) fn fill_writes(beats: &[Beat], first: u64, writes: &mut [u64])
     requires beats { AreBeats beats.now }
     requires early { IsEarlyBlock beats.now first (length writes.old) }
@@ -37,7 +38,8 @@ pub(crate) fn fill_writes(beats: &[Beat], first: u64, writes: &mut [u64])
     fill_steps(beat.write(first), beat.period, writes);
 }
 
-/// The moments to which the chains last: the writes of their last jobs.
+/// Fills in the moments to which the chains of the first jobs from `first` on last: the writes of
+/// their last jobs.
 pub(crate) fn fill_ends(beats: &[Beat], first: u64, ends: &mut [u64])
     requires beats { AreBeats beats.now }
     requires early { IsEarlyBlock beats.now first (length ends.old) }

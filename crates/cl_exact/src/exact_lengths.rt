@@ -4,7 +4,8 @@ ghost use Rattle.std.specs.Prelude.{◌≡◌};
 use crate::witness::Witness;
 use std::marker::Model;
 
-/// A witness for each exact length of a chain. Only `exact` and `copy` make one.
+/// The exact lengths of a chain, or of a part of one, each with its witness. Only `exact`,
+/// `exact_of_groups` and `copy` make one.
 #[derive(Debug, PartialEq, Eq, Drop)]
 pub struct ExactLengths {
     pub(crate) reaction: Witness,
@@ -23,28 +24,31 @@ impl Model for ExactLengths {
 }
 
 impl ExactLengths {
-    /// The longest reaction, from the read of the job before the first to the write of the last.
+    /// Returns the witness of the longest reaction, from the read of the job before the first to
+    /// the write of the last.
     pub fn reaction(&self) -> &Witness
         ensures { result.now ≡ self.now.reaction }
     {
         &self.reaction
     }
 
-    /// The greatest age, from the first read to the write of the job after the last.
+    /// Returns the witness of the greatest age, from the first read to the write of the job after
+    /// the last.
     pub fn age(&self) -> &Witness
         ensures { result.now ≡ self.now.age }
     {
         &self.age
     }
 
-    /// The greatest reduced age, from the first read to the write of the last job.
+    /// Returns the witness of the greatest reduced age, from the first read to the write of the
+    /// last job.
     pub fn reduced(&self) -> &Witness
         ensures { result.now ≡ self.now.reduced }
     {
         &self.reduced
     }
 
-    /// Equal lengths, with equal witnesses.
+    /// Makes an equal copy, with equal witnesses. Takes no memory.
     pub fn copy(&self) -> ExactLengths
         ensures { result ≡ self.now }
     {

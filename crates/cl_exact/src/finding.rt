@@ -29,7 +29,7 @@ use cl_model::{Group, ValidModel};
 use cl_time::Steps;
 use std::sync::ledger::Ledger;
 
-/// The forward chain from a first job.
+/// Makes the witness of the forward chain from a first job.
 fn forward_witness(beats: &[Beat], first: u64) -> Witness
     requires beats { AreBeats beats.now }
     requires some { 1 ≤ first }
@@ -48,7 +48,7 @@ fn forward_witness(beats: &[Beat], first: u64) -> Witness
     }
 }
 
-/// The backward chain of a last job, up to the write of the job after it.
+/// Makes the witness of the backward chain of a last job, up to the write of the job after it.
 fn age_witness(beats: &[Beat], last: u64) -> Witness
     requires beats { AreBeats beats.now }
     requires late { start_up_of beats.now ≤ read_at (last_beat beats.now) last }
@@ -66,7 +66,7 @@ fn age_witness(beats: &[Beat], last: u64) -> Witness
     }
 }
 
-/// The same chain up to the write of the last job, a period before.
+/// Makes the witness of the same chain up to the write of its last job, a period earlier.
 fn reduced_witness(age: &Witness, period: u64) -> Witness
     requires length { period ≤ age.now.length }
     requires to { period ≤ age.now.to }
@@ -80,12 +80,13 @@ fn reduced_witness(age: &Witness, period: u64) -> Witness
     }
 }
 
-/// The last job whose backward chain has the greatest age, which equals the greatest reaction: the least such job of
-/// those that read at or after the start-up.
+/// Finds the last job whose backward chain has the greatest age, which equals the greatest
+/// reaction: the least such job among those that read at or after the start-up.
 ///
-/// No backward chain is walked but the very first. A forward chain with the greatest reaction ends one job after a
-/// backward chain with the greatest age. So the first forward chain is sought that has that reaction and begins later
-/// than the very first backward chain, and the job before its last one is the answer.
+/// Only the very first backward chain is walked. A forward chain with the greatest reaction ends
+/// one job after a backward chain with the greatest age. So the search is for the first forward
+/// chain that has this reaction and begins later than the very first backward chain, and the answer
+/// is the job before its last one.
 fn oldest(beats: &[Beat], count: u64, age: u64) -> u64
     requires beats { AreBeats beats.now }
     requires few { count * (beat_in beats.now 0).period ≤ MOST_HYPERPERIOD }
@@ -100,13 +101,15 @@ fn oldest(beats: &[Beat], count: u64, age: u64) -> u64
     forward_jobs(beats, next).as_slice()[beats.len() - 1] - 1
 }
 
-/// The exact lengths of groups with this hyperperiod.
+/// Finds the exact lengths of groups with this hyperperiod.
 fn exact_lengths(beats: &[Beat], hyperperiod: u64) -> ExactLengths
     requires beats { AreBeats beats.now }
     requires hyperperiod { IsLeastMultiple beats.now hyperperiod }
     requires few { hyperperiod ≤ MOST_HYPERPERIOD }
-    ensures exact { (system : System) (groups : List Group) → AreBeatsOf system groups beats.now → AreExactLengths system groups result }
-    ensures tied { (system : System) (groups : List Group) → AreBeatsOf system groups beats.now → AreTied system groups result }
+    ensures exact { (system : System) (groups : List Group) → AreBeatsOf system groups beats.now
+        → AreExactLengths system groups result }
+    ensures tied { (system : System) (groups : List Group) → AreBeatsOf system groups beats.now
+        → AreTied system groups result }
 {
     let count = hyperperiod / beats[0].period;
     let greatest = greatest_reaction(beats, first_steady_job(beats), count);
@@ -118,18 +121,23 @@ fn exact_lengths(beats: &[Beat], hyperperiod: u64) -> ExactLengths
     }
 }
 
-/// The exact reaction, age and reduced age of groups of a valid model that follow each other, a chain of it or a part
-/// of one, whose tasks are all timed and periodic, each with a witness: the longest of all their job chains over the
-/// ideal moments, once all their tasks have begun, and among equals the one of the least first job, or last job for an
-/// age.
+/// Finds the exact reaction, age and reduced age of groups of a valid model that follow each other,
+/// a chain of it or a part of one, whose tasks are all timed and periodic, each with a witness: the
+/// longest of all their job chains over the ideal moments, once all their tasks have begun. Among
+/// equals the witness is the chain of the least first job, or of the least last job for an age or a
+/// reduced age.
 ///
-/// The reaction equals the age, and the reduced age is the age less the last period, with the same jobs. Where none of
-/// the tasks is late, each legal run reads and writes at the ideal moments until its end, no complete chain of it is
-/// longer, and each witness is a complete chain of each run that lasts to its end.
+/// The reaction equals the age, and the reduced age is the age less the period of the last task,
+/// with the same jobs. Where none of the tasks is late, each legal run reads and writes at the
+/// ideal moments until its end, no complete chain of it is longer, and each witness is a complete
+/// chain of each run that lasts to its end or, for the reduced age, one period of the last task
+/// longer.
 ///
-/// `HyperLimit` comes exactly where the hyperperiod of the groups exceeds the limit, which it carries. It counts one
-/// step and takes no memory. Its time grows with the number of groups, times that of the first jobs in the hyperperiod,
-/// at most a million, or, where a group is much slower than the first, times that of the jobs of the slowest group.
+/// `HyperLimit` comes exactly where the hyperperiod of the groups exceeds the limit, which it
+/// carries. The call counts one step, whatever it answers, and takes no memory. Its time grows with
+/// the number of groups times the number of first jobs in the hyperperiod, at most a million. If a
+/// group is 16 times or more as slow as the first, it grows with the number of groups times the
+/// number of jobs of the slowest group in the hyperperiod.
 pub fn exact_of_groups<L: Ledger>(
     model: &ValidModel,
     groups: &[Group],
@@ -147,7 +155,8 @@ pub fn exact_of_groups<L: Ledger>(
         → AlwaysIdealUntilTheEnd (system_of model.now) groups.now }
     ensures within { OnOk result (IsWithinLimit (system_of model.now) groups.now) }
     ensures past { OnErr result (IsPastLimit (system_of model.now) groups.now) }
-    ensures limit { IfErr result (λ past. past.limit ≡ hyper_limit (system_of model.now) groups.now) }
+    ensures limit { IfErr result
+        (λ past. past.limit ≡ hyper_limit (system_of model.now) groups.now) }
     ensures steps { steps.new ≡ steps.old + 1 }
 {
     steps.tick();
@@ -160,7 +169,9 @@ pub fn exact_of_groups<L: Ledger>(
     }
 }
 
-/// The exact lengths of a chain of a valid model, given by its number: `exact_of_groups` of its groups.
+/// Finds the exact lengths of a chain of a valid model, given by its number: `exact_of_groups` of
+/// its groups. `HyperLimit` comes exactly where the hyperperiod of the chain exceeds the limit,
+/// which it carries. The call counts one step, whatever it answers, and takes no memory.
 pub fn exact<L: Ledger>(
     model: &ValidModel,
     chain: u32,
@@ -168,15 +179,18 @@ pub fn exact<L: Ledger>(
 ) -> Result<ExactLengths, HyperLimit>
     requires is_chain { chain < length model.now.chains }
     requires timed_periodic { is_timed_periodic_chain model.now chain ≡ true }
-    ensures exact { IfOk result (AreExactLengths (system_of model.now) (groups_at model.now chain)) }
+    ensures exact { IfOk result
+        (AreExactLengths (system_of model.now) (groups_at model.now chain)) }
     ensures tied { IfOk result (AreTied (system_of model.now) (groups_at model.now chain)) }
-    ensures in_runs { IfOk result (λ exact. HaveResponses (system_of model.now) (groups_at model.now chain)
+    ensures in_runs { IfOk result
+        (λ exact. HaveResponses (system_of model.now) (groups_at model.now chain)
         → AreExactInRuns (system_of model.now) (groups_at model.now chain) exact) }
     ensures ideal { HaveResponses (system_of model.now) (groups_at model.now chain)
         → AlwaysIdealUntilTheEnd (system_of model.now) (groups_at model.now chain) }
     ensures within { OnOk result (IsWithinLimit (system_of model.now) (groups_at model.now chain)) }
     ensures past { OnErr result (IsPastLimit (system_of model.now) (groups_at model.now chain)) }
-    ensures limit { IfErr result (λ past. past.limit ≡ hyper_limit (system_of model.now) (groups_at model.now chain)) }
+    ensures limit { IfErr result
+        (λ past. past.limit ≡ hyper_limit (system_of model.now) (groups_at model.now chain)) }
     ensures steps { steps.new ≡ steps.old + 1 }
 {
     exact_of_groups(model, model.groups(chain), steps)

@@ -1,4 +1,5 @@
-//! The greatest reactions of front parts of a chain, all in one scan over first jobs. Times are in ticks.
+//! The greatest reactions of the front parts of a chain, all in one scan over first jobs. Times are
+//! in ticks.
 ghost use Rattle.std.specs.Prelude.{◌≡◌, ◌⊎◌, ℕ, ◌+◌, ◌≤◌, ◌<◌, length, slice_index, EachIndex, SomeIndex};
 ghost use Rattle.cl_lanes.specs.Gaps.{HasGap};
 ghost use Rattle.cl_model.specs.declared.limits.TheConstants.{MOST_STEPS};
@@ -13,12 +14,14 @@ use crate::scan::BLOCK;
 use cl_lanes::greatest_gap;
 use cl_model::MOST_STEPS;
 
-/// A length, or the greatest gap of a block where that is greater.
+/// Returns the greatest gap of a block or, where that is greater, the length so far.
 fn raised(so_far: u64, ends: &[u64], starts: &[u64]) -> u64
     requires as_many { length ends.now ≡ length starts.now }
-    requires in_order { EachIndex ends.now (λ i. slice_index starts.now i ≤ slice_index ends.now i) }
+    requires in_order { EachIndex ends.now
+        (λ i. slice_index starts.now i ≤ slice_index ends.now i) }
     ensures not_less { so_far ≤ result }
-    ensures above { EachIndex ends.now (λ i. slice_index ends.now i ≤ slice_index starts.now i + result) }
+    ensures above { EachIndex ends.now
+        (λ i. slice_index ends.now i ≤ slice_index starts.now i + result) }
     ensures one_of { (result ≡ so_far) ⊎ SomeIndex ends.now (HasGap ends.now starts.now result) }
 {
     match greatest_gap(ends, starts) {
@@ -27,8 +30,9 @@ fn raised(so_far: u64, ends: &[u64], starts: &[u64]) -> u64
     }
 }
 
-/// Raises the greatest reactions of the front parts of up to `size` groups by those of a block, the chains which `ends`
-/// and `starts` have room for: each goes on from group to group, and its length so far is its reaction there.
+/// Raises the greatest reactions of the front parts of up to `size` groups by those of a block of
+/// chains, as many as `ends` and `starts` have room for. Each chain goes on from group to group,
+/// and its length so far is its reaction there.
 fn raise_by_block(
     beats: &[Beat],
     size: usize,
@@ -56,7 +60,8 @@ fn raise_by_block(
     }
 }
 
-/// The greatest reactions of the front parts of up to `size` groups, over `count` first jobs from `first` on.
+/// Finds the greatest reactions of the front parts of up to `size` groups, over `count` first jobs
+/// from `first` on.
 pub(crate) fn greatest_of_fronts(
     beats: &[Beat],
     size: usize,

@@ -22,7 +22,7 @@ use cl_model::{Group, MOST_STEPS, ValidModel};
 use cl_time::Steps;
 use std::sync::ledger::Ledger;
 
-/// A front part by its number of groups, with its hyperperiod.
+/// A front part, by its number of groups and its hyperperiod.
 #[derive(Clone, Copy)]
 struct Front {
     size: usize,
@@ -36,7 +36,7 @@ struct Scanned {
     reactions: [u64; MOST_STEPS],
 }
 
-/// The hyperperiod of groups, if it is within their own limit.
+/// Computes the hyperperiod of groups, if it is within their own limit.
 fn hyperperiod_within(beats: &[Beat]) -> Option<u64>
     requires { AreBeats beats.now }
     ensures least { IfSome result (IsLeastMultiple beats.now) }
@@ -47,7 +47,7 @@ fn hyperperiod_within(beats: &[Beat]) -> Option<u64>
     hyperperiod(beats, hyper_limit(beats))
 }
 
-/// The longest of the front parts with no much slower group whose hyperperiod is within its limit.
+/// Finds the longest front part without a much slower group whose hyperperiod is within its limit.
 fn widest(beats: &[Beat]) -> Option<Front>
     requires { AreBeats beats.now }
     ensures { IfSome result (IsWidest beats.now) }
@@ -60,7 +60,8 @@ fn widest(beats: &[Beat]) -> Option<Front>
     None
 }
 
-/// The greatest reactions of all front parts with no much slower group, found together.
+/// Finds the greatest reactions of all front parts without a much slower group, in one scan. There
+/// are none where no such part has a hyperperiod within its limit.
 fn scan_fronts(beats: &[Beat]) -> Scanned
     requires { AreBeats beats.now }
     ensures { IsShared beats.now result }
@@ -82,7 +83,7 @@ fn scan_fronts(beats: &[Beat]) -> Scanned
     }
 }
 
-/// The greatest reaction of groups with this hyperperiod.
+/// Finds the greatest reaction of groups with this hyperperiod.
 fn reaction_alone(beats: &[Beat], hyperperiod: u64) -> u64
     requires beats { AreBeats beats.now }
     requires hyperperiod { IsLeastMultiple beats.now hyperperiod }
@@ -93,7 +94,8 @@ fn reaction_alone(beats: &[Beat], hyperperiod: u64) -> u64
     greatest_reaction(beats, first_steady_job(beats), count).reaction
 }
 
-/// The exact reaction of the front part up to a place, if its hyperperiod is within its limit.
+/// Finds the exact reaction of the front part up to a place, if its hyperperiod is within its
+/// limit.
 fn reaction_up_to(beats: &[Beat], place: usize, scanned: &Scanned) -> Option<u64>
     requires beats { AreBeats beats.now }
     requires place { place < length beats.now }
@@ -109,7 +111,7 @@ fn reaction_up_to(beats: &[Beat], place: usize, scanned: &Scanned) -> Option<u64
     }
 }
 
-/// None for each front part.
+/// Returns `None` for each front part.
 fn no_reactions() -> [Option<u64>; MOST_STEPS]
     ensures room { length result ≡ MOST_STEPS }
     ensures none { (place : ℕ) → slice_index_or result place None ≡ None }
@@ -117,12 +119,13 @@ fn no_reactions() -> [Option<u64>; MOST_STEPS]
     [None; MOST_STEPS]
 }
 
-/// The exact reactions of the front parts, the shortest first.
+/// Finds the exact reactions of the front parts, the shortest part first.
 fn reactions_of(beats: &[Beat]) -> [Option<u64>; MOST_STEPS]
     requires { AreBeats beats.now }
     ensures fronts { (place : ℕ) → place < length beats.now
         → IsReactionOfBeats (take (place + 1) beats.now) (slice_index_or result place None) }
-    ensures rest { (place : ℕ) → length beats.now ≤ place → slice_index_or result place None ≡ None }
+    ensures rest { (place : ℕ) → length beats.now ≤ place
+        → slice_index_or result place None ≡ None }
 {
     let mut reactions = no_reactions();
     let scanned = scan_fronts(beats);
@@ -132,12 +135,14 @@ fn reactions_of(beats: &[Beat]) -> [Option<u64>; MOST_STEPS]
     reactions
 }
 
-/// The exact reactions of the front parts of groups of a valid model that follow each other, the shortest part first: of
-/// each part whose tasks are all timed and periodic and whose hyperperiod is within its own limit the reaction that
-/// `exact_of_groups` finds, and `None` for the others, and past the last group.
+/// Finds the exact reactions of the front parts of groups of a valid model that follow each other,
+/// the shortest part first. If the tasks of a part are all timed and periodic and its hyperperiod
+/// is within its own limit, this is the reaction that `exact_of_groups` finds. It is `None` for
+/// each other part, and past the last group.
 ///
-/// It counts one step and takes no memory. The parts with no group much slower than the first share one scan over first
-/// jobs, at most a million, whose time grows with their number and with that of the groups; each other part has a scan
+/// It counts one step and takes no memory. The parts without a group 16 times or more as slow as
+/// the first share one scan over first jobs, at most a million, whose time grows with the number of
+/// these jobs and of the groups. Each other part whose hyperperiod is within its limit has a scan
 /// over the jobs of its slowest group.
 pub fn exact_reactions<L: Ledger>(
     model: &ValidModel,

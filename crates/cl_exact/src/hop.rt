@@ -5,7 +5,8 @@ ghost use Rattle.cl_exact.specs.Inner.Blocks.{LATEST, AreRising, AreBefore, IsRe
 
 use crate::beat::Beat;
 
-/// The first read at or after a moment, where `read` is the first at or after an earlier one.
+/// Finds the first read at or after a moment, where `read` is the first at or after an earlier one
+/// or the same.
 #[inline(always)]
 fn next_read(reader: &Beat, read: u64, moment: u64) -> u64
     requires beat { IsBeat reader.now }
@@ -22,14 +23,15 @@ fn next_read(reader: &Beat, read: u64, moment: u64) -> u64
     }
 }
 
-/// Goes on from the writes of a group to those of the next: each moment becomes the write of the reader's first job
-/// that reads at or after it. The moments never fall, so one walk along them serves, which divides only where a moment
-/// lies beyond the next read.
+/// Goes on from the writes of a group to those of the next: each moment becomes the write of the
+/// reader's first job that reads at or after it. The moments never fall, so one walk along them is
+/// enough, which divides only where a moment lies beyond the next read.
 pub(crate) fn hop(moments: &mut [u64], reader: &Beat)
     requires beat { IsBeat reader.now }
     requires rising { AreRising moments.old }
     requires early { AreBefore moments.old LATEST }
-    ensures { (i : ℕ) → i < length moments.old → slice_index moments.new i ≡ hop_to reader.now (slice_index moments.old i) }
+    ensures { (i : ℕ) → i < length moments.old
+        → slice_index moments.new i ≡ hop_to reader.now (slice_index moments.old i) }
 {
     let mut read = reader.offset;
     for i in 0..moments.len() {

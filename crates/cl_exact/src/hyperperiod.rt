@@ -16,21 +16,23 @@ use crate::limit::MOST_FIRST_JOBS;
 use cl_model::ValidModel;
 use cl_time::lcm_upto;
 
-/// The limit on the hyperperiod.
+/// Computes the limit on the hyperperiod.
 pub(crate) fn hyper_limit(beats: &[Beat]) -> u64
     requires { AreBeats beats.now }
     ensures some { 1 ≤ result }
     ensures few { result ≤ MOST_HYPERPERIOD }
-    ensures limit { (system : System) (groups : List Group) → AreBeatsOf system groups beats.now → result ≡ hyper_limit system groups }
+    ensures limit { (system : System) (groups : List Group) → AreBeatsOf system groups beats.now
+        → result ≡ hyper_limit system groups }
 {
     MOST_FIRST_JOBS * beats[0].period.min(beats[beats.len() - 1].period)
 }
 
-/// The hyperperiod, if it is within a limit.
+/// Computes the hyperperiod, if it is at most `limit`.
 pub(crate) fn hyperperiod(beats: &[Beat], limit: u64) -> Option<u64>
     requires beats { AreBeats beats.now }
     requires some { 1 ≤ limit }
-    ensures { (ticks : ℕ) × IsLeastMultiple beats.now ticks × MatchOption result (limit < ticks) (λ found. (found ≡ ticks) × (ticks ≤ limit)) }
+    ensures { (ticks : ℕ) × IsLeastMultiple beats.now ticks
+        × MatchOption result (limit < ticks) (λ found. (found ≡ ticks) × (ticks ≤ limit)) }
 {
     let mut hyperperiod = 1;
     for beat in beats {
@@ -39,8 +41,8 @@ pub(crate) fn hyperperiod(beats: &[Beat], limit: u64) -> Option<u64>
     Some(hyperperiod)
 }
 
-/// Whether the hyperperiod of a chain of a valid model, given by its number, whose tasks are all timed and periodic, is
-/// within the limit on it: whether `exact` finds exact lengths.
+/// Checks whether the hyperperiod of a chain of a valid model, given by its number, whose tasks are
+/// all timed and periodic, is within the limit on it, and so whether `exact` finds exact lengths.
 ///
 /// It looks at each group of the chain once, counts no step, and takes no memory.
 pub fn is_within_limit(model: &ValidModel, chain: u32) -> bool

@@ -23,7 +23,7 @@ impl Model for JobNumbers {
 }
 
 impl JobNumbers {
-    /// The numbers of a slice, which are few enough.
+    /// Copies the numbers of a slice, at most `MOST_STEPS`.
     pub(crate) fn of(numbers: &[u64]) -> JobNumbers
         requires { length numbers.now ≤ MOST_STEPS }
         ensures { result ≡ numbers.now }
@@ -34,7 +34,7 @@ impl JobNumbers {
         JobNumbers { numbers }
     }
 
-    /// The numbers, the first group's first.
+    /// Returns the numbers, that of the first group first.
     pub fn as_slice(&self) -> &[u64]
         ensures numbers { result.now ≡ self.now }
         ensures count { length result.now ≤ MOST_STEPS }
@@ -42,7 +42,7 @@ impl JobNumbers {
         self.numbers.as_slice()
     }
 
-    /// Equal numbers.
+    /// Makes an equal copy. Takes no memory.
     pub fn copy(&self) -> JobNumbers
         ensures { result ≡ self.now }
     {

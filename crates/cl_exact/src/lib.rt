@@ -1,5 +1,5 @@
-//! The exact lengths of chains whose tasks are all timed and periodic, and of parts of such chains, with a witness of
-//! each.
+//! The exact lengths of chains whose tasks are all timed and periodic, and of parts of such chains,
+//! with a witness of each.
 //!
 //! No call takes memory. Times are in ticks.
 #![tactic(auto)]

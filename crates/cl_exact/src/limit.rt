@@ -1,9 +1,11 @@
 //! The limit on the hyperperiod of a chain. Times are in ticks.
 
-/// How often the hyperperiod of a chain may hold the lesser of its first and its last period.
+/// The greatest number of times that the hyperperiod of a chain may hold the lesser of its first
+/// and its last period.
 pub const MOST_FIRST_JOBS: u64 = 1_000_000;
 
-/// The hyperperiod of a chain exceeds this limit.
+/// The error for a chain, or a part of one, whose hyperperiod exceeds the limit. It carries the
+/// limit in ticks.
 #[derive(Clone, Copy, Debug, PartialEq, Eq)]
 pub struct HyperLimit {
     pub limit: u64,

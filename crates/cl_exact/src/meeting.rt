@@ -1,4 +1,5 @@
-//! Searches over the chains of many first jobs, which meet in the jobs of a slower group. Times are in ticks.
+//! Searches over the chains of many first jobs, which meet in the jobs of a slower group. Times are
+//! in ticks.
 ghost use Rattle.std.specs.Prelude.{◌≡◌, ℕ, ◌+◌, ◌≤◌, ◌<◌, length, MatchOption, IfSome};
 ghost use Rattle.cl_exact.specs.Inner.Beats.{AreBeats, beat_in, read_at, forward_job, reaction_of};
 ghost use Rattle.cl_exact.specs.Inner.Blocks.{EARLY, IsEarlyBlock};
@@ -8,17 +9,19 @@ use crate::beat::Beat;
 use crate::scan::{Greatest, first_in_blocks, greatest_in_blocks};
 use crate::walk::forward_jobs;
 
-/// How much slower than the first group the slowest must be for its jobs to be looked at one by one.
+/// The least ratio of a group's period to that of the first group at which the group counts as much
+/// slower and its jobs are looked at one by one.
 const MUCH_SLOWER: u64 = 16;
 
-/// The forward chain from a first job: its reaction, and the next first job that doesn't meet it in a slower group.
+/// The forward chain from a first job: its reaction, and the next first job whose chain doesn't
+/// meet it in a slower group.
 #[derive(Clone, Copy)]
 struct Chain {
     reaction: u64,
     next: u64,
 }
 
-/// The place of the slowest group.
+/// Finds the place of the slowest group.
 fn slowest(beats: &[Beat]) -> usize
     requires { AreBeats beats.now }
     ensures { result < length beats.now }
@@ -32,8 +35,8 @@ fn slowest(beats: &[Beat]) -> usize
     slowest
 }
 
-/// The last of the first jobs whose chains lead to a job of a place or to an earlier one there, for the job to which the
-/// chain of `first` leads.
+/// Finds the last of the first jobs whose chains lead to `job` of the group at `place`, or to an
+/// earlier one there. The chain of `first` leads to `job`.
 fn last_leading(beats: &[Beat], first: u64, place: usize, job: u64) -> u64
     requires beats { AreBeats beats.now }
     requires place { place < length beats.now }
@@ -53,8 +56,8 @@ fn last_leading(beats: &[Beat], first: u64, place: usize, job: u64) -> u64
     last
 }
 
-/// The chain of a first job. The first jobs after it that meet it at the place end with it and begin later, so each has
-/// a lesser reaction.
+/// Finds the chain of a first job. The chains of the first jobs after it that meet it at `place`
+/// end with it and begin later, so each has a smaller reaction.
 fn chain_of(beats: &[Beat], place: usize, first: u64) -> Chain
     requires beats { AreBeats beats.now }
     requires place { place < length beats.now }
@@ -74,8 +77,8 @@ fn chain_of(beats: &[Beat], place: usize, first: u64) -> Chain
     }
 }
 
-/// The greatest reaction of `count` first jobs from `first` on, and the first of them that has it, by the jobs of the
-/// group of a place.
+/// Finds the greatest reaction of `count` first jobs from `first` on, and the first of them that
+/// has it, by the jobs of the group at `place`.
 fn greatest_by_meetings(beats: &[Beat], place: usize, first: u64, count: u64) -> Greatest
     requires beats { AreBeats beats.now }
     requires place { place < length beats.now }
@@ -102,7 +105,8 @@ fn greatest_by_meetings(beats: &[Beat], place: usize, first: u64, count: u64) ->
     greatest
 }
 
-/// The first of `count` first jobs from `first` on that has a reaction, by the jobs of the group of a place.
+/// Finds the first of `count` first jobs from `first` on that has a reaction, by the jobs of the
+/// group at `place`.
 fn first_by_meetings(
     beats: &[Beat],
     place: usize,
@@ -130,12 +134,12 @@ fn first_by_meetings(
     None
 }
 
-/// Whether a group is much slower than another.
+/// Checks whether a group is much slower than another.
 fn is_much_slower(beat: &Beat, other: &Beat) -> bool {
     beat.period / MUCH_SLOWER >= other.period
 }
 
-/// How many groups stand before the first that is much slower than the first group.
+/// Counts the groups before the first that is much slower than the first group.
 pub(crate) fn even_count(beats: &[Beat]) -> usize
     requires { AreBeats beats.now }
     ensures { result ≤ length beats.now }
@@ -148,7 +152,7 @@ pub(crate) fn even_count(beats: &[Beat]) -> usize
     beats.len()
 }
 
-/// The place of a group that is much slower than the first, where there is one.
+/// Finds the place of the slowest group, if it is much slower than the first.
 fn much_slower(beats: &[Beat]) -> Option<usize>
     requires { AreBeats beats.now }
     ensures { IfSome result (λ place. place < length beats.now) }
@@ -161,7 +165,8 @@ fn much_slower(beats: &[Beat]) -> Option<usize>
     }
 }
 
-/// The greatest reaction of `count` first jobs from `first` on, and the first of them that has it.
+/// Finds the greatest reaction of `count` first jobs from `first` on, and the first of them that
+/// has it.
 pub(crate) fn greatest_reaction(beats: &[Beat], first: u64, count: u64) -> Greatest
     requires beats { AreBeats beats.now }
     requires some { 1 ≤ first }
@@ -174,7 +179,8 @@ pub(crate) fn greatest_reaction(beats: &[Beat], first: u64, count: u64) -> Great
     }
 }
 
-/// The first of `count` first jobs from `first` on that has a reaction, where none has a greater one.
+/// Finds the first of `count` first jobs from `first` on that has a reaction, where none has a
+/// greater one.
 pub(crate) fn first_with(beats: &[Beat], first: u64, count: u64, reaction: u64) -> Option<u64>
     requires beats { AreBeats beats.now }
     requires some { 1 ≤ first }

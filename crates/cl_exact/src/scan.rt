@@ -18,7 +18,8 @@ pub(crate) struct Greatest {
     pub(crate) job: u64,
 }
 
-/// The greatest reaction with one more block, that of the chains which `ends` and `starts` have room for.
+/// Finds the greatest reaction with one more block: that of as many chains as `ends` and `starts`
+/// have room for.
 fn with_block(
     beats: &[Beat],
     first: u64,
@@ -52,8 +53,8 @@ fn with_block(
     }
 }
 
-/// The greatest reaction of `count` first jobs from `first` on, and the first of them that has it: in blocks, whatever the
-/// periods are.
+/// Finds the greatest reaction of `count` first jobs from `first` on, and the first of them that
+/// has it: in blocks, whatever the periods are.
 pub(crate) fn greatest_in_blocks(beats: &[Beat], first: u64, count: u64) -> Greatest
     requires beats { AreBeats beats.now }
     requires some { 1 ≤ first }
@@ -82,7 +83,7 @@ pub(crate) fn greatest_in_blocks(beats: &[Beat], first: u64, count: u64) -> Grea
     greatest
 }
 
-/// The first of the first jobs of a block that has a reaction.
+/// Finds the first of the first jobs of a block that has a reaction.
 fn first_in_block(
     beats: &[Beat],
     first: u64,
@@ -105,7 +106,8 @@ fn first_in_block(
     }
 }
 
-/// The first of `count` first jobs from `first` on that has a reaction: in blocks, whatever the periods are.
+/// Finds the first of `count` first jobs from `first` on that has a reaction: in blocks, whatever
+/// the periods are.
 pub(crate) fn first_in_blocks(beats: &[Beat], first: u64, count: u64, reaction: u64) -> Option<u64>
     requires beats { AreBeats beats.now }
     requires some { 1 ≤ first }

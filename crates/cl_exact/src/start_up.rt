@@ -1,11 +1,11 @@
-//! From which jobs on all tasks of a chain have begun. Times are in ticks.
+//! The jobs from which on all tasks of a chain have begun. Times are in ticks.
 ghost use Rattle.std.specs.Prelude.{◌≡◌, ℕ, ◌-◌, length};
 ghost use Rattle.cl_exact.specs.Inner.Beats.{AreBeats, beat_in, first_reader};
 ghost use Rattle.cl_exact.specs.Inner.Walks.{start_up_of, IsLatestSecond};
 
 use crate::beat::Beat;
 
-/// The moment at which job 1 of each group has arrived.
+/// Finds the moment at which job 1 of each group has arrived, the last of them just then.
 fn latest_second(beats: &[Beat]) -> u64
     requires { AreBeats beats.now }
     ensures { IsLatestSecond beats.now result }
@@ -17,7 +17,8 @@ fn latest_second(beats: &[Beat]) -> u64
     latest
 }
 
-/// The offset, the period and the deadline of each group, one after the other.
+/// Sums the offset, the period and the deadline of each group: from this moment on no backward
+/// chain goes back to before all tasks have begun.
 fn start_up(beats: &[Beat]) -> u64
     requires { AreBeats beats.now }
     ensures { result ≡ start_up_of beats.now }
@@ -29,15 +30,16 @@ fn start_up(beats: &[Beat]) -> u64
     start_up
 }
 
-/// The first of the first jobs that read when all tasks have begun.
+/// Finds the first job of the first group that reads when all tasks have begun.
 pub(crate) fn first_steady_job(beats: &[Beat]) -> u64
     requires { AreBeats beats.now }
-    ensures { (moment : ℕ) × IsLatestSecond beats.now moment × (result ≡ first_reader (beat_in beats.now 0) moment) }
+    ensures { (moment : ℕ) × IsLatestSecond beats.now moment
+        × (result ≡ first_reader (beat_in beats.now 0) moment) }
 {
     beats[0].first_reader(latest_second(beats))
 }
 
-/// The first of the last jobs that read at or after the start-up.
+/// Finds the first job of the last group that reads at or after the start-up.
 pub(crate) fn last_steady_job(beats: &[Beat]) -> u64
     requires { AreBeats beats.now }
     ensures { result ≡ first_reader (beat_in beats.now (length beats.now - 1)) (start_up_of beats.now) }

@@ -9,7 +9,7 @@ use crate::beat::Beat;
 use crate::job_numbers::JobNumbers;
 use cl_model::MOST_STEPS;
 
-/// The jobs of the forward chain from a first job.
+/// Finds the jobs of the forward chain from a first job.
 pub(crate) fn forward_jobs(beats: &[Beat], first: u64) -> JobNumbers
     requires beats { AreBeats beats.now }
     requires early { read_at (beat_in beats.now 0) first ≤ EARLY }
@@ -23,7 +23,7 @@ pub(crate) fn forward_jobs(beats: &[Beat], first: u64) -> JobNumbers
     JobNumbers::of(&jobs[..beats.len()])
 }
 
-/// The jobs of the backward chain of a last job, which reads at or after the start-up.
+/// Finds the jobs of the backward chain of a last job, which reads at or after the start-up.
 pub(crate) fn backward_jobs(beats: &[Beat], last: u64) -> JobNumbers
     requires beats { AreBeats beats.now }
     requires late { start_up_of beats.now ≤ read_at (last_beat beats.now) last }

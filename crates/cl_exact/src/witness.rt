@@ -1,23 +1,24 @@
-//! A job chain that attains a length. Times are in ticks.
+//! A job chain that attains an exact length. Times are in ticks.
 ghost use Rattle.std.specs.Prelude.{◌≡◌};
 
 use crate::job_numbers::JobNumbers;
 
-/// A job chain of the ideal moments that attains a length.
+/// A job chain over the ideal moments that attains an exact length.
 #[derive(Debug, PartialEq, Eq, Drop)]
 pub struct Witness {
-    /// How long it lasts.
+    /// How long it lasts, in ticks.
     pub length: u64,
-    /// The read with which it begins.
+    /// The moment of the read with which it begins: for a reaction that of the job before its
+    /// first.
     pub from: u64,
-    /// The write with which it ends.
+    /// The moment of the write with which it ends: for an age that of the job after its last.
     pub to: u64,
-    /// Its jobs, one for each group of the chain.
+    /// The numbers of its jobs, one for each group of the chain, in order.
     pub jobs: JobNumbers,
 }
 
 impl Witness {
-    /// An equal witness.
+    /// Makes an equal copy. Takes no memory.
     pub fn copy(&self) -> Witness
         ensures { result ≡ self.now }
     {

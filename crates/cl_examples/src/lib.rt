@@ -1,5 +1,5 @@
-//! Worked examples: what the definitions of runs, job chains and exact lengths say of small systems. Nothing stands on
-//! them.
+//! Worked examples: what the definitions of runs, job chains, exact lengths and the steps of edits
+//! say of small systems. No other crate rests on them.
 #![tactic(auto)]
 
 pub mod laws;

@@ -7,12 +7,13 @@ use Rattle.cl_model.specs.declared.model.SystemModel.{SystemModel}
 use Rattle.cl_model.specs.Validity.{IsValid}
 use Rattle.cl_runs.specs.TaskTiming.{Timing, System, timing_at}
 use Rattle.cl_runs.specs.SystemOf.{system_of}
+use Rattle.cl_runs.specs.Priorities.{is_above}
 use Rattle.cl_runs.proofs.ModelSystem.{count_is, system_sound}
 use Rattle.cl_stim.specs.AnyStimulus.{kind_of}
 use Rattle.cl_stim.specs.Releases.{most_releases}
 use Rattle.cl_resp.specs.declared.question.Above.{Above}
 use Rattle.cl_resp.specs.declared.question.Question.{Question}
-use Rattle.cl_resp.specs.Question.{greatest_execution, is_above, taken_by, question_of}
+use Rattle.cl_resp.specs.Question.{greatest_execution, taken_by, question_of}
 use Rattle.cl_resp.specs.Response.{Response, demand}
 use Rattle.cl_resp.proofs.SettledTasks.{tasks_take_time}
 use Rattle.cl_resp.proofs.StimulusKinds.{kind_of-as_stimulus}

@@ -12,7 +12,7 @@ use Rattle.cl_model.specs.declared.task.RunnableDef.{RunnableDef}
 use Rattle.cl_model.specs.ByNumber.{task_at, no_runnable}
 use Rattle.cl_runs.specs.TaskTiming.{timing_at}
 use Rattle.cl_runs.specs.SystemOf.{system_of}
-use Rattle.cl_resp.specs.Question.{may_block}
+use Rattle.cl_runs.specs.Priorities.{may_block}
 use Rattle.cl_explain.specs.Parts.{blocks_so_long, runnables_of_blocker, blocker_name, blocker_of}
 use Rattle.cl_explain.proofs.FoundInLists.{first_at, found_first, none_at, none_found}
 

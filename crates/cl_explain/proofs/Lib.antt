@@ -10,3 +10,4 @@ pub mod AddedUp
 pub mod LongestWalk
 pub mod LateChains
 pub mod WalksWithin
+pub mod SafelyExplained

@@ -8,10 +8,11 @@ use Rattle.cl_model.specs.declared.stimulus.StimulusKind.{StimulusKind}
 use Rattle.cl_model.specs.ByNumber.{task_at, core_of, stimulus_of, time_of}
 use Rattle.cl_runs.specs.TaskTiming.{Timing, timing_at}
 use Rattle.cl_runs.specs.SystemOf.{timing_of, system_of}
+use Rattle.cl_runs.specs.Priorities.{is_above, may_block}
 use Rattle.cl_runs.proofs.ModelSystem.{timing_is}
 use Rattle.cl_stim.specs.AnyStimulus.{kind_of, as_stimulus}
 use Rattle.cl_stim.specs.Releases.{most_releases}
-use Rattle.cl_resp.specs.Question.{greatest_execution, is_above, may_block}
+use Rattle.cl_resp.specs.Question.{greatest_execution}
 use Rattle.cl_resp.proofs.Questions.{time_is}
 use Rattle.cl_resp.proofs.StimulusKinds.{kind_of-as_stimulus}
 use Rattle.cl_explain.specs.Parts.{jobs_above, time_above, taken_part, above_part}

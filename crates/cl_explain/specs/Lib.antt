@@ -1,6 +1,6 @@
 pub mod Loads
 pub mod Parts
 pub mod Explanation
-pub mod Promises
 pub mod Accepted
+pub mod Promises
 pub mod Inner

@@ -8,9 +8,10 @@ use Rattle.cl_model.specs.Holds.{runnable_hold}
 use Rattle.cl_model.specs.ByNumber.{task_at}
 use Rattle.cl_runs.specs.TaskTiming.{Timing, timing_at}
 use Rattle.cl_runs.specs.SystemOf.{system_of}
+use Rattle.cl_runs.specs.Priorities.{is_above, may_block}
 use Rattle.cl_stim.specs.Releases.{most_releases}
 use Rattle.cl_resp.specs.declared.question.Question.{Question}
-use Rattle.cl_resp.specs.Question.{greatest_execution, is_above, may_block, question_of}
+use Rattle.cl_resp.specs.Question.{greatest_execution, question_of}
 use Rattle.cl_resp.specs.Response.{demand}
 use Rattle.cl_bound.specs.declared.answer.TaskAnswer.{TaskAnswer}
 use Rattle.cl_bound.specs.declared.answer.TaskAnswer.TheVariants.{Settled, Late}

@@ -1,16 +1,30 @@
--- What the numbers of an explanation add up to. Times are in ticks.
-use Rattle.std.specs.Prelude.{◌≡◌, ℕ, ◌+◌, ◌-◌, ◌<◌, ◌≤◌, ℤ, pos, ◌+ℤ◌, ◌-ℤ◌, List, length, filter, sum_by, slice_index_or}
+-- What an explanation promises: its numbers hold in every legal run, and add up. Times are in ticks.
+use Rattle.std.specs.Prelude.{◌≡◌, ℕ, ◌+◌, ◌-◌, ◌<◌, ◌≤◌, true, false, ℤ, pos, ◌+ℤ◌, ◌-ℤ◌, List, ◌∷◌, length, filter, sum_by, slice_index_or}
 use Rattle.cl_model.specs.declared.group.Group.{Group}
+use Rattle.cl_model.specs.declared.model.SystemModel.{SystemModel}
+use Rattle.cl_model.specs.ByNumber.{chain_at}
+use Rattle.cl_model.specs.Groups.{groups_at}
+use Rattle.cl_runs.specs.SystemOf.{system_of}
+use Rattle.cl_runs.specs.Responses.{AlwaysFinishesWithin}
 use Rattle.cl_runs.specs.TaskTiming.{System, timing_at}
-use Rattle.cl_resp.specs.Question.{is_above, question_of}
-use Rattle.cl_resp.specs.Response.{Response}
-use Rattle.cl_bound.specs.Bounds.{Lengths, last_of}
+use Rattle.cl_runs.specs.Priorities.{is_above}
+use Rattle.cl_resp.specs.Question.{question_of, tight_question_of}
+use Rattle.cl_resp.specs.Response.{Response, HasNoFixpoint}
+use Rattle.cl_bound.specs.declared.answer.TaskAnswer.TheVariants as answer
+use Rattle.cl_bound.specs.Answers.{answers_of, answer_at, is_late}
+use Rattle.cl_bound.specs.Bounds.{Lengths, last_of, settled_timings}
+use Rattle.cl_bound.specs.Promises.{AreSafe}
 use Rattle.cl_bound.specs.Hops.{forward_hop, backward_hop, hops}
 use Rattle.cl_bound.specs.declared.group_timing.GroupTiming.{GroupTiming}
-use Rattle.cl_phase.specs.TightAnswers.{tight_response}
+use Rattle.cl_phase.specs.TightAnswers.{tight_answers_of, tight_response}
 use Rattle.cl_phase.specs.TightBounds.{span_of}
 use Rattle.cl_phase.specs.Walked.{walked_of}
-use Rattle.cl_explain.specs.Parts.{time_above}
+use Rattle.cl_analyse.specs.declared.findings.ChainAnswer.TheVariants.{Bounds}
+use Rattle.cl_analyse.specs.ChainAnswers.{chain_answer_of}
+use Rattle.cl_tight.specs.TightFindings.{tight_chain_answer_of}
+use Rattle.cl_explain.specs.Accepted.{accepted_text}
+use Rattle.cl_explain.specs.Explanation.{explanation}
+use Rattle.cl_explain.specs.Parts.{time_above, time_over}
 
 -- the sum of the parts of a task over a window
 abbrev pub sum_of_parts : System → (task width : ℕ) → ℕ
@@ -47,3 +61,42 @@ abbrev pub ShowsItsWalk : System → (groups : List Group) → (reaction : ℕ) 
 ShowsItsWalk system groups reaction =
     let walk = walked_of system groups reaction in
     1 ≤ reaction → LastsAsLong walk.missed walk.taken (span_of system (tight_response system) groups) reaction
+
+-- ---- all of it
+
+-- What an explanation shows of a model is safe. In every legal run, of any length, each job of a settled task finishes
+-- within its response, and each bound, plain or tight, is at least the length of every complete chain of its kind. The
+-- parts of a task add up to its response, or past its deadline; those of a chain to its bounds; and the walk that is shown
+-- lasts as long as the tight reaction.
+pub record IsSafelyExplained (model : SystemModel) : Type 0 where
+  pub responses : (task : ℕ) (response : Response) → task < length model.tasks
+      → answer_at (answers_of (system_of model)) task ≡ answer.Settled response
+      → AlwaysFinishesWithin (system_of model) task response.response × AddUpToResponse (system_of model) task response
+  pub late : (task : ℕ) → task < length model.tasks → answer_at (answers_of (system_of model)) task ≡ answer.Late
+      → AddUpPastDeadline (system_of model) task (time_over (question_of (system_of model) (timing_at (system_of model) task)))
+  pub bounds : (chain : ℕ) (bounds : Lengths) → chain < length model.chains
+      → chain_answer_of model (chain_at model chain) ≡ Bounds bounds → AreSafe (system_of model) (groups_at model chain) bounds
+  pub sums : (chain : ℕ) (bounds : Lengths) → chain < length model.chains → chain_answer_of model (chain_at model chain) ≡ Bounds bounds
+      → (first : GroupTiming) (later : List GroupTiming) → settled_timings (system_of model) (groups_at model chain) ≡ first ∷ later
+      → AddUpToBounds first later bounds
+  pub tight : (chain : ℕ) (bounds : Lengths) → chain < length model.chains
+      → tight_chain_answer_of model (chain_at model chain) ≡ Bounds bounds
+      → AreSafe (system_of model) (groups_at model chain) bounds × ShowsItsWalk (system_of model) (groups_at model chain) bounds.reaction
+
+-- the text explains the model, and what it shows is safe
+pub record IsSafeExplanation (model : SystemModel) (text : List ℕ) : Type 0 where
+  pub printed : text ≡ explanation model
+  pub safe : IsSafelyExplained model
+
+-- What is known of an accepted model's tasks: one that is called late has no response within its deadline by its tight
+-- question, and each other always finishes within its deadline.
+pub record AreRightlyLate (model : SystemModel) : Type 0 where
+  pub late : (task : ℕ) → task < length model.tasks → is_late (answer_at (tight_answers_of (system_of model)) task) ≡ true
+      → HasNoFixpoint (tight_question_of (system_of model) (timing_at (system_of model) task))
+  pub timely : (task : ℕ) → task < length model.tasks → is_late (answer_at (tight_answers_of (system_of model)) task) ≡ false
+      → AlwaysFinishesWithin (system_of model) task (timing_at (system_of model) task).deadline
+
+-- the text is what to know of the accepted model, and it calls those tasks late that it should
+pub record IsSafeAcceptance (model : SystemModel) (text : List ℕ) : Type 0 where
+  pub printed : text ≡ accepted_text model
+  pub late : AreRightlyLate model

@@ -1,4 +1,4 @@
-//! What an engineer should know of a model that is accepted.
+//! What an engineer should know of an accepted model.
 ghost use Rattle.std.specs.Prelude.{◌≡◌, ◌+◌, ◌<◌, ◌≤◌, ◌++◌, nat_lt, length, filter, position, OnOk, IfOk};
 ghost use Rattle.std.specs.List.{flat_map, range_with_len};
 ghost use Rattle.cl_model.specs.Validity.{IsValid};
@@ -19,12 +19,14 @@ use cl_time::{NoMemory, Steps};
 use std::alloc::Global;
 use std::sync::ledger::Ledger;
 
-/// What an engineer should know of a model that is accepted: the labels that are only read, those that are only written
-/// and those that are neither; the cores whose tasks take more than all of their time; the tasks that are late by tight
-/// responses; and the tasks of one sporadic stimulus, whose jobs don't arrive together.
+/// Builds the text on an accepted model: a title, and the line `accepted`; the labels that are only
+/// read, those that are only written, and those that are neither; the cores whose tasks take more
+/// than all of their time, even with each task's load rounded down; the tasks that are late by
+/// tight responses; and, for each sporadic stimulus, its first task paired with each of its other
+/// tasks, since the jobs of the two don't arrive together. Each kind of line is in file order.
 ///
-/// It counts at most a step for each task. `NoMemory` comes where there is no memory for the names, the text or a
-/// question; it leaves nothing.
+/// It counts at most a step for each task. `NoMemory` comes where there is no memory for the names,
+/// the text or a question; it leaves nothing.
 pub fn accepted<L: Ledger>(
     alloc: Global,
     model: &ValidModel,
@@ -42,7 +44,8 @@ pub fn accepted<L: Ledger>(
     Ok(text)
 }
 
-/// Puts the lines of labels, by how they are used.
+/// Puts the lines of the labels that are only read, then of those that are only written, then of
+/// those that are neither.
 fn put_all_labels(alloc: Global, text: &mut Text, model: &ValidModel) -> Result<(), NoMemory>
     ensures { OnOk result (text.new ≡ text.old ++ all_label_lines model.now) }
 {
@@ -52,9 +55,10 @@ fn put_all_labels(alloc: Global, text: &mut Text, model: &ValidModel) -> Result<
     put_labels(text, model, &marks, LabelUse::Unused)
 }
 
-/// Puts the lines of the cores that are overloaded.
+/// Puts the lines of the overloaded cores in file order.
 fn put_overloaded(text: &mut Text, model: &ValidModel) -> Result<(), NoMemory>
-    ensures { OnOk result (text.new ≡ text.old ++ flat_map (overloaded_line model.now) (range_with_len 0 (length model.now.cores))) }
+    ensures { OnOk result
+        (text.new ≡ text.old ++ flat_map (overloaded_line model.now) (range_with_len 0 (length model.now.cores))) }
 {
     for core in 0..model.cores() {
         put_if_overloaded(text, model, core)?;
@@ -62,7 +66,8 @@ fn put_overloaded(text: &mut Text, model: &ValidModel) -> Result<(), NoMemory>
     Ok(())
 }
 
-/// Whether the tasks of a core take more than all of its time.
+/// Checks whether the tasks of a core take more than all of its time, with each task's load rounded
+/// down.
 fn is_overloaded(model: &ValidModel, core: u32) -> bool
     requires valid { IsValid model.now }
     requires core { core < length model.now.cores }
@@ -72,7 +77,7 @@ fn is_overloaded(model: &ValidModel, core: u32) -> bool
     load_of_core(model, core, round_up) > MILLION
 }
 
-/// Puts the line of a core, if its tasks take more than all of its time.
+/// Puts the line of a core if it is overloaded.
 fn put_if_overloaded(text: &mut Text, model: &ValidModel, core: u32) -> Result<(), NoMemory>
     requires valid { IsValid model.now }
     requires core { core < length model.now.cores }
@@ -85,14 +90,16 @@ fn put_if_overloaded(text: &mut Text, model: &ValidModel, core: u32) -> Result<(
     }
 }
 
-/// Puts the lines of the tasks that are late by tight responses.
+/// Puts the lines of the tasks that are late by tight responses, in file order. Counts at most a
+/// step for each task.
 fn put_late<L: Ledger>(
     alloc: Global,
     text: &mut Text,
     model: &ValidModel,
     steps: &mut Steps<L>,
 ) -> Result<(), NoMemory>
-    ensures text { OnOk result (text.new ≡ text.old ++ flat_map (late_task_line model.now) (range_with_len 0 (length model.now.tasks))) }
+    ensures text { OnOk result
+        (text.new ≡ text.old ++ flat_map (late_task_line model.now) (range_with_len 0 (length model.now.tasks))) }
     ensures steps { steps.new ≤ steps.old + length model.now.tasks }
 {
     for task in 0..model.tasks() {
@@ -101,7 +108,7 @@ fn put_late<L: Ledger>(
     Ok(())
 }
 
-/// Whether a task is late by its tight response.
+/// Checks whether a task is late by its tight response. Counts at most one step.
 fn is_late<L: Ledger>(
     alloc: Global,
     model: &ValidModel,
@@ -109,14 +116,15 @@ fn is_late<L: Ledger>(
     steps: &mut Steps<L>,
 ) -> Result<bool, NoMemory>
     requires { task < length model.now.tasks }
-    ensures late { IfOk result (λ late. late ≡ is_late (answer_at (tight_answers_of (system_of model.now)) task)) }
+    ensures late { IfOk result
+        (λ late. late ≡ is_late (answer_at (tight_answers_of (system_of model.now)) task)) }
     ensures steps { steps.new ≤ steps.old + 1 }
 {
     let question = ask_tight(alloc, model, task)?;
     Ok(answer_question(&question, steps).is_late())
 }
 
-/// Puts the line of a task, if it is late by its tight response.
+/// Puts the line of a task if it is late by its tight response. Counts at most one step.
 fn put_if_late<L: Ledger>(
     alloc: Global,
     text: &mut Text,
@@ -135,9 +143,10 @@ fn put_if_late<L: Ledger>(
     }
 }
 
-/// Puts the lines of the tasks whose jobs don't arrive together, though they name one stimulus.
+/// Puts the lines of the tasks that name one sporadic stimulus, whose jobs don't arrive together.
 fn put_apart(text: &mut Text, model: &ValidModel) -> Result<(), NoMemory>
-    ensures { OnOk result (text.new ≡ text.old ++ flat_map (apart_lines model.now) model.now.stimuli) }
+    ensures { OnOk result
+        (text.new ≡ text.old ++ flat_map (apart_lines model.now) model.now.stimuli) }
 {
     for stimulus in model.plain().stimuli.as_slice() {
         if matches!(stimulus.kind, StimulusKind::Sporadic { .. }) {
@@ -147,23 +156,24 @@ fn put_apart(text: &mut Text, model: &ValidModel) -> Result<(), NoMemory>
     Ok(())
 }
 
-/// Whether a task names a stimulus.
+/// Checks whether a task names a stimulus.
 fn names(task: &TaskDef, stimulus: &StimulusDef) -> bool
     ensures { result ≡ names_stimulus stimulus.now task.now }
 {
     task.stimulus == stimulus.name
 }
 
-/// The place of the first task that names a stimulus.
+/// Finds the place of the first task that names a stimulus.
 fn first_of(tasks: &[TaskDef], stimulus: &StimulusDef) -> Option<usize>
     ensures { result ≡ position (names_stimulus stimulus.now) tasks.now }
 {
     tasks.iter().position(|task| names(task, stimulus))
 }
 
-/// Puts a line for each task but the first that names a stimulus.
+/// Puts a line for each task that names a stimulus, except the first such task.
 fn put_apart_of(text: &mut Text, tasks: &[TaskDef], stimulus: &StimulusDef) -> Result<(), NoMemory>
-    ensures { OnOk result (text.new ≡ text.old ++ apart_from stimulus.now (filter (names_stimulus stimulus.now) tasks.now)) }
+    ensures { OnOk result
+        (text.new ≡ text.old ++ apart_from stimulus.now (filter (names_stimulus stimulus.now) tasks.now)) }
 {
     match first_of(tasks, stimulus) {
         Some(first) => put_others(text, &tasks[first + 1..], stimulus, &tasks[first]),
@@ -171,7 +181,7 @@ fn put_apart_of(text: &mut Text, tasks: &[TaskDef], stimulus: &StimulusDef) -> R
     }
 }
 
-/// Puts a line for each of these tasks that names a stimulus as the first one does.
+/// Puts a line for each of these tasks that names a stimulus, with the first task that names it.
 fn put_others(
     text: &mut Text,
     tasks: &[TaskDef],
@@ -189,7 +199,7 @@ fn put_others(
     Ok(())
 }
 
-/// Puts the line of two tasks that name a stimulus.
+/// Puts the line of two tasks that name one stimulus.
 fn put_pair(
     text: &mut Text,
     stimulus: &StimulusDef,

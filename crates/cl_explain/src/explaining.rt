@@ -24,12 +24,16 @@ use cl_time::{NoMemory, Steps};
 use std::alloc::Global;
 use std::sync::ledger::Ledger;
 
-/// The explanation of a model: the load of each core; the line of each task, and what its response is the sum of; the
-/// line of each chain, its groups and hops, which its bounds are the sum of, and its tight bounds with the arrivals of a
-/// walk that lasts as long. Each in file order.
+/// Builds the explanation of a model: a title; the load of each core; the line of each task,
+/// followed by the parts that add up to its response or, where it is late, that exceed its
+/// deadline; and the line of each chain, followed by the groups and hops that add up to its bounds,
+/// and by its tight bounds with the arrivals of a walk that lasts as long as the one on its
+/// reaction. A chain with a late task has no lines of groups and hops, and one with a task that is
+/// late by tight responses no lines of tight bounds. Cores, tasks and chains are each in file
+/// order.
 ///
-/// It counts at most a step for each task and one for each chain. `NoMemory` comes where there is no memory for the
-/// answers, the text or a question; it leaves nothing.
+/// It counts at most a step for each task and one for each chain. `NoMemory` comes where there is
+/// no memory for the answers, the text or a question; it leaves nothing.
 pub fn explain<L: Ledger>(
     alloc: Global,
     model: &ValidModel,
@@ -47,9 +51,10 @@ pub fn explain<L: Ledger>(
     Ok(text)
 }
 
-/// Puts the lines of all cores.
+/// Puts the lines of all cores in file order.
 fn put_cores(text: &mut Text, model: &ValidModel) -> Result<(), NoMemory>
-    ensures { OnOk result (text.new ≡ text.old ++ flat_map (core_line model.now) (range_with_len 0 (length model.now.cores))) }
+    ensures { OnOk result
+        (text.new ≡ text.old ++ flat_map (core_line model.now) (range_with_len 0 (length model.now.cores))) }
 {
     for core in 0..model.cores() {
         put_core(text, model, core)?;
@@ -57,7 +62,7 @@ fn put_cores(text: &mut Text, model: &ValidModel) -> Result<(), NoMemory>
     Ok(())
 }
 
-/// Puts the line of a core.
+/// Puts the line of a core: its load, with each task's load rounded up.
 fn put_core(text: &mut Text, model: &ValidModel, core: u32) -> Result<(), NoMemory>
     requires valid { IsValid model.now }
     requires core { core < length model.now.cores }
@@ -73,7 +78,8 @@ fn put_core(text: &mut Text, model: &ValidModel, core: u32) -> Result<(), NoMemo
     text.put(b"\n")
 }
 
-/// Puts the lines of all tasks, and answers what is found of them.
+/// Puts the lines of all tasks and returns the answers for them, both in file order. Counts at most
+/// a step for each task.
 fn put_tasks<L: Ledger>(
     alloc: Global,
     text: &mut Text,
@@ -81,7 +87,8 @@ fn put_tasks<L: Ledger>(
     steps: &mut Steps<L>,
 ) -> Result<List<TaskAnswer>, NoMemory>
     ensures answers { IfOk result (λ answers. answers ≡ answers_of (system_of model.now)) }
-    ensures text { OnOk result (text.new ≡ text.old ++ flat_map (task_lines_of model.now) (range_with_len 0 (length model.now.tasks))) }
+    ensures text { OnOk result
+        (text.new ≡ text.old ++ flat_map (task_lines_of model.now) (range_with_len 0 (length model.now.tasks))) }
     ensures steps { steps.new ≤ steps.old + length model.now.tasks }
 {
     let mut answers = List::new(alloc);
@@ -91,7 +98,7 @@ fn put_tasks<L: Ledger>(
     Ok(answers)
 }
 
-/// Puts the lines of a task, and answers what is found of it.
+/// Puts the lines of a task and returns the answer for it. Counts at most one step.
 fn put_task_parts<L: Ledger>(
     alloc: Global,
     text: &mut Text,
@@ -100,7 +107,8 @@ fn put_task_parts<L: Ledger>(
     steps: &mut Steps<L>,
 ) -> Result<TaskAnswer, NoMemory>
     requires { task < length model.now.tasks }
-    ensures answer { IfOk result (λ answer. answer ≡ answer_at (answers_of (system_of model.now)) task) }
+    ensures answer { IfOk result
+        (λ answer. answer ≡ answer_at (answers_of (system_of model.now)) task) }
     ensures text { OnOk result (text.new ≡ text.old ++ task_lines_of model.now task) }
     ensures steps { steps.new ≤ steps.old + 1 }
 {
@@ -111,7 +119,7 @@ fn put_task_parts<L: Ledger>(
     Ok(answer)
 }
 
-/// The answers to the tight questions of all tasks. It counts no step.
+/// Answers the tight questions of all tasks, in file order. Counts no step.
 fn tight_answers(alloc: Global, model: &ValidModel) -> Result<List<TaskAnswer>, NoMemory>
     ensures { IfOk result (λ answers. answers ≡ tight_answers_of (system_of model.now)) }
 {
@@ -122,10 +130,11 @@ fn tight_answers(alloc: Global, model: &ValidModel) -> Result<List<TaskAnswer>, 
     Ok(answers)
 }
 
-/// The answer to the tight question of a task.
+/// Answers the tight question of a task. Counts no step.
 fn tight_answer(alloc: Global, model: &ValidModel, task: u32) -> Result<TaskAnswer, NoMemory>
     requires { task < length model.now.tasks }
-    ensures { IfOk result (λ answer. answer ≡ answer_at (tight_answers_of (system_of model.now)) task) }
+    ensures { IfOk result
+        (λ answer. answer ≡ answer_at (tight_answers_of (system_of model.now)) task) }
 {
     let question = ask_tight(alloc, model, task)?;
     match settle(&question) {
@@ -134,7 +143,7 @@ fn tight_answer(alloc: Global, model: &ValidModel, task: u32) -> Result<TaskAnsw
     }
 }
 
-/// Puts the lines of all chains.
+/// Puts the lines of all chains in file order. Counts at most a step for each chain.
 fn put_chains<L: Ledger>(
     alloc: Global,
     text: &mut Text,
@@ -145,7 +154,8 @@ fn put_chains<L: Ledger>(
 ) -> Result<(), NoMemory>
     requires answers { settled.now ≡ answers_of (system_of model.now) }
     requires tight { tight.now ≡ tight_answers_of (system_of model.now) }
-    ensures text { OnOk result (text.new ≡ text.old ++ flat_map (chain_lines_of model.now) (range_with_len 0 (length model.now.chains))) }
+    ensures text { OnOk result
+        (text.new ≡ text.old ++ flat_map (chain_lines_of model.now) (range_with_len 0 (length model.now.chains))) }
     ensures steps { steps.new ≤ steps.old + length model.now.chains }
 {
     for chain in 0..model.chains() {
@@ -155,7 +165,8 @@ fn put_chains<L: Ledger>(
     Ok(())
 }
 
-/// Puts the line of a chain, and those of its groups and hops.
+/// Puts the line of a chain and, if it has bounds, those of its groups and hops. Counts at most one
+/// step.
 fn put_chain_lines<L: Ledger>(
     text: &mut Text,
     model: &ValidModel,

@@ -12,7 +12,7 @@ use cl_report::{put_chain_name, put_task_name};
 use cl_text::Text;
 use cl_time::NoMemory;
 
-/// What the bounds know of the group at a place of a chain none of whose tasks is late.
+/// Returns what the bounds know of the group at a place of a chain none of whose tasks is late.
 fn timing_at(model: &ValidModel, chain: u32, place: u32, settled: &List<TaskAnswer>) -> GroupTiming
     requires chain { chain < length model.now.chains }
     requires place { place < length (groups_at model.now chain) }
@@ -37,7 +37,8 @@ pub(crate) fn put_task_of_group(
     put_task_name(text, model, model.group(chain, place).task)
 }
 
-/// Puts the line of the group at a place of a chain.
+/// Puts the line of the group at a place of a chain: its greatest distance between arrivals, its
+/// earliest read and its latest write.
 fn put_group(
     text: &mut Text,
     model: &ValidModel,
@@ -65,7 +66,8 @@ fn put_group(
     text.put(b"\n")
 }
 
-/// How the hop from the group of a place to the next is bounded, as a word.
+/// Returns the word for how a hop is bounded: `same` where both groups are of one task, `saves`
+/// where the hop saves the writer's time, and else `plain`.
 fn hop_word(writer: &GroupTiming, reader: &GroupTiming) -> &'static [u8]
     ensures { result.now ≡ hop_word writer.now reader.now }
 {
@@ -78,7 +80,7 @@ fn hop_word(writer: &GroupTiming, reader: &GroupTiming) -> &'static [u8]
     }
 }
 
-/// Puts what the line of a hop says of it.
+/// Puts the word of a hop, and the hop in the forward and in the backward direction, in ticks.
 fn put_hop_bounds(
     text: &mut Text,
     writer: &GroupTiming,
@@ -122,7 +124,8 @@ fn put_hop(
     text.put(b"\n")
 }
 
-/// Puts the lines of the groups of a chain none of whose tasks is late, with those of the hops between them.
+/// Puts the lines of the groups of a chain none of whose tasks is late, in order, with those of the
+/// hops between them.
 pub(crate) fn put_groups(
     text: &mut Text,
     model: &ValidModel,

@@ -1,4 +1,4 @@
-//! Labels that are read, and those that are written.
+//! Which labels are read, and which are written.
 ghost use Rattle.std.specs.Prelude.{◌≡◌, ◌<◌, ◌++◌, ◌||◌, ℕ, List, length, OnOk, IfOk};
 ghost use Rattle.cl_text.specs.Line.{line};
 ghost use Rattle.cl_model.specs.declared.task.RunnableDef.{RunnableDef};
@@ -12,19 +12,19 @@ use cl_text::Text;
 use cl_time::NoMemory;
 use std::alloc::Global;
 
-/// How a label is used that an engineer should know of.
+/// A use of a label that an engineer should know of.
 #[derive(Clone, Copy, Debug, PartialEq, Eq)]
 pub enum LabelUse {
-    /// It is read, and no runnable writes it.
+    /// Some runnable reads it, and none writes it.
     Input,
-    /// It is written, and no runnable reads it.
+    /// Some runnable writes it, and none reads it.
     Output,
     /// No runnable reads or writes it.
     Unused,
 }
 
 impl LabelUse {
-    /// The word of a line.
+    /// Returns the word with which the line of a label of this use begins, and the space after it.
     fn word(self) -> &'static [u8]
         ensures { result.now ≡ use_word self }
     {
@@ -35,7 +35,7 @@ impl LabelUse {
         }
     }
 
-    /// Whether a label that is read or isn't, and is written or isn't, is used so.
+    /// Checks whether a label has this use, by whether it is read and whether it is written.
     fn is_used_so(self, read: bool, written: bool) -> bool
         ensures { result ≡ is_used_so self read written }
     {
@@ -47,7 +47,7 @@ impl LabelUse {
     }
 }
 
-/// The labels that some runnables read, and those that they write.
+/// The names of the labels that some runnables read, and of those that they write.
 #[derive(Drop)]
 pub(crate) struct Marks {
     reads: NameSet,
@@ -56,7 +56,9 @@ pub(crate) struct Marks {
 
 /// Adds names to a set.
 fn add_all(set: &mut NameSet, names: &[Name]) -> Result<(), NoMemory>
-    ensures { OnOk result ((name : List ℕ) → has_name name set.new ≡ (has_name name set.old || has_name name names.now)) }
+    ensures { OnOk result
+        ((name : List ℕ) → has_name name set.new
+        ≡ (has_name name set.old || has_name name names.now)) }
 {
     for name in names {
         set.add(name)?;
@@ -65,7 +67,8 @@ fn add_all(set: &mut NameSet, names: &[Name]) -> Result<(), NoMemory>
 }
 
 impl Marks {
-    /// Those of the runnables of a model.
+    /// Collects the names of the labels that the runnables of a model read, and of those that they
+    /// write.
     pub(crate) fn of(alloc: Global, model: &ValidModel) -> Result<Marks, NoMemory>
         ensures { IfOk result (AreMarksOf (all_runnables model.now.tasks)) }
     {
@@ -79,9 +82,11 @@ impl Marks {
         Ok(marks)
     }
 
-    /// Adds those of the runnables of a task.
+    /// Adds the labels of the runnables of a task.
     fn add_task(&mut self, task: &TaskDef) -> Result<(), NoMemory>
-        ensures { OnOk result ((before : List RunnableDef) → AreMarksOf before self.old → AreMarksOf (before ++ task.now.runnables) self.new) }
+        ensures { OnOk result
+            ((before : List RunnableDef) → AreMarksOf before self.old
+            → AreMarksOf (before ++ task.now.runnables) self.new) }
     {
         for runnable in task.runnables.as_slice() {
             self.add_runnable(runnable)?;
@@ -89,7 +94,7 @@ impl Marks {
         Ok(())
     }
 
-    /// Adds those of a runnable.
+    /// Adds the labels that a runnable reads, and those that it writes.
     fn add_runnable(&mut self, runnable: &RunnableDef) -> Result<(), NoMemory>
         ensures { OnOk result (MarksMore self.old self.new runnable.now) }
     {
@@ -98,7 +103,8 @@ impl Marks {
     }
 }
 
-/// Puts the lines of the labels that are used so. The marks are those of the model.
+/// Puts the lines of the labels that have this use, in file order. The marks are those of the
+/// model.
 pub(crate) fn put_labels(
     text: &mut Text,
     model: &ValidModel,
@@ -114,7 +120,7 @@ pub(crate) fn put_labels(
     Ok(())
 }
 
-/// Puts the line of a label, if it is used so.
+/// Puts the line of a label if it has this use.
 fn put_label(
     text: &mut Text,
     model: &ValidModel,
@@ -134,7 +140,7 @@ fn put_label(
     }
 }
 
-/// Puts the line of a word and a name.
+/// Puts a line that consists of a word and a name.
 pub(crate) fn put_named(text: &mut Text, word: &[u8], name: &Name) -> Result<(), NoMemory>
     ensures { OnOk result (text.new ≡ text.old ++ line (word.now ++ name.now)) }
 {

@@ -1,5 +1,5 @@
-//! Why the responses and the bounds of a model are what they are, and what an engineer should know of one that is
-//! accepted.
+//! Why the responses and the bounds of a model are what they are, and what an engineer should know
+//! of an accepted model.
 //!
 //! Times are in ticks.
 #![tactic(auto)]

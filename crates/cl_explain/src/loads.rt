@@ -1,4 +1,4 @@
-//! How much of a core its tasks take, in millionths of time.
+//! How much of the time of a core its tasks take, in millionths.
 ghost use Rattle.std.specs.Prelude.{◌≡◌, ◌<◌, ◌≤◌, ◌*◌, ◌^◌, cond, length};
 ghost use Rattle.cl_model.specs.ByNumber.{task_at};
 ghost use Rattle.cl_model.specs.Validity.{IsValid};
@@ -10,7 +10,7 @@ use cl_model::{StimulusKind, ValidModel};
 /// All of the time of a core, in millionths.
 pub(crate) const MILLION: u128 = 1_000_000;
 
-/// How many jobs of a stimulus come in its round at most.
+/// Returns the greatest number of jobs of a stimulus in one of its rounds.
 fn jobs_of_round(kind: StimulusKind) -> u64
     ensures { result ≡ jobs_of_round kind }
 {
@@ -20,7 +20,8 @@ fn jobs_of_round(kind: StimulusKind) -> u64
     }
 }
 
-/// How long the round of a stimulus is.
+/// Returns the length of a round of a stimulus: its period or, where it is sporadic, its least
+/// distance between arrivals.
 fn ticks_of_round(kind: StimulusKind) -> u64
     ensures { result ≡ ticks_of_round kind }
 {
@@ -30,7 +31,8 @@ fn ticks_of_round(kind: StimulusKind) -> u64
     }
 }
 
-/// The millionths of time that the greatest times of a task take, not yet divided by its round.
+/// Returns the load of a task at its greatest execution time, in millionths of time, not yet
+/// divided by the ticks of a round.
 fn load_of_round(model: &ValidModel, task: u32) -> u128
     requires valid { IsValid model.now }
     requires task { task < length model.now.tasks }
@@ -41,7 +43,8 @@ fn load_of_round(model: &ValidModel, task: u32) -> u128
     u128::from(jobs) * u128::from(model.time_of(task)) * MILLION
 }
 
-/// The millionths of time that the greatest times of a task take, rounded up or down.
+/// Returns the load of a task at its greatest execution time, in millionths of time, rounded up or
+/// down.
 fn load_of_task(model: &ValidModel, task: u32, up: bool) -> u128
     requires valid { IsValid model.now }
     requires task { task < length model.now.tasks }
@@ -58,7 +61,8 @@ fn load_of_task(model: &ValidModel, task: u32, up: bool) -> u128
     }
 }
 
-/// The millionths of time of a core that its tasks take, each task's rounded up or each rounded down.
+/// Adds up the loads of the tasks of a core, in millionths of its time, with each task's load
+/// rounded up or each rounded down.
 pub(crate) fn load_of_core(model: &ValidModel, core: u32, up: bool) -> u128
     requires valid { IsValid model.now }
     requires core { core < length model.now.cores }

@@ -1,4 +1,4 @@
-//! Numbers that may pass 64 bits, as decimals.
+//! Numbers that may exceed 64 bits, as decimals.
 ghost use Rattle.std.specs.Prelude.{◌≡◌, ◌++◌, OnOk, decimal};
 ghost use Rattle.std.specs.Fmt.{signed_decimal};
 
@@ -6,7 +6,7 @@ use cl_text::Text;
 use cl_time::NoMemory;
 use itoa::Buffer;
 
-/// Puts a number behind a text.
+/// Appends a number to a text, in decimal.
 pub(crate) fn put_wide(text: &mut Text, number: u128) -> Result<(), NoMemory>
     ensures { OnOk result (text.new ≡ text.old ++ decimal number) }
 {
@@ -14,7 +14,7 @@ pub(crate) fn put_wide(text: &mut Text, number: u128) -> Result<(), NoMemory>
     text.put(buffer.format(number).as_bytes())
 }
 
-/// Puts a signed number behind a text, with a minus sign where it is below 0.
+/// Appends a signed number to a text, in decimal, with a minus sign where it is negative.
 pub(crate) fn put_signed(text: &mut Text, number: i128) -> Result<(), NoMemory>
     ensures { OnOk result (text.new ≡ text.old ++ signed_decimal number) }
 {

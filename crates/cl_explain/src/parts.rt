@@ -1,10 +1,11 @@
-//! What a response is the sum of. Times are in ticks.
+//! The parts that add up to a response. Times are in ticks.
 ghost use Rattle.std.specs.Prelude.{◌≡◌, ◌<◌, ◌≤◌, ◌++◌, length, OnOk, position, codes};
 ghost use Rattle.cl_model.specs.ByNumber.{task_at};
 ghost use Rattle.cl_model.specs.Validity.{IsValid};
 ghost use Rattle.cl_runs.specs.SystemOf.{system_of};
 ghost use Rattle.cl_runs.specs.TaskTiming.{timing_at};
-ghost use Rattle.cl_resp.specs.Question.{is_above, may_block, question_of, IsQuestionInRange};
+ghost use Rattle.cl_runs.specs.Priorities.{is_above, may_block};
+ghost use Rattle.cl_resp.specs.Question.{question_of, IsQuestionInRange};
 ghost use Rattle.cl_resp.specs.Response.{response_to};
 ghost use Rattle.cl_bound.specs.Answers.{answer_with};
 ghost use Rattle.cl_explain.specs.Parts.{window_counted, jobs_above, time_above, blocks_so_long, blocker_of, jitter_part, block_part, own_part, above_part, above_parts, over_part, part_lines, taken_part};
@@ -18,7 +19,8 @@ use cl_stim::{AnyStimulus, Arrivals, MOST_WIDTH};
 use cl_text::Text;
 use cl_time::NoMemory;
 
-/// The window over which releases are counted.
+/// Returns the window over which releases are counted: that of the response or, where the task is
+/// late, all of its deadline that the jitter leaves.
 fn window_counted(question: &Question, answer: &TaskAnswer) -> u64
     requires in_range { IsQuestionInRange question.now }
     requires answer { answer.now ≡ answer_with (response_to question.now) }
@@ -31,7 +33,7 @@ fn window_counted(question: &Question, answer: &TaskAnswer) -> u64
     }
 }
 
-/// Puts what the line of a part of a task begins with.
+/// Puts the beginning of the line of a part: the word `part` and the name of the task.
 fn put_part(text: &mut Text, model: &ValidModel, task: u32) -> Result<(), NoMemory>
     requires { task < length model.now.tasks }
     ensures { OnOk result (text.new ≡ text.old ++ (codes "part " ++ (task_at model.now task).name)) }
@@ -40,7 +42,7 @@ fn put_part(text: &mut Text, model: &ValidModel, task: u32) -> Result<(), NoMemo
     put_task_name(text, model, task)
 }
 
-/// Puts the line of the jitter of a task.
+/// Puts the line of the jitter of a task, if that isn't 0.
 fn put_jitter(text: &mut Text, model: &ValidModel, task: u32, jitter: u64) -> Result<(), NoMemory>
     requires { task < length model.now.tasks }
     ensures { OnOk result (text.new ≡ text.old ++ jitter_part model.now task jitter) }
@@ -54,7 +56,8 @@ fn put_jitter(text: &mut Text, model: &ValidModel, task: u32, jitter: u64) -> Re
     text.put(b"\n")
 }
 
-/// Whether a runnable of another task may hold the core of a task while that waits.
+/// Checks whether a runnable of the task `other` may hold the core of `task` while that waits:
+/// whether it is on the same core and has no higher priority.
 fn may_block(model: &ValidModel, task: u32, other: u32) -> bool
     requires task { task < length model.now.tasks }
     requires other { other < length model.now.tasks }
@@ -64,7 +67,7 @@ fn may_block(model: &ValidModel, task: u32, other: u32) -> bool
         && model.task(other).priority <= model.task(task).priority
 }
 
-/// The place of the first runnable of a task that blocks so long.
+/// Finds the place of the first runnable of a task that blocks others for `block` ticks.
 fn blocks_at(task: &TaskDef, block: u64) -> Option<usize>
     ensures { result ≡ position (blocks_so_long block) task.now.runnables }
 {
@@ -74,7 +77,8 @@ fn blocks_at(task: &TaskDef, block: u64) -> Option<usize>
         .position(|runnable| runnable.hold() == block)
 }
 
-/// Puts the name of the first runnable that blocks a task so long.
+/// Puts the name of the first runnable that may block a task for `block` ticks, in file order. Puts
+/// nothing where there is none.
 fn put_blocker(text: &mut Text, model: &ValidModel, task: u32, block: u64) -> Result<(), NoMemory>
     requires { task < length model.now.tasks }
     ensures { OnOk result (text.new ≡ text.old ++ blocker_of model.now task block) }
@@ -91,7 +95,8 @@ fn put_blocker(text: &mut Text, model: &ValidModel, task: u32, block: u64) -> Re
     Ok(())
 }
 
-/// Puts the line of what blocks a task.
+/// Puts the line of the blocking of a task, if that isn't 0: how long it lasts, and which runnable
+/// blocks.
 fn put_block(text: &mut Text, model: &ValidModel, task: u32, block: u64) -> Result<(), NoMemory>
     requires { task < length model.now.tasks }
     ensures { OnOk result (text.new ≡ text.old ++ block_part model.now task block) }
@@ -107,7 +112,7 @@ fn put_block(text: &mut Text, model: &ValidModel, task: u32, block: u64) -> Resu
     text.put(b"\n")
 }
 
-/// Puts the line of the time that a job of a task takes itself.
+/// Puts the line of the execution time of a job of the task itself, if that isn't 0.
 fn put_own(text: &mut Text, model: &ValidModel, task: u32, time: u64) -> Result<(), NoMemory>
     requires { task < length model.now.tasks }
     ensures { OnOk result (text.new ≡ text.old ++ own_part model.now task time) }
@@ -121,7 +126,7 @@ fn put_own(text: &mut Text, model: &ValidModel, task: u32, time: u64) -> Result<
     text.put(b"\n")
 }
 
-/// Whether another task has a higher priority on the core of a task.
+/// Checks whether the task `other` has a higher priority than `task`, on the same core.
 fn is_above(model: &ValidModel, task: u32, other: u32) -> bool
     requires task { task < length model.now.tasks }
     requires other { other < length model.now.tasks }
@@ -131,7 +136,7 @@ fn is_above(model: &ValidModel, task: u32, other: u32) -> bool
         && model.task(task).priority < model.task(other).priority
 }
 
-/// How many jobs of a task are released in a window of so many ticks at most.
+/// Returns the greatest number of jobs of a task that are released in a window of `width` ticks.
 fn jobs_above(model: &ValidModel, other: u32, width: u64) -> u64
     requires valid { IsValid model.now }
     requires other { other < length model.now.tasks }
@@ -141,7 +146,8 @@ fn jobs_above(model: &ValidModel, other: u32, width: u64) -> u64
     AnyStimulus::of(model.stimulus_of(other)).most(width)
 }
 
-/// Puts the line of so many jobs of a task above, which take this time.
+/// Puts the line of the jobs of a task above that are released in a window, and of the time that
+/// they take, if that isn't 0.
 fn put_taken(
     text: &mut Text,
     model: &ValidModel,
@@ -167,7 +173,8 @@ fn put_taken(
     text.put(b"\n")
 }
 
-/// Puts the line of what another task takes of a window, if it is above.
+/// Puts the line of what the task `other` takes of a window of `width` ticks, if it is above `task`
+/// and takes any of it.
 fn put_above(
     text: &mut Text,
     model: &ValidModel,
@@ -189,7 +196,7 @@ fn put_above(
     put_taken(text, model, task, other, jobs, time)
 }
 
-/// Puts the lines of what the tasks above a task take of a window.
+/// Puts the lines of what the tasks above a task take of a window of `width` ticks, in file order.
 fn put_all_above(text: &mut Text, model: &ValidModel, task: u32, width: u64) -> Result<(), NoMemory>
     requires task { task < length model.now.tasks }
     requires narrow { width ≤ MOST_WIDTH }
@@ -201,7 +208,7 @@ fn put_all_above(text: &mut Text, model: &ValidModel, task: u32, width: u64) -> 
     Ok(())
 }
 
-/// Puts the line of by how much the parts of a late task exceed its deadline.
+/// Puts the line of how far the parts of a task exceed its deadline, if it is late.
 fn put_over(
     text: &mut Text,
     model: &ValidModel,
@@ -211,7 +218,8 @@ fn put_over(
 ) -> Result<(), NoMemory>
     requires task { task < length model.now.tasks }
     requires in_range { IsQuestionInRange question.now }
-    ensures { OnOk result (text.new ≡ text.old ++ over_part model.now task question.now answer.now) }
+    ensures { OnOk result
+        (text.new ≡ text.old ++ over_part model.now task question.now answer.now) }
 {
     if !answer.is_late() {
         return Ok(());
@@ -226,8 +234,9 @@ fn put_over(
     text.put(b"\n")
 }
 
-/// Puts the lines of what the response of a task is the sum of, or, where it is late, what its deadline doesn't hold.
-/// The question is that of the task, and the answer the one to it.
+/// Puts the lines of the parts that add up to the response of a task or, where it is late, of those
+/// that exceed its deadline, and by how much. The question is that of the task, and the answer the
+/// one to it.
 pub(crate) fn put_parts(
     text: &mut Text,
     model: &ValidModel,

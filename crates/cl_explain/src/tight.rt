@@ -1,4 +1,5 @@
-//! The tight bounds of a chain, and the walk that shows why they are what they are. Times are in ticks.
+//! The tight bounds of a chain, and a walk that lasts as long as the tight bound on its reaction.
+//! Times are in ticks.
 ghost use Rattle.std.specs.Prelude.{◌≡◌, ◌+◌, ◌<◌, ◌≤◌, ◌++◌, length, OnOk};
 ghost use Rattle.cl_model.specs.ByNumber.{chain_at};
 ghost use Rattle.cl_model.specs.declared.limits.TheConstants.{MOST_STEPS};
@@ -34,7 +35,8 @@ fn put_arrival(
 ) -> Result<(), NoMemory>
     requires chain { chain < length model.now.chains }
     requires place { place < length (groups_at model.now chain) }
-    ensures { OnOk result (text.new ≡ text.old ++ arrival_line word.now model.now chain place arrival.now) }
+    ensures { OnOk result
+        (text.new ≡ text.old ++ arrival_line word.now model.now chain place arrival.now) }
 {
     text.put(word)?;
     put_chain_name(text, model, chain)?;
@@ -45,7 +47,8 @@ fn put_arrival(
     text.put(b"\n")
 }
 
-/// Puts the lines of the arrivals of groups from a place of a chain on.
+/// Puts the lines of the arrivals of the groups of a chain from a place on, one for each of these
+/// arrivals.
 fn put_arrivals(
     text: &mut Text,
     model: &ValidModel,
@@ -57,7 +60,8 @@ fn put_arrivals(
     requires chain { chain < length model.now.chains }
     requires within { from + length arrivals.now ≤ length (groups_at model.now chain) }
     requires few { from + length arrivals.now ≤ MOST_STEPS }
-    ensures { OnOk result (text.new ≡ text.old ++ arrival_lines word.now model.now chain from arrivals.now) }
+    ensures { OnOk result
+        (text.new ≡ text.old ++ arrival_lines word.now model.now chain from arrivals.now) }
 {
     let mut place = from;
     for arrival in arrivals {
@@ -67,7 +71,9 @@ fn put_arrivals(
     Ok(())
 }
 
-/// Puts the lines of the walk of a chain that lasts this long, none of whose tasks is late by tight responses.
+/// Puts the lines of the walk that `walk_lasting` finds for `reaction` ticks, along a chain none of
+/// whose tasks is late by tight responses: the arrivals of the jobs that just miss the input, then
+/// those of the jobs that take it.
 fn put_walk(
     alloc: Global,
     text: &mut Text,
@@ -104,7 +110,8 @@ fn put_tight_bounds(
     text.put(b"\n")
 }
 
-/// Puts the lines of the tight bounds of a chain none of whose tasks is late by tight responses.
+/// Puts the lines of the tight bounds of a chain none of whose tasks is late by tight responses,
+/// and those of a walk that lasts as long as the bound on its reaction.
 fn put_bounded(
     alloc: Global,
     text: &mut Text,
@@ -124,7 +131,8 @@ fn put_bounded(
     put_walk(alloc, text, model, chain, tight, bounds.reaction())
 }
 
-/// Puts the lines of the tight bounds of a chain, if none of its tasks is late by tight responses.
+/// Puts the lines of the tight bounds of a chain and of its walk, if none of its tasks is late by
+/// tight responses.
 pub(crate) fn put_tight(
     alloc: Global,
     text: &mut Text,

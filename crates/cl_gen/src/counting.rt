@@ -1,4 +1,4 @@
-//! How many executions of runnables a simulation is counted to have. Times are in ticks.
+//! The number of executions of runnables that is counted for a simulation. Times are in ticks.
 ghost use Rattle.std.specs.Prelude.{◌≡◌, ◌+◌, ◌*◌, ◌^◌, ◌<◌, ◌≤◌, length};
 ghost use Rattle.cl_model.specs.declared.stimulus.StimulusKind.TheVariants.{Burst};
 ghost use Rattle.cl_model.specs.Ranges.{IsKindInRange};
@@ -11,8 +11,8 @@ ghost use Rattle.cl_gen.specs.Count.{arrival_count, task_executions, execution_c
 use crate::limits::MOST_RUN_TICKS;
 use cl_model::{StimulusKind, ValidModel};
 
-/// How many jobs of bursts arrive in the first ticks: those of whole periods, and then as many as one burst has in the
-/// ticks that are left.
+/// Counts the jobs of bursts that arrive in the first `ticks` ticks: those of the whole periods
+/// from the offset on, and those of one burst in the ticks that are left.
 fn burst_arrivals(period: u64, offset: u64, count: u64, distance: u64, ticks: u64) -> u64
     requires range { IsKindInRange (Burst period offset count distance) }
     requires ordered { IsKindOrdered (Burst period offset count distance) }
@@ -25,7 +25,7 @@ fn burst_arrivals(period: u64, offset: u64, count: u64, distance: u64, ticks: u6
     width / period * count + count.min(rest.div_ceil(distance))
 }
 
-/// How many jobs of a task are counted in the first ticks.
+/// Counts the jobs of a task that can arrive in the first `ticks` ticks, with each gap the least.
 #[tactic(auto, unfolding(crate::specs::Count::arrival_count))]
 fn arrival_count(pattern: StimulusKind, ticks: u64) -> u64
     requires range { IsKindInRange pattern }
@@ -48,7 +48,7 @@ fn arrival_count(pattern: StimulusKind, ticks: u64) -> u64
     }
 }
 
-/// How many executions are counted of a task.
+/// Counts the executions of a task: its runnables times the jobs that are counted.
 #[tactic(auto, unfolding(crate::specs::Count::task_executions))]
 fn task_executions(model: &ValidModel, task: u32, ticks: u64) -> u64
     requires task { task < length model.now.tasks }
@@ -60,7 +60,7 @@ fn task_executions(model: &ValidModel, task: u32, ticks: u64) -> u64
     runnables as u64 * arrival_count(model.stimulus_of(task), ticks)
 }
 
-/// How many executions are counted of all tasks.
+/// Counts the executions of all tasks.
 pub(crate) fn execution_count(model: &ValidModel, ticks: u64) -> u64
     requires { ticks ≤ MOST_RUN_TICKS }
     ensures count { result ≡ execution_count model.now ticks }

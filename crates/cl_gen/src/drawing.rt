@@ -1,4 +1,4 @@
-//! Job tables that are drawn. Times are in ticks.
+//! Drawing job tables. Times are in ticks.
 ghost use Rattle.std.specs.Prelude.{◌≡◌, ◌+◌, ◌<◌, ◌≤◌, ◌^◌, length, map, All, IfOk, OnOk};
 ghost use Rattle.cl_model.specs.declared.task.RunnableDef.{RunnableDef};
 ghost use Rattle.cl_model.specs.Ranges.{IsKindInRange, IsRunnableInRange};
@@ -16,7 +16,7 @@ use cl_runs::{Job, Times};
 use cl_time::NoMemory;
 use std::alloc::Global;
 
-/// When the first job arrives.
+/// Draws when the first job arrives. Only a sporadic pattern takes a word for it.
 fn first_arrival(draws: &mut Draws, pattern: StimulusKind) -> u64
     requires range { IsKindInRange pattern }
     requires few { draws.old.words < 2 ^ 63 }
@@ -29,7 +29,8 @@ fn first_arrival(draws: &mut Draws, pattern: StimulusKind) -> u64
     }
 }
 
-/// How much later than a job, given by its number, the next one arrives.
+/// Draws how many ticks after a job, given by its number, the next one arrives. Only a sporadic
+/// pattern takes a word for it.
 fn gap_after(draws: &mut Draws, pattern: StimulusKind, job: u64) -> u64
     requires range { IsKindInRange pattern }
     requires ordered { IsKindOrdered pattern }
@@ -54,7 +55,8 @@ fn gap_after(draws: &mut Draws, pattern: StimulusKind, job: u64) -> u64
     }
 }
 
-/// How long after its arrival a job is released.
+/// Draws how many ticks after its arrival a job is released. Only a periodic pattern takes a word
+/// for it.
 fn release_delay(draws: &mut Draws, pattern: StimulusKind) -> u64
     requires range { IsKindInRange pattern }
     requires few { draws.old.words < 2 ^ 63 }
@@ -67,17 +69,20 @@ fn release_delay(draws: &mut Draws, pattern: StimulusKind) -> u64
     }
 }
 
-/// The time of each runnable of a job.
+/// Draws the execution time of each runnable of a job, a word for each.
 fn draw_times(
     alloc: Global,
     draws: &mut Draws,
     runnables: &[RunnableDef],
 ) -> Result<Times, NoMemory>
     requires range { All IsRunnableInRange runnables.now }
-    requires ordered { All (λ (runnable : RunnableDef). runnable.least ≤ runnable.greatest) runnables.now }
+    requires ordered { All
+        (λ (runnable : RunnableDef). runnable.least ≤ runnable.greatest) runnables.now }
     requires few { draws.old.words + length runnables.now < 2 ^ 63 }
-    ensures drawn { IfOk result (λ times. times ≡ drawn_times (word_of draws.old.seed) draws.old.words (map range_of runnables.now)) }
-    ensures taken { OnOk result (draws.new ≡ record draws.old { words = draws.old.words + length runnables.now }) }
+    ensures drawn { IfOk result
+        (λ times. times ≡ drawn_times (word_of draws.old.seed) draws.old.words (map range_of runnables.now)) }
+    ensures taken { OnOk result
+        (draws.new ≡ record draws.old { words = draws.old.words + length runnables.now }) }
 {
     let mut times = Times::new(alloc);
     for runnable in runnables {
@@ -86,7 +91,7 @@ fn draw_times(
     Ok(times)
 }
 
-/// A job that arrives at a tick.
+/// Draws a job that arrives at a given tick.
 fn draw_job(
     alloc: Global,
     draws: &mut Draws,
@@ -96,7 +101,8 @@ fn draw_job(
 ) -> Result<Job, NoMemory>
     requires kind { IsKindInRange pattern }
     requires range { All IsRunnableInRange runnables.now }
-    requires ordered { All (λ (runnable : RunnableDef). runnable.least ≤ runnable.greatest) runnables.now }
+    requires ordered { All
+        (λ (runnable : RunnableDef). runnable.least ≤ runnable.greatest) runnables.now }
     requires early { arrival < MOST_RUN_TICKS }
     requires few { draws.old.words + 1 + length runnables.now < 2 ^ 63 }
     ensures drawn { IfOk result (λ job. job
@@ -113,7 +119,7 @@ fn draw_job(
     })
 }
 
-/// The jobs of a task that arrive in the first ticks.
+/// Draws the jobs of a task that arrive in the first `ticks` ticks.
 fn draw_jobs(
     alloc: Global,
     draws: &mut Draws,
@@ -124,7 +130,8 @@ fn draw_jobs(
     requires kind { IsKindInRange pattern }
     requires kind_ordered { IsKindOrdered pattern }
     requires range { All IsRunnableInRange runnables.now }
-    requires ordered { All (λ (runnable : RunnableDef). runnable.least ≤ runnable.greatest) runnables.now }
+    requires ordered { All
+        (λ (runnable : RunnableDef). runnable.least ≤ runnable.greatest) runnables.now }
     requires count { length runnables.now ≤ MOST_RUNNABLES }
     requires ticks { ticks ≤ MOST_RUN_TICKS }
     requires few { draws.old.words < 2 ^ 62 }
@@ -144,7 +151,7 @@ fn draw_jobs(
     Ok(jobs)
 }
 
-/// The jobs of a task, given by its number, that arrive in the first ticks.
+/// Draws the jobs of a task, given by its number, that arrive in the first `ticks` ticks.
 fn draw_task(
     alloc: Global,
     draws: &mut Draws,
@@ -165,7 +172,7 @@ fn draw_task(
     draw_jobs(alloc, draws, model.stimulus_of(task), runnables, ticks)
 }
 
-/// The jobs of each task that arrive in the first ticks.
+/// Draws the jobs of each task that arrive in the first `ticks` ticks, in file order.
 pub(crate) fn draw_tasks(
     alloc: Global,
     draws: &mut Draws,
@@ -174,7 +181,8 @@ pub(crate) fn draw_tasks(
 ) -> Result<List<List<Job>>, NoMemory>
     requires ticks { ticks ≤ MOST_RUN_TICKS }
     requires all { draws.old.words ≡ 0 }
-    ensures { IfOk result (λ jobs. jobs ≡ drawn_tasks (word_of draws.old.seed) ticks 0 (system_of model.now).tasks) }
+    ensures { IfOk result
+        (λ jobs. jobs ≡ drawn_tasks (word_of draws.old.seed) ticks 0 (system_of model.now).tasks) }
 {
     let mut jobs = List::new(alloc);
     for task in 0..model.tasks() {

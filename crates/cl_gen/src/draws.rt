@@ -1,4 +1,4 @@
-//! The numbered words of a seed, and drawing with them.
+//! The numbered words of a seed, and draws with them.
 ghost use Rattle.std.specs.Prelude.{◌≡◌, ◌+◌, ◌-◌, ◌<◌, ◌≤◌, ◌^◌};
 ghost use Rattle.cl_gen.specs.Words.{word_of, draw};
 
@@ -27,7 +27,7 @@ impl Model for Draws {
 }
 
 impl Draws {
-    /// All words of a seed.
+    /// Creates the words of a seed, none of them taken.
     pub(crate) fn of_seed(seed: u64) -> Draws
         ensures { result ≡ record { seed = seed; words = 0 } }
     {
@@ -38,7 +38,7 @@ impl Draws {
         }
     }
 
-    /// A number from `least` to `greatest`.
+    /// Draws a number from `least` to `greatest` with the next word.
     pub(crate) fn draw(&mut self, least: u64, greatest: u64) -> u64
         requires ordered { least ≤ greatest }
         requires narrow { greatest - least < 2 ^ 63 }

@@ -1,4 +1,4 @@
-//! Generated models. Times are in ticks.
+//! Generating models. Times are in ticks.
 ghost use Rattle.std.specs.Prelude.{◌≡◌, ◌+◌, ◌*◌, ◌/◌, ◌%◌, ◌<◌, ◌≤◌, ◌^◌, ◌∷◌, [], length, map, slice_index, IfOk, OnOk};
 ghost use Rattle.std.specs.Int.{div_ceil};
 ghost use Rattle.std.specs.List.{range_with_len};
@@ -16,16 +16,19 @@ use cl_model::{
 use cl_time::NoMemory;
 use std::alloc::Global;
 
-/// The periods of the stimuli.
+/// The periods of the stimuli, in ticks.
 const PERIODS: [u64; 9] = [
     1_000, 2_000, 5_000, 10_000, 20_000, 50_000, 100_000, 200_000, 1_000_000,
 ];
 
-/// The model of so many tasks that the words of a seed draw. It is valid, whatever the seed: 16 tasks a core, nine
-/// periodic stimuli, two runnables a task, and a chain over each four tasks. Times are in ticks.
+/// Generates the model of `tasks` tasks that the words of a seed draw. It is valid and its names
+/// are of the grammar of names, whatever the seed. It has 16 tasks a core, the last core maybe
+/// fewer, nine periodic stimuli, two runnables a task, a chain over each four tasks in a row, and
+/// no requirement. Times are in ticks.
 ///
-/// `NoMemory` comes where there is no memory for the model; it leaves nothing. The words are those of the generator PCG
-/// XSL RR 128/64, in order; which word draws what is said here.
+/// `NoMemory` comes where there is no memory for the model; it leaves nothing. The words are those
+/// of the generator PCG XSL RR 128/64, in order; the definitions of this crate say which word draws
+/// what.
 pub fn generate(alloc: Global, seed: u64, tasks: u64) -> Result<SystemModel, NoMemory>
     requires some { 1 ≤ tasks }
     requires few { tasks ≤ MOST_TASKS }
@@ -36,7 +39,7 @@ pub fn generate(alloc: Global, seed: u64, tasks: u64) -> Result<SystemModel, NoM
     generated_model(alloc, seed, tasks)
 }
 
-/// The model, part after part.
+/// Generates the model, part by part.
 #[tactic(auto, unfolding(crate::specs::Generated::model_of_words))]
 fn generated_model(alloc: Global, seed: u64, tasks: u64) -> Result<SystemModel, NoMemory>
     requires { tasks ≤ MOST_TASKS }
@@ -123,7 +126,7 @@ fn chain(alloc: Global, number: u64) -> Result<ChainDef, NoMemory>
     })
 }
 
-/// The names of eight runnables in a row.
+/// Lists the names of eight runnables in a row, from the one with the number `first` on.
 fn steps(alloc: Global, first: u64) -> Result<List<Name>, NoMemory>
     requires { first < 2 ^ 62 }
     ensures { IfOk result (λ names. names ≡ map runnable_name (range_with_len first 8)) }
@@ -135,7 +138,7 @@ fn steps(alloc: Global, first: u64) -> Result<List<Name>, NoMemory>
     Ok(names)
 }
 
-/// The names of seven labels in a row.
+/// Lists the names of seven labels in a row, from the one with the number `first` on.
 fn hops(alloc: Global, first: u64) -> Result<List<Name>, NoMemory>
     requires { first < 2 ^ 62 }
     ensures { IfOk result (λ names. names ≡ map label_name (range_with_len first 7)) }
@@ -150,7 +153,8 @@ fn hops(alloc: Global, first: u64) -> Result<List<Name>, NoMemory>
 fn draw_tasks(alloc: Global, draws: &mut Draws, count: u64) -> Result<List<TaskDef>, NoMemory>
     requires few { count ≤ MOST_TASKS }
     requires all { draws.old.words ≡ 0 }
-    ensures { IfOk result (λ tasks. tasks ≡ map (generated_task (word_of draws.old.seed)) (range_with_len 0 count)) }
+    ensures { IfOk result
+        (λ tasks. tasks ≡ map (generated_task (word_of draws.old.seed)) (range_with_len 0 count)) }
 {
     let mut tasks = List::new(alloc);
     for number in 0..count {
@@ -189,7 +193,7 @@ fn access_of(number: u64) -> AccessKind
     }
 }
 
-/// The two runnables of a task.
+/// Draws the two runnables of a task with this period.
 #[tactic(auto, unfolding(crate::specs::Generated::generated_runnable))]
 fn draw_runnables(
     alloc: Global,

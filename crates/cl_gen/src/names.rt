@@ -10,7 +10,7 @@ use cl_time::NoMemory;
 use itoa::Buffer;
 use std::alloc::Global;
 
-/// The name of a number between two words of letters.
+/// Makes the name of a number between two pieces of letters, which have at most two bytes together.
 fn spelled(letter: &str, number: u64, rest: &str) -> Name
     requires letter { list_all is_name_byte letter.now ≡ true }
     requires rest { list_all is_name_byte rest.now ≡ true }
@@ -27,7 +27,7 @@ fn spelled(letter: &str, number: u64, rest: &str) -> Name
     name
 }
 
-/// The name of a letter and a number.
+/// Makes the name of a letter and a number.
 pub(crate) fn numbered(letter: &str, number: u64) -> Name
     requires letter { list_all is_name_byte letter.now ≡ true }
     requires short { length letter.now ≤ 2 }
@@ -36,7 +36,7 @@ pub(crate) fn numbered(letter: &str, number: u64) -> Name
     spelled(letter, number, "")
 }
 
-/// The name of a label, by its number.
+/// Makes the name of a label, by its number.
 #[tactic(auto, unfolding(crate::specs::Generated::label_name))]
 pub(crate) fn label_name(label: u64) -> Name
     ensures { result ≡ label_name label }
@@ -45,7 +45,7 @@ pub(crate) fn label_name(label: u64) -> Name
     numbered(letter, label / 2)
 }
 
-/// The name of a runnable, by its number.
+/// Makes the name of a runnable, by its number.
 #[tactic(auto, unfolding(crate::specs::Generated::runnable_name))]
 pub(crate) fn runnable_name(runnable: u64) -> Name
     ensures { result ≡ runnable_name runnable }
@@ -54,7 +54,7 @@ pub(crate) fn runnable_name(runnable: u64) -> Name
     spelled("t", runnable / 2, letter)
 }
 
-/// The label that a runnable reads, if there is one.
+/// Lists the label that a runnable reads: none for runnable 0.
 pub(crate) fn labels_read(alloc: Global, runnable: u64) -> Result<List<Name>, NoMemory>
     ensures { IfOk result (λ labels. labels ≡ labels_read runnable) }
 {
@@ -65,7 +65,7 @@ pub(crate) fn labels_read(alloc: Global, runnable: u64) -> Result<List<Name>, No
     Ok(labels)
 }
 
-/// The label that a runnable writes.
+/// Lists the one label that a runnable writes.
 pub(crate) fn labels_written(alloc: Global, runnable: u64) -> Result<List<Name>, NoMemory>
     ensures { IfOk result (λ labels. labels ≡ label_name runnable ∷ []) }
 {

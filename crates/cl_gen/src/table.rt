@@ -1,4 +1,4 @@
-//! The drawn job table of a model.
+//! Drawing the job table of a model.
 ghost use Rattle.std.specs.Prelude.{◌≡◌, ◌<◌, ◌≤◌, Err, IfOk, IfErr};
 ghost use Rattle.cl_runs.specs.SystemOf.{system_of};
 ghost use Rattle.cl_runs.specs.Table.{IsLawful};
@@ -14,10 +14,10 @@ use cl_runs::JobTable;
 use cl_time::NoMemory;
 use std::alloc::Global;
 
-/// Why no table is drawn.
+/// Why no job table is drawn.
 #[derive(Clone, Copy, Debug, PartialEq, Eq)]
 pub enum DrawFault {
-    /// So many executions of runnables are counted, which are too many.
+    /// `count` executions of runnables are counted, more than [`MOST_EXECUTIONS`].
     SimLimit { count: u64 },
     /// Memory ran out.
     NoMemory,
@@ -34,7 +34,7 @@ impl From<NoMemory> for DrawFault {
     }
 }
 
-/// The table, once it is known that it isn't too large.
+/// Draws the job table, once it is known that it isn't too large.
 fn drawn_table(
     alloc: Global,
     model: &ValidModel,
@@ -49,13 +49,16 @@ fn drawn_table(
     Ok(JobTable { ticks, jobs })
 }
 
-/// The job table of so many ticks that the words of a seed draw for a model. It is lawful: arrivals, releases and
-/// execution times are as the model allows. Times are in ticks.
+/// Draws the job table of `ticks` ticks for a model with the words of a seed. It is lawful:
+/// arrivals, releases and execution times are as the model allows. Times are in ticks.
 ///
-/// `SimLimit` comes exactly where more executions of runnables are counted than [`MOST_EXECUTIONS`], with the count and
-/// before anything is drawn. `NoMemory` comes where there is no memory for the table. Either leaves nothing.
+/// `SimLimit` comes exactly where more executions of runnables are counted than
+/// [`MOST_EXECUTIONS`], with the count and before anything is drawn. Each gap between arrivals is
+/// counted as the least, so no table has more executions than are counted. `NoMemory` comes where
+/// there is no memory for the table. Either leaves nothing.
 ///
-/// The words are those of the generator PCG XSL RR 128/64, in order; which word draws what is said here.
+/// The words are those of the generator PCG XSL RR 128/64, in order; the definitions of this crate
+/// say which word draws what.
 pub fn draw_table(
     alloc: Global,
     model: &ValidModel,
@@ -67,7 +70,8 @@ pub fn draw_table(
     ensures lawful { IfOk result (IsLawful (system_of model.now)) }
     ensures too_many { MOST_EXECUTIONS < execution_count model.now ticks
         → result ≡ Err (DrawFault.SimLimit (execution_count model.now ticks)) }
-    ensures few { execution_count model.now ticks ≤ MOST_EXECUTIONS → IfErr result (λ fault. fault ≡ DrawFault.NoMemory) }
+    ensures few { execution_count model.now ticks ≤ MOST_EXECUTIONS
+        → IfErr result (λ fault. fault ≡ DrawFault.NoMemory) }
 {
     let count = execution_count(model, ticks);
     if count > MOST_EXECUTIONS {

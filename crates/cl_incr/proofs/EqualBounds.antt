@@ -9,7 +9,7 @@ use Rattle.cl_runs.specs.TaskTiming.{System, timing_at}
 use Rattle.cl_comm.specs.declared.spot.Spot.{Spot}
 use Rattle.cl_comm.specs.Windows.{spot_at, window_of}
 use Rattle.cl_bound.specs.Answers.{answers_of, answer_at, response_in}
-use Rattle.cl_bound.specs.Hops.{group_timing, saves, delay, hop, forward_hop, backward_hop, hops}
+use Rattle.cl_bound.specs.Hops.{group_timing, saves, lag, hop, forward_hop, backward_hop, hops}
 use Rattle.cl_bound.specs.Bounds.{last_of, greatest_reaction, greatest_reduced, greatest_age, Lengths, settled_timing, settled_timings, bounds_of}
 use Rattle.cl_incr.specs.declared.question.GroupQuestion.{GroupQuestion}
 use Rattle.cl_incr.specs.declared.question.HopLine.{HopLine}
@@ -83,42 +83,42 @@ all_numbers_are system (group ∷ groups) = let first = numbers_are system group
 
 -- ---- hops
 
--- the delay of a hop by its line
-delay_by : HopLine → (jitter write read : ℕ) → ℤ
-delay_by SameTask jitter write read = pos 1
-delay_by Saving jitter write read = pos jitter -ℤ pos read
-delay_by Plain jitter write read = pos write -ℤ pos read
+-- the lag of a hop by its line
+lag_by : HopLine → (jitter write read : ℕ) → ℤ
+lag_by SameTask jitter write read = pos 1
+lag_by Saving jitter write read = pos jitter -ℤ pos read
+lag_by Plain jitter write read = pos write -ℤ pos read
 
-delay_is_by : (one_task saving : Bool) (jitter write read : ℕ) → cond one_task (pos 1) (cond saving (pos jitter -ℤ pos read) (pos write -ℤ pos read))
-    ≡ delay_by (cond one_task SameTask (cond saving Saving Plain)) jitter write read
-unfolding delay_by
-delay_is_by true saving jitter write read = refl
-delay_is_by false true jitter write read = refl
-delay_is_by false false jitter write read = refl
+lag_is_by : (one_task saving : Bool) (jitter write read : ℕ) → cond one_task (pos 1) (cond saving (pos jitter -ℤ pos read) (pos write -ℤ pos read))
+    ≡ lag_by (cond one_task SameTask (cond saving Saving Plain)) jitter write read
+unfolding lag_by
+lag_is_by true saving jitter write read = refl
+lag_is_by false true jitter write read = refl
+lag_is_by false false jitter write read = refl
 
-delay_is : (system : System) (writer reader : Group) → delay (settled_timing system writer) (settled_timing system reader)
-    ≡ delay_by (hop_line system writer reader) (numbers system writer).jitter (numbers system writer).write (numbers system reader).read
+lag_is : (system : System) (writer reader : Group) → lag (settled_timing system writer) (settled_timing system reader)
+    ≡ lag_by (hop_line system writer reader) (numbers system writer).jitter (numbers system writer).write (numbers system reader).read
 unfolding group_timing
-delay_is system writer reader =
-    delay_is_by (writer.task == reader.task) (saves (settled_timing system writer) (settled_timing system reader))
+lag_is system writer reader =
+    lag_is_by (writer.task == reader.task) (saves (settled_timing system writer) (settled_timing system reader))
     (numbers system writer).jitter (numbers system writer).write (numbers system reader).read
 
 module _ (one other : System) where
-  same_delay : (w r v s : Group) → numbers one w ≡ numbers other v → numbers one r ≡ numbers other s → hop_line one w r ≡ hop_line other v s
-      → delay (settled_timing one w) (settled_timing one r) ≡ delay (settled_timing other v) (settled_timing other s)
-  same_delay w r v s writers readers lines =
-      delay_is one w r
-      ∙ ap (λ line. delay_by line (numbers one w).jitter (numbers one w).write (numbers one r).read) lines
-      ∙ ap (λ (n : Numbers). delay_by (hop_line other v s) n.jitter n.write (numbers one r).read) writers
-      ∙ ap (λ (n : Numbers). delay_by (hop_line other v s) (numbers other v).jitter (numbers other v).write n.read) readers
-      ∙ sym (delay_is other v s)
+  same_lag : (w r v s : Group) → numbers one w ≡ numbers other v → numbers one r ≡ numbers other s → hop_line one w r ≡ hop_line other v s
+      → lag (settled_timing one w) (settled_timing one r) ≡ lag (settled_timing other v) (settled_timing other s)
+  same_lag w r v s writers readers lines =
+      lag_is one w r
+      ∙ ap (λ line. lag_by line (numbers one w).jitter (numbers one w).write (numbers one r).read) lines
+      ∙ ap (λ (n : Numbers). lag_by (hop_line other v s) n.jitter n.write (numbers one r).read) writers
+      ∙ ap (λ (n : Numbers). lag_by (hop_line other v s) (numbers other v).jitter (numbers other v).write n.read) readers
+      ∙ sym (lag_is other v s)
 
   same_hop : (d e : ℕ) (w r v s : Group) → d ≡ e → numbers one w ≡ numbers other v → numbers one r ≡ numbers other s
       → hop_line one w r ≡ hop_line other v s
       → hop d (settled_timing one w) (settled_timing one r) ≡ hop e (settled_timing other v) (settled_timing other s)
   same_hop d e w r v s same writers readers lines =
       ap (λ distance. hop distance (settled_timing one w) (settled_timing one r)) same
-      ∙ ap (λ z. (pos e -ℤ pos 1) +ℤ z) (same_delay w r v s writers readers lines)
+      ∙ ap (λ z. (pos e -ℤ pos 1) +ℤ z) (same_lag w r v s writers readers lines)
 
   -- ---- sums
 

@@ -4,7 +4,8 @@ use Rattle.std.specs.Prelude.{filter, map, nat_le}
 use Rattle.cl_model.specs.Timing.{greatest_jitter}
 use Rattle.cl_model.specs.Holds.{greatest_by}
 use Rattle.cl_runs.specs.TaskTiming.{Timing, System}
-use Rattle.cl_resp.specs.Question.{greatest_execution, longest_hold, is_above, block_of, taken_by, question_of}
+use Rattle.cl_runs.specs.Priorities.{is_above}
+use Rattle.cl_resp.specs.Question.{greatest_execution, longest_hold, block_of, taken_by, question_of}
 
 -- ---- what passes two tests
 

@@ -1,4 +1,4 @@
-//! The findings where an edit adds a chain behind the others, or drops one. Times are in ticks.
+//! The findings after an edit appends a chain, or drops one. Times are in ticks.
 ghost use Rattle.std.specs.Prelude.{◌≡◌, ℕ, ◌<◌, ◌++◌, [], ◌∷◌, remove, length, OnOk, OnErr};
 ghost use Rattle.cl_model.specs.declared.model.SystemModel.{SystemModel};
 ghost use Rattle.cl_analyse.specs.Verdicts.{verdicts_of};
@@ -11,7 +11,7 @@ use cl_analyse::{ChainAnswer, ExactAnswer, Findings, Verdict, judge};
 use cl_model::{List, ValidModel};
 use cl_time::NoMemory;
 
-/// Appends what is found of a chain. Where there is no memory for it, the lists stay as they were.
+/// Appends the findings of a chain. `NoMemory` leaves both lists as they were.
 fn push_found(
     chains: &mut List<ChainAnswer>,
     exacts: &mut List<ExactAnswer>,
@@ -33,7 +33,7 @@ fn push_found(
     }
 }
 
-/// Judges all requirements again. It takes no memory.
+/// Judges all requirements again. Takes no memory.
 fn judge_anew(
     model: &ValidModel,
     chains: &List<ChainAnswer>,
@@ -49,13 +49,15 @@ fn judge_anew(
     }
 }
 
-/// Appends what is found of a new chain to the findings. Where there is no memory for it, they stay as they were.
+/// Appends the findings of a new chain, and judges all requirements again. `NoMemory` leaves the
+/// findings as they were.
 pub(crate) fn put_new_chain(
     model: &ValidModel,
     findings: &mut Findings,
     found: ChainFindings,
 ) -> Result<(), NoMemory>
-    requires { (old : SystemModel) × AreFindings old findings.old × AddsChain old model.now × AreFoundOf model.now (length old.chains) found }
+    requires { (old : SystemModel) × AreFindings old findings.old × AddsChain old model.now
+        × AreFoundOf model.now (length old.chains) found }
     ensures found { OnOk result (AreFindings model.now findings.new) }
     ensures tasks { findings.new.tasks ≡ findings.old.tasks }
     ensures unchanged { OnErr result (findings.new ≡ findings.old) }
@@ -70,7 +72,7 @@ pub(crate) fn put_new_chain(
     Ok(())
 }
 
-/// Takes what was found of a chain that is dropped out of the findings.
+/// Removes the findings of a dropped chain, and judges all requirements again. Takes no memory.
 pub(crate) fn drop_chain(model: &ValidModel, findings: &mut Findings, gone: u32)
     requires { (old : SystemModel) × AreFindings old findings.old × DropsChain gone old model.now }
     ensures found { AreFindings model.now findings.new }

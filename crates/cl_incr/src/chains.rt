@@ -1,5 +1,5 @@
-//! The answers for the chains of an edited model: those that stood before where the questions are the same, and else
-//! asked anew. Times are in ticks.
+//! The findings of the chains of an edited model: the earlier ones where the question is the same,
+//! and else new ones. Times are in ticks.
 ghost use Rattle.std.specs.Prelude.{◌≡◌, ◌<◌, length};
 ghost use Rattle.cl_runs.specs.SystemOf.{system_of};
 ghost use Rattle.cl_bound.specs.Answers.{answers_of};
@@ -15,14 +15,16 @@ use cl_model::{List, ValidModel};
 use cl_time::Steps;
 use std::sync::ledger::Ledger;
 
-/// What is found of a chain.
+/// The findings of a chain: its bounds and its exact lengths.
 #[derive(Drop)]
 pub(crate) struct ChainFindings {
     pub(crate) bounds: ChainAnswer,
     pub(crate) exact: ExactAnswer,
 }
 
-/// What was found of a chain before. It is kept where the chain of that name had the same question.
+/// Returns the earlier findings of the old model's chain of the same name, if both chains have the
+/// same question. There are none where no chain had the name, the question is changed, or a task of
+/// one of the chains is late.
 fn kept_findings(
     old: &ValidModel,
     findings: &Findings,
@@ -46,7 +48,8 @@ fn kept_findings(
     })
 }
 
-/// What is found of a chain of the new model. Up to two steps are counted where its question is changed.
+/// Finds the bounds and the exact lengths of a chain of the new model. Counts at most two steps,
+/// and only where its question is changed.
 pub(crate) fn find_chain<L: Ledger>(
     old: &ValidModel,
     findings: &Findings,

@@ -1,4 +1,5 @@
-//! Whether two chains, of two models, have the same question. No call takes memory. Times are in ticks.
+//! Whether a chain of one model and a chain of another have the same question. No call takes
+//! memory. Times are in ticks.
 ghost use Rattle.std.specs.Prelude.{◌≡◌, ◌≢◌, ◌-◌, ◌<◌, ◌↔◌, length, map, IsTrue};
 ghost use Rattle.cl_model.specs.Groups.{group_at, groups_at, IsGroupOf};
 ghost use Rattle.cl_runs.specs.SystemOf.{system_of};
@@ -14,7 +15,7 @@ use cl_bound::TaskAnswer;
 use cl_comm::spot_of;
 use cl_model::{Group, List, ValidModel};
 
-/// The response of a task, and 0 where it is late and has none.
+/// The response of a task, or 0 where the task is late.
 fn response_of(answers: &List<TaskAnswer>, task: u32) -> u64
     ensures { result ≡ response_in (answer_at answers.now task) }
 {
@@ -46,8 +47,9 @@ fn is_same_group(one: GroupQuestion, other: GroupQuestion) -> bool
     one == other
 }
 
-/// Whether two chains, which have as many groups, pass tasks with other responses. Then they ask something else, and most
-/// chains that do are told apart by this, which needs no question to be made.
+/// Whether two chains with equally many groups pass tasks with different responses at some place.
+/// Then their questions differ. This tells most changed chains apart without making their
+/// questions.
 fn have_other_responses(
     old: &ValidModel,
     old_answers: &List<TaskAnswer>,
@@ -72,7 +74,7 @@ fn have_other_responses(
     false
 }
 
-/// Whether the groups of two chains have the same questions.
+/// Whether the groups of two chains have the same questions, in order.
 fn have_same_groups(
     old: &ValidModel,
     old_answers: &List<TaskAnswer>,
@@ -102,7 +104,8 @@ fn have_same_groups(
     true
 }
 
-/// Whether a hop between the groups saves the writer's time.
+/// Whether the time of the writer is saved in the bound on a hop: it has a higher priority on the
+/// reader's core, and neither task is timed.
 fn saves(model: &ValidModel, writer: Group, reader: Group) -> bool
     requires writer { IsGroupOf model.now writer }
     requires reader { IsGroupOf model.now reader }
@@ -119,7 +122,7 @@ fn saves(model: &ValidModel, writer: Group, reader: Group) -> bool
     !from.access.is_timed() && !to.access.is_timed()
 }
 
-/// How the hop from a group to the next is bounded.
+/// How the hop from one group to the next is bounded.
 fn hop_line(model: &ValidModel, writer: Group, reader: Group) -> HopLine
     requires writer { IsGroupOf model.now writer }
     requires reader { IsGroupOf model.now reader }
@@ -134,7 +137,7 @@ fn hop_line(model: &ValidModel, writer: Group, reader: Group) -> HopLine
     }
 }
 
-/// How the hop to the group at a place that isn't the first is bounded.
+/// How the hop to a group, which isn't the first, is bounded.
 fn hop_line_to(model: &ValidModel, chain: u32, place: u32) -> HopLine
     requires chain { chain < length model.now.chains }
     requires some { 0 < place }
@@ -156,7 +159,8 @@ fn is_same_line(one: HopLine, other: HopLine) -> bool
     one == other
 }
 
-/// Whether the hops between the groups of two chains, which have as many groups, are bounded in the same way.
+/// Whether the hops between the groups of two chains with equally many groups are bounded in the
+/// same way.
 fn have_same_hops(old: &ValidModel, before: u32, new: &ValidModel, chain: u32) -> bool
     requires before { before < length old.now.chains }
     requires chain { chain < length new.now.chains }
@@ -174,7 +178,7 @@ fn have_same_hops(old: &ValidModel, before: u32, new: &ValidModel, chain: u32) -
     true
 }
 
-/// Whether two chains have the same question, none of their tasks being late.
+/// Whether two chains have the same question and no task of either is late.
 pub(crate) fn ask_the_same(
     old: &ValidModel,
     old_answers: &List<TaskAnswer>,

@@ -1,5 +1,6 @@
-//! What the lengths of a chain depend on: equal questions have equal answers, so that a session over a model that is
-//! edited asks only what an edit changed.
+//! Incremental analysis: what the lengths of a chain depend on is its question, and equal questions
+//! have equal answers. So a session over a model that is edited answers only the questions that an
+//! edit changed.
 #![tactic(auto)]
 
 mod chain_lists;

@@ -1,5 +1,6 @@
-//! The findings of an edited model, where each task and each chain keeps its number: only tasks of the cores that the edit
-//! touches are asked, and only chains that pass a task which stands otherwise than before. Times are in ticks.
+//! The findings after an edit that keeps the number of each task and each chain. Only tasks on the
+//! cores that the edit touches are asked, and only chains that pass a task whose timing or answer
+//! may have changed. Times are in ticks.
 ghost use Rattle.std.specs.Prelude.{◌≡◌, ℕ, ◌<◌, ◌⊎◌, ◌↔◌, length, IsTrue, IfOk, OnOk, All, Contains};
 ghost use Rattle.std.specs.List.Sorted.{IsStrictlyIncreasing};
 ghost use Rattle.cl_runs.specs.SystemOf.{system_of};
@@ -24,8 +25,9 @@ use cl_time::{NoMemory, Steps};
 use std::alloc::Global;
 use std::sync::ledger::Ledger;
 
-/// Asks these tasks of the new model, and mends their answers in a list that has those of the others. Each changed
-/// question counts a step.
+/// Asks these tasks of the new model, and puts their answers into a list that has those of all
+/// other tasks. Counts at most one step for each task with a changed question. After `NoMemory` the
+/// list has some of the new answers.
 pub(crate) fn mend_tasks<L: Ledger>(
     alloc: Global,
     old: &ValidModel,
@@ -50,15 +52,15 @@ pub(crate) fn mend_tasks<L: Ledger>(
     Ok(())
 }
 
-/// Whether two answers for tasks are the same.
+/// Whether two answers are the same.
 fn is_same_answer(one: TaskAnswer, other: TaskAnswer) -> bool
     ensures { IsTrue result ↔ (one ≡ other) }
 {
     one == other
 }
 
-/// The tasks that stand otherwise than before: those that are touched, and of those that were asked the ones whose
-/// answers differ.
+/// Finds the tasks whose timing or answer may have changed: those that are touched, and those that
+/// were asked and have another answer than before.
 fn tasks_standing_otherwise(
     old: &List<TaskAnswer>,
     new: &List<TaskAnswer>,
@@ -69,7 +71,9 @@ fn tasks_standing_otherwise(
     requires asked { All (λ task. task < length new.now) asked.now }
     requires touched { All (λ task. task < length new.now) touched }
     ensures touched { IfOk result (λ tasks. All (Contains tasks) touched) }
-    ensures others { IfOk result (λ tasks. All (λ task. (answer_at old.now task ≡ answer_at new.now task) ⊎ Contains tasks task) asked.now) }
+    ensures others { IfOk result
+        (λ tasks. All (λ task. (answer_at old.now task ≡ answer_at new.now task)
+        ⊎ Contains tasks task) asked.now) }
     ensures below { IfOk result (λ tasks. All (λ task. task < length new.now) tasks) }
 {
     let mut tasks = touched;
@@ -81,7 +85,8 @@ fn tasks_standing_otherwise(
     Ok(tasks)
 }
 
-/// What is found of these chains of the new model. Each changed question counts up to two steps.
+/// Finds the bounds and the exact lengths of these chains of the new model. Counts at most two
+/// steps for each chain with a changed question.
 pub(crate) fn find_these<L: Ledger>(
     alloc: Global,
     old: &ValidModel,
@@ -110,7 +115,8 @@ pub(crate) fn find_these<L: Ledger>(
     Ok(all)
 }
 
-/// The chains that pass one of these tasks, in rising order: what was found of the others stands.
+/// Lists the chains that pass one of these tasks, in rising order. The earlier findings of all
+/// other chains still hold.
 fn chains_to_ask(
     alloc: Global,
     old: &ValidModel,
@@ -123,7 +129,8 @@ fn chains_to_ask(
     requires below { All (λ task. task < length new.now.tasks) tasks.now }
     requires others { StandBut tasks.now old.now new.now }
     ensures rising { IfOk result (λ chains. IsStrictlyIncreasing chains.items) }
-    ensures below { IfOk result (λ chains. All (λ chain. chain < length new.now.chains) chains.items) }
+    ensures below { IfOk result
+        (λ chains. All (λ chain. chain < length new.now.chains) chains.items) }
     ensures others { IfOk result (λ chains. StayFoundBut chains.items old.now new.now) }
 {
     // the old model was valid
@@ -131,7 +138,9 @@ fn chains_to_ask(
     listed_under(alloc, passing.chains.as_slice(), tasks)
 }
 
-/// What is found anew of a model in which an edit touches these tasks. `tasks` are the answers for the tasks once more.
+/// Finds what an edit changes that touches these tasks. `tasks` is a copy of the answers for the
+/// tasks of the old model. Counts at most one step for each task, and two for each chain, with a
+/// changed question.
 pub(crate) fn news_of<L: Ledger>(
     alloc: Global,
     old: &ValidModel,
@@ -147,7 +156,8 @@ pub(crate) fn news_of<L: Ledger>(
     requires tasks { tasks ≡ findings.now.tasks }
     requires touched { Touches old.now new.now touched }
     ensures news { IfOk result (AreNewsOf old.now new.now) }
-    ensures asked_below { IfOk result (λ news. All (λ task. task < length new.now.tasks) news.asked.items) }
+    ensures asked_below { IfOk result
+        (λ news. All (λ task. task < length new.now.tasks) news.asked.items) }
     ensures asked { IfOk result (λ news. KeepAnswersBut news.asked.items old.now new.now) }
     ensures steps { AsksForChanges old.now new.now steps.old steps.new }
 {

@@ -1,5 +1,5 @@
-//! What is found anew where an edit adds or drops a task: only tasks of its core are asked, and only chains past one of
-//! them, or past a task that is late, are visited. Times are in ticks.
+//! What is found anew after an edit adds or drops a task. Only tasks on its core are asked, and
+//! only chains that pass one of them or a late task are visited. Times are in ticks.
 ghost use Rattle.std.specs.Prelude.{◌≡◌, ℕ, ◌<◌, ◌⊎◌, ◌↔◌, [], length, IsTrue, IfOk, IfSome, OnOk, Ok, All, Contains};
 ghost use Rattle.std.specs.List.Sorted.{IsStrictlyIncreasing};
 ghost use Rattle.cl_model.specs.declared.model.SystemModel.{SystemModel};
@@ -32,7 +32,8 @@ use cl_time::{NoMemory, Steps};
 use std::alloc::Global;
 use std::sync::ledger::Ledger;
 
-/// Moves the answers for tasks to the numbers that the tasks get. A task that is added has no answer yet.
+/// Moves the answers for tasks to the numbers that the tasks get: removes the one of task `gone`,
+/// or, where there is no such task, appends one for the added task, `Late` until it is asked.
 fn move_answers(answers: &mut List<TaskAnswer>, gone: u32) -> Result<(), NoMemory>
     ensures { OnOk result (answers.new ≡ moved gone Late answers.old) }
 {
@@ -45,7 +46,8 @@ fn move_answers(answers: &mut List<TaskAnswer>, gone: u32) -> Result<(), NoMemor
     }
 }
 
-/// Moves what is listed under tasks to the numbers that the tasks get. Nothing is listed under a task that is added.
+/// Moves the lists of tasks to the numbers that the tasks get: removes the list of task `gone`, or,
+/// where there is no such task, appends an empty one for the added task.
 fn move_lists(alloc: Global, lists: &mut Vec<List<u32>>, gone: u32) -> Result<(), NoMemory>
     ensures { OnOk result (lists.new.items ≡ moved gone [] lists.old.items) }
 {
@@ -58,16 +60,19 @@ fn move_lists(alloc: Global, lists: &mut Vec<List<u32>>, gone: u32) -> Result<()
     Ok(())
 }
 
-/// The chains that pass each task, and the requirements that name each chain, where tasks get other numbers.
+/// Moves the lists of the chains that pass each task to the numbers that the tasks get where one is
+/// added, or task `gone` is dropped. The requirements of each chain stay as they are. `None` comes
+/// where there is no memory for it.
 pub(crate) fn moved_passing(alloc: Global, mut passing: Passing, gone: u32) -> Option<Passing>
-    ensures { (core : ℕ) (old new : SystemModel) → IsValid old → MovesTasks core gone old new → ArePassesOf old passing
+    ensures { (core : ℕ) (old new : SystemModel) → IsValid old → MovesTasks core gone old new
+        → ArePassesOf old passing
         → IfSome result (ArePassesOf new) }
 {
     move_lists(alloc, &mut passing.chains, gone).ok()?;
     Some(passing)
 }
 
-/// Whether no group of a chain is of a task of this core.
+/// Whether a chain passes no task of this core.
 fn avoids_core(model: &ValidModel, core: u32, chain: u32) -> bool
     requires { chain < length model.now.chains }
     ensures { IsTrue result ↔ AvoidsCore core model.now chain }
@@ -80,13 +85,15 @@ fn avoids_core(model: &ValidModel, core: u32, chain: u32) -> bool
     true
 }
 
-/// Whether what was found of a chain stands where a task of this core is added or dropped: it passes none of that core,
-/// and none that is late, since what is found of a late chain names the task.
+/// Whether the findings of a chain still hold after a task of this core is added or dropped: the
+/// chain passes no task of the core and no late task. The answer for a chain with a late task has
+/// the number of that task, which may change.
 fn stands(findings: &Findings, new: &ValidModel, site: Site, chain: u32) -> bool
     requires known { chain < length new.now.chains }
     requires count { length findings.now.chains ≡ length new.now.chains }
     ensures { (old : SystemModel) → IsValid old → IsValid new.now → AreFindings old findings.now
-        → MovesTasks site.core site.gone old new.now → IsTrue result → StaysFound old new.now chain }
+        → MovesTasks site.core site.gone old new.now → IsTrue result
+        → StaysFound old new.now chain }
 {
     match findings.chains.as_slice()[chain as usize] {
         ChainAnswer::Late { .. } => false,
@@ -94,7 +101,8 @@ fn stands(findings: &Findings, new: &ValidModel, site: Site, chain: u32) -> bool
     }
 }
 
-/// The chains of which something may be found anew, in rising order: what was found of the others stands.
+/// Lists the chains whose findings may change, in rising order. The earlier findings of all other
+/// chains still hold.
 fn chains_at(
     alloc: Global,
     old: &ValidModel,
@@ -118,8 +126,9 @@ fn chains_at(
     Ok(chains)
 }
 
-/// What is found anew of a model in which a task is added or dropped. `tasks` are the answers for the tasks before once
-/// more.
+/// Finds what changes where a task is added or dropped. `tasks` is a copy of the answers for the
+/// tasks of the old model. Counts at most one step for each task, and two for each chain, with a
+/// changed question.
 pub(crate) fn news_at<L: Ledger>(
     alloc: Global,
     old: &ValidModel,
@@ -135,8 +144,10 @@ pub(crate) fn news_at<L: Ledger>(
     requires tasks { tasks ≡ findings.now.tasks }
     requires moves { MovesTasks site.core site.gone old.now new.now }
     ensures news { IfOk result (AreNewsOf old.now new.now) }
-    ensures asked_below { IfOk result (λ news. All (λ task. task < length new.now.tasks) news.asked.items) }
-    ensures asked { IfOk result (λ news. AreAnswersBut news.asked.items (moved site.gone Late (answers_of (system_of old.now))) new.now) }
+    ensures asked_below { IfOk result
+        (λ news. All (λ task. task < length new.now.tasks) news.asked.items) }
+    ensures asked { IfOk result
+        (λ news. AreAnswersBut news.asked.items (moved site.gone Late (answers_of (system_of old.now))) new.now) }
     ensures steps { AsksForChanges old.now new.now steps.old steps.new }
 {
     move_answers(&mut tasks, site.gone)?;
@@ -162,8 +173,9 @@ pub(crate) fn news_at<L: Ledger>(
     })
 }
 
-/// The twin of a model in which a task is added or dropped. `tasks` are the answers for the tasks before, which are moved
-/// and brought up to the new ones where there is memory for that.
+/// Makes the twin of a model in which a task is added or dropped: applies the same edit to the old
+/// model, and brings `tasks`, the answers for its tasks, up to `answers`. `None` comes where there
+/// is no memory for it.
 pub(crate) fn caught_up_at(
     alloc: Global,
     old: ValidModel,
@@ -177,7 +189,9 @@ pub(crate) fn caught_up_at(
     requires passes { edited old edit.now ≡ Ok (with_edit old edit.now) }
     requires count { length (moved gone Late tasks) ≡ length answers.now }
     requires below { All (λ task. task < length answers.now) asked.now }
-    requires others { (task : ℕ) → task < length answers.now → (answer_at (moved gone Late tasks) task ≡ answer_at answers.now task) ⊎ Contains asked.now task }
+    requires others { (task : ℕ) → task < length answers.now
+        → (answer_at (moved gone Late tasks) task ≡ answer_at answers.now task)
+        ⊎ Contains asked.now task }
     ensures { IfSome result (IsEditedTwin old edit.now answers.now) }
 {
     move_answers(&mut tasks, gone).ok()?;

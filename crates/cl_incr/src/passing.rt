@@ -9,12 +9,13 @@ use cl_model::{List, ValidModel};
 use cl_time::NoMemory;
 use std::alloc::Global;
 
-/// Which chains pass each task, and which requirements name each chain: what an edit of some tasks concerns.
+/// The chains that pass each task, and the requirements that name each chain. They say what an edit
+/// of some tasks can change.
 #[derive(Drop)]
 pub(crate) struct Passing {
-    /// For each task the chains that pass it.
+    /// The chains that pass a task, for each task in file order.
     pub(crate) chains: Vec<List<u32>>,
-    /// For each chain the requirements that name it.
+    /// The requirements that name a chain, for each chain in file order.
     pub(crate) requirements: Vec<List<u32>>,
 }
 
@@ -33,7 +34,7 @@ fn put_chain(lists: &mut Vec<List<u32>>, model: &ValidModel, chain: u32) -> Resu
     Ok(())
 }
 
-/// For each task the chains that pass it.
+/// Lists, for each task, the chains that pass it.
 fn passing_chains(alloc: Global, model: &ValidModel) -> Result<Vec<List<u32>>, NoMemory>
     ensures { IfOk result (λ lists. ListChains model.now lists.items) }
 {
@@ -66,7 +67,7 @@ fn put_requirement(
     }
 }
 
-/// For each chain the requirements that name it.
+/// Lists, for each chain, the requirements that name it.
 fn naming_requirements(alloc: Global, model: &ValidModel) -> Result<Vec<List<u32>>, NoMemory>
     ensures { IfOk result (λ lists. ListRequirements model.now lists.items) }
 {
@@ -77,7 +78,7 @@ fn naming_requirements(alloc: Global, model: &ValidModel) -> Result<Vec<List<u32
     Ok(lists)
 }
 
-/// Both for a model.
+/// Lists the chains that pass each task of a model, and the requirements that name each chain.
 pub(crate) fn passing_of(alloc: Global, model: &ValidModel) -> Result<Passing, NoMemory>
     ensures { IfOk result (ArePassesOf model.now) }
 {

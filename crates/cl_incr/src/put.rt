@@ -1,4 +1,4 @@
-//! What is found anew is put in the place of what was found before. No call takes memory. Times are in ticks.
+//! New findings replace earlier ones. No call takes memory. Times are in ticks.
 ghost use Rattle.std.specs.Prelude.{◌≡◌, ℕ, ◌<◌, ◌⊎◌, length, All, Contains};
 ghost use Rattle.cl_model.specs.declared.model.SystemModel.{SystemModel};
 ghost use Rattle.cl_runs.specs.Requirements.{requirement_at};
@@ -13,7 +13,7 @@ use cl_analyse::{ChainAnswer, ExactAnswer, Findings, Verdict, judge};
 use cl_model::{List, ValidModel};
 use std::mem;
 
-/// Puts what is found of some chains in its place. The other chains keep what they have.
+/// Replaces the findings of some chains. All other chains keep theirs.
 fn put_chains(chains: &mut List<ChainAnswer>, exacts: &mut List<ExactAnswer>, found: &[FoundChain])
     requires chains { All (λ chain. chain < length chains.old) (chains_found found.now) }
     requires exacts { length exacts.old ≡ length chains.old }
@@ -26,7 +26,7 @@ fn put_chains(chains: &mut List<ChainAnswer>, exacts: &mut List<ExactAnswer>, fo
     }
 }
 
-/// Judges these requirements again. The verdicts on the others stand.
+/// Judges these requirements again. All other verdicts stay as they are.
 fn judge_again(
     model: &ValidModel,
     chains: &List<ChainAnswer>,
@@ -35,9 +35,11 @@ fn judge_again(
     requirements: &[u32],
 )
     requires count { length verdicts.old ≡ length model.now.requirements }
-    requires below { All (λ requirement. requirement < length model.now.requirements) requirements.now }
+    requires below { All
+        (λ requirement. requirement < length model.now.requirements) requirements.now }
     requires others { (requirement : ℕ) → requirement < length model.now.requirements
-        → (verdict_at verdicts.old requirement ≡ verdict_of model.now chains.now exacts.now (requirement_at model.now requirement))
+        → (verdict_at verdicts.old requirement
+        ≡ verdict_of model.now chains.now exacts.now (requirement_at model.now requirement))
         ⊎ Contains requirements.now requirement }
     ensures { verdicts.new ≡ verdicts_of model.now chains.now exacts.now }
 {
@@ -48,10 +50,11 @@ fn judge_again(
     }
 }
 
-/// Puts the news on a model in the place of what was found of the one before. The answers for the tasks change places
-/// with the new ones.
+/// Replaces the findings that an edit changes, which are then those of the edited model. The
+/// answers for the tasks of the model before are left in `news`.
 pub(crate) fn put_news(model: &ValidModel, findings: &mut Findings, news: &mut News)
-    requires { (old : SystemModel) × AreFindings old findings.old × KeepsChains old model.now × AreNewsOf old model.now news.old }
+    requires { (old : SystemModel) × AreFindings old findings.old × KeepsChains old model.now
+        × AreNewsOf old model.now news.old }
     ensures found { AreFindings model.now findings.new }
     ensures tasks { findings.new.tasks ≡ news.old.tasks }
     ensures old_tasks { news.new.tasks ≡ findings.old.tasks }

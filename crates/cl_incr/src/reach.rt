@@ -1,4 +1,4 @@
-//! What an edit reaches: tasks that it may give other timings, or a task or a chain that it adds or drops.
+//! What an edit may change: the timings of tasks, or a task or a chain that it adds or drops.
 ghost use Rattle.std.specs.Prelude.{◌≡◌, ◌<◌, [], length, Ok, IfOk};
 ghost use Rattle.cl_model.specs.ByNumber.{core_of};
 ghost use Rattle.cl_model.specs.Named.{task_names, chain_names};
@@ -11,28 +11,28 @@ use cl_model::{List, Name, ValidModel};
 use cl_time::NoMemory;
 use std::alloc::Global;
 
-/// Where an edit adds a task behind the others, or drops one: its core, and the number of the task that is dropped. Where
-/// none is, that is past the last.
+/// Where an edit appends or drops a task: the core of the task, and the number of a dropped task.
+/// Where a task is appended, `gone` is its number, one past the last task before.
 #[derive(Clone, Copy)]
 pub(crate) struct Site {
     pub(crate) core: u32,
     pub(crate) gone: u32,
 }
 
-/// What an edit reaches.
+/// What an edit may change.
 #[derive(Drop)]
 pub(crate) enum Reach {
-    /// It may give these tasks other timings. Each task and each chain keeps its number.
+    /// The timings of these tasks. Each task and each chain keeps its number.
     Timings(List<u32>),
-    /// It adds or drops a task there. Each chain keeps its number.
+    /// A task is appended or dropped here. Each chain keeps its number.
     Task(Site),
-    /// It adds a chain behind the others.
+    /// A chain is appended.
     NewChain,
-    /// It drops the chain of this number.
+    /// The chain of this number is dropped.
     Chain(u32),
 }
 
-/// Where a task is added behind the others.
+/// The site of the task that was appended.
 fn site_of_new(old: &ValidModel, new: &ValidModel) -> Site
     requires { length old.now.tasks < length new.now.tasks }
     ensures gone { result.gone ≡ length old.now.tasks }
@@ -46,7 +46,7 @@ fn site_of_new(old: &ValidModel, new: &ValidModel) -> Site
     }
 }
 
-/// Where the task of this name is dropped.
+/// The site of the dropped task of this name.
 fn site_of_task(old: &ValidModel, task: &Name) -> Site
     requires { found task.now (task_names old.now) ≡ [] }
     ensures gone { result.gone ≡ task_number old.now task.now }
@@ -75,7 +75,7 @@ fn chain_of_name(old: &ValidModel, chain: &Name) -> u32
     }
 }
 
-/// What an edit that was made reaches.
+/// Finds what an edit may have changed that made one model of another.
 pub(crate) fn reach_of(
     alloc: Global,
     old: &ValidModel,

@@ -1,4 +1,4 @@
-//! A session over a model that is edited.
+//! Sessions: a model that is edited, and its findings.
 ghost use Rattle.std.specs.Prelude.{◌≡◌, ◌+◌, ◌*◌, ◌<◌, ◌≤◌, length, Ok, Err, IfOk, IfErr, OnOk, OnErr, All};
 ghost use Rattle.cl_model.specs.declared.model.SystemModel.{SystemModel};
 ghost use Rattle.cl_model.specs.declared.refusal.Refusal.{Refusal};
@@ -34,16 +34,18 @@ use std::marker::Model;
 use std::mem;
 use std::sync::ledger::Ledger;
 
-/// A model that is edited, with its findings. An edit costs what it touches, so two things are kept beside them, where
-/// there was memory for it.
+/// A model that is edited, together with its findings. To find anew only what an edit touches, it
+/// keeps two more things where there is memory for them.
 #[derive(Drop)]
 pub struct Session {
     alloc: Global,
     model: ValidModel,
     findings: Findings,
-    /// The model once more: the next edit changes it in place, so that the questions of both can be compared.
+    /// A copy of the model and of the answers for its tasks. The next edit changes it in place, so
+    /// that the questions before and after can be compared.
     twin: Option<Twin>,
-    /// The chains that pass each task. They are forgotten where a chain is added or dropped.
+    /// The chains that pass each task, and the requirements that name each chain. They are
+    /// discarded when a chain is added or dropped.
     passing: Option<Passing>,
 }
 
@@ -59,8 +61,9 @@ impl Model for Session {
 }
 
 impl Session {
-    /// A session over a model, which is analysed: a step at most for each task, and two for each chain. `NoMemory`
-    /// comes where there is no memory for the findings or for a question; it leaves nothing.
+    /// Starts a session over a model and analyses it. Counts at most one step for each task and two
+    /// for each chain. `NoMemory` comes where there is no memory for the findings or for a
+    /// question. It leaves nothing of the model.
     pub fn start<L: Ledger>(
         alloc: Global,
         model: ValidModel,
@@ -80,24 +83,28 @@ impl Session {
         })
     }
 
-    /// Edits the model. Its findings are then those of a fresh analysis of the edited model, but only questions that
-    /// are changed are asked: a step at most for each task whose question is changed, and two for each such chain,
-    /// whatever is answered. `Edit::Report` changes nothing, takes no memory and is always Ok.
+    /// Applies an edit to the model. The findings are then those of a fresh analysis of the edited
+    /// model, but only questions that changed are answered again. Whatever the result is, it counts
+    /// at most one step for each task, and two for each chain, whose question changed.
+    /// `Edit::Report` changes nothing, takes no memory and is always `Ok`.
     ///
-    /// It is refused exactly where the edited model is, with the first refusal; that counts no step. `NoMemory` comes
-    /// where there is no memory for the edited model, for its findings or for a question. Either leaves the session as
-    /// it was.
+    /// An edit is refused exactly where the edited model is, with its first refusal, and counts no
+    /// step. `NoMemory` comes where there is no memory for the edited model, for its findings or
+    /// for a question. Either error leaves the session as it was.
     pub fn apply<L: Ledger>(&mut self, edit: &Edit, steps: &mut Steps<L>) -> Result<(), ModelFault>
         requires { IsEditInRange edit.now }
         ensures model { OnOk result (edited self.old.model edit.now ≡ Ok self.new.model) }
         ensures findings { AreFindings self.new.model self.new.findings }
-        ensures refused { IfErr result (λ fault. (refusal : Refusal) → fault ≡ ModelFault.Refused refusal
+        ensures refused { IfErr result
+            (λ fault. (refusal : Refusal) → fault ≡ ModelFault.Refused refusal
             → edited self.old.model edit.now ≡ Err refusal) }
         ensures unchanged { OnErr result (self.new ≡ self.old) }
-        ensures report { edit.now ≡ Edit.Report → (result ≡ Ok tt) × (self.new ≡ self.old) × (steps.new ≡ steps.old) }
+        ensures report { edit.now ≡ Edit.Report
+            → (result ≡ Ok tt) × (self.new ≡ self.old) × (steps.new ≡ steps.old) }
         ensures steps { (changed : SystemModel) → edited self.old.model edit.now ≡ Ok changed
             → AsksForChanges self.old.model changed steps.old steps.new }
-        ensures refused_steps { (refusal : Refusal) → edited self.old.model edit.now ≡ Err refusal → steps.new ≡ steps.old }
+        ensures refused_steps { (refusal : Refusal) → edited self.old.model edit.now ≡ Err refusal
+            → steps.new ≡ steps.old }
     {
         // a report keeps the model, since it is valid, and the findings, since they are its own
         let _plain = self.model().plain();
@@ -108,7 +115,7 @@ impl Session {
         }
     }
 
-    /// What is found of the model: what a fresh analysis finds.
+    /// The findings of the model, which are those of a fresh analysis.
     pub fn findings(&self) -> &Findings
         ensures findings { result.now ≡ self.now.findings }
         ensures found { AreFindings self.now.model result.now }
@@ -116,31 +123,34 @@ impl Session {
         &self.findings
     }
 
-    /// The model as it is edited so far.
+    /// The model with all edits so far.
     pub fn model(&self) -> &ValidModel
         ensures { result.now ≡ self.now.model }
     {
         &self.model
     }
 
-    /// Makes an edit of any kind.
+    /// Checks an edit and applies it.
     fn change<L: Ledger>(&mut self, edit: &Edit, steps: &mut Steps<L>) -> Result<(), ModelFault>
         requires { IsEditInRange edit.now }
         ensures model { OnOk result (edited self.old.model edit.now ≡ Ok self.new.model) }
         ensures findings { AreFindings self.new.model self.new.findings }
-        ensures refused { IfErr result (λ fault. (refusal : Refusal) → fault ≡ ModelFault.Refused refusal
+        ensures refused { IfErr result
+            (λ fault. (refusal : Refusal) → fault ≡ ModelFault.Refused refusal
             → edited self.old.model edit.now ≡ Err refusal) }
         ensures unchanged { OnErr result (self.new ≡ self.old) }
         ensures steps { (changed : SystemModel) → edited self.old.model edit.now ≡ Ok changed
             → AsksForChanges self.old.model changed steps.old steps.new }
-        ensures refused_steps { (refusal : Refusal) → edited self.old.model edit.now ≡ Err refusal → steps.new ≡ steps.old }
+        ensures refused_steps { (refusal : Refusal) → edited self.old.model edit.now ≡ Err refusal
+            → steps.new ≡ steps.old }
     {
         check(self.alloc, &self.model, edit)?;
         self.make(edit, steps)?;
         Ok(())
     }
 
-    /// Makes an edit that may be made.
+    /// Applies an edit that no check refuses. `NoMemory` leaves the model and the findings as they
+    /// were.
     fn make<L: Ledger>(&mut self, edit: &Edit, steps: &mut Steps<L>) -> Result<(), NoMemory>
         requires in_range { IsEditInRange edit.now }
         requires passes { edited self.old.model edit.now ≡ Ok (with_edit self.old.model edit.now) }
@@ -149,7 +159,7 @@ impl Session {
         ensures unchanged { OnErr result (self.new ≡ self.old) }
         ensures steps { AsksForChanges self.old.model (with_edit self.old.model edit.now) steps.old steps.new }
     {
-        // the findings stay those of the model where there is no memory for another
+        // where there is no memory for an edited model, the findings stay those of the model
         let _findings = self.findings();
         let Twin { model, tasks } = self.take_twin()?;
         let model = change_valid(self.alloc, model, edit)?;
@@ -164,7 +174,7 @@ impl Session {
         }
     }
 
-    /// The model once more, with the answers for its tasks: its twin, or else a copy.
+    /// Takes the twin, or makes one: a copy of the model and of the answers for its tasks.
     fn take_twin(&mut self) -> Result<Twin, NoMemory>
         ensures twin { IfOk result (IsTwinOf self.old.model self.old.findings.tasks) }
         ensures unchanged { self.new ≡ self.old }
@@ -175,7 +185,7 @@ impl Session {
         }
     }
 
-    /// The chains that pass each task of the model.
+    /// Takes the lists of the chains that pass each task, or makes them.
     fn take_passing(&mut self) -> Result<Passing, NoMemory>
         ensures passing { IfOk result (ArePassesOf self.old.model) }
         ensures unchanged { self.new ≡ self.old }
@@ -186,7 +196,8 @@ impl Session {
         }
     }
 
-    /// Turns to an edited model, in which these tasks are touched. Only what they concern is found anew.
+    /// Replaces the model by an edited one in which only these tasks are touched, and finds anew
+    /// only what they concern. `tasks` is a copy of the answers for the tasks.
     fn mend<L: Ledger>(
         &mut self,
         model: ValidModel,
@@ -220,7 +231,8 @@ impl Session {
         Ok(())
     }
 
-    /// Turns to an edited model in which a task is added or dropped.
+    /// Replaces the model by an edited one in which a task is added or dropped. `tasks` is a copy
+    /// of the answers for the tasks before.
     fn move_tasks<L: Ledger>(
         &mut self,
         model: ValidModel,
@@ -254,7 +266,8 @@ impl Session {
         Ok(())
     }
 
-    /// Turns to an edited model in which a chain is added. `tasks` are the answers for the tasks once more.
+    /// Replaces the model by an edited one in which a chain is added. `tasks` is a copy of the
+    /// answers for the tasks.
     fn add_chain<L: Ledger>(
         &mut self,
         model: ValidModel,
@@ -281,7 +294,8 @@ impl Session {
         Ok(())
     }
 
-    /// Turns to an edited model in which a chain is dropped. `tasks` are the answers for the tasks once more.
+    /// Replaces the model by an edited one in which a chain is dropped. `tasks` is a copy of the
+    /// answers for the tasks.
     fn drop_chain(&mut self, model: ValidModel, tasks: List<TaskAnswer>, gone: u32, edit: &Edit)
         requires in_range { IsEditInRange edit.now }
         requires made { edited self.old.model edit.now ≡ Ok model }
@@ -297,8 +311,8 @@ impl Session {
         self.passing = None;
     }
 
-    /// Puts the edited model and the news on it in the place of what the session held. What it held is brought up to
-    /// the same for the next edit.
+    /// Replaces the model by an edited one, and the findings by the news on it. The old model
+    /// becomes the twin for the next edit.
     fn take_news(&mut self, model: ValidModel, mut news: News, passing: Passing, edit: &Edit)
         requires in_range { IsEditInRange edit.now }
         requires made { edited self.old.model edit.now ≡ Ok model }
@@ -323,8 +337,8 @@ impl Session {
         self.passing = Some(passing);
     }
 
-    /// Puts the edited model, in which a task is added or dropped, and the news on it in the place of what the session
-    /// held. What it held is brought up to the same for the next edit.
+    /// Replaces the model by an edited one in which a task is added or dropped, and the findings by
+    /// the news on it. The old model becomes the twin for the next edit.
     fn take_moved(
         &mut self,
         model: ValidModel,
@@ -360,11 +374,12 @@ impl Session {
     }
 }
 
-/// Whether an edit may be made of a model.
+/// Checks whether an edit may be applied to a model. Changes nothing.
 fn check(alloc: Global, model: &ValidModel, edit: &Edit) -> Result<(), ModelFault>
     requires { IsEditInRange edit.now }
     ensures made { OnOk result (edited model.now edit.now ≡ Ok (with_edit model.now edit.now)) }
-    ensures refused { IfErr result (λ fault. (refusal : Refusal) → fault ≡ ModelFault.Refused refusal
+    ensures refused { IfErr result
+        (λ fault. (refusal : Refusal) → fault ≡ ModelFault.Refused refusal
         → edited model.now edit.now ≡ Err refusal) }
 {
     check_edit(alloc, model, edit)

@@ -1,5 +1,5 @@
-//! The answers for the tasks of an edited model: those that stood before where the questions are the same, and else
-//! asked anew. Times are in ticks.
+//! The answers for the tasks of an edited model: the earlier ones where the question is the same,
+//! and else new ones. Times are in ticks.
 ghost use Rattle.std.specs.Prelude.{◌≡◌, ℕ, ◌<◌, ◌↔◌, length, IfOk, IsTrue};
 ghost use Rattle.cl_model.specs.declared.model.SystemModel.{SystemModel};
 ghost use Rattle.cl_runs.specs.SystemOf.{system_of};
@@ -18,7 +18,7 @@ use cl_time::{NoMemory, Steps};
 use std::alloc::Global;
 use std::sync::ledger::Ledger;
 
-/// Whether two questions of tasks of models are the same.
+/// Whether the questions of two tasks are the same.
 fn is_same_question(one: &Question, other: &Question) -> bool
     ensures { (old new : SystemModel) → (before task : ℕ) → one.now ≡ question_at old before
         → other.now ≡ question_at new task → IsTrue result ↔ (one.now ≡ other.now) }
@@ -26,8 +26,8 @@ fn is_same_question(one: &Question, other: &Question) -> bool
     one == other
 }
 
-/// The answer that stood before for a task, which has this question now. It is kept where the task of that name had the
-/// same question.
+/// Returns the earlier answer for the old model's task of the same name, if it had this question.
+/// There is none where no task had the name, or its question was another one.
 fn kept_answer(
     alloc: Global,
     old: &ValidModel,
@@ -52,7 +52,8 @@ fn kept_answer(
     }
 }
 
-/// The answer for a task of the new model, which counts a step where its question is changed.
+/// Finds the answer for a task of the new model. Counts at most one step, and only where its
+/// question is changed.
 pub(crate) fn answer_task<L: Ledger>(
     alloc: Global,
     old: &ValidModel,
@@ -63,7 +64,8 @@ pub(crate) fn answer_task<L: Ledger>(
 ) -> Result<TaskAnswer, NoMemory>
     requires answers { answers.now ≡ answers_of (system_of old.now) }
     requires task { task < length new.now.tasks }
-    ensures answer { IfOk result (λ answer. answer ≡ answer_to (system_of new.now) (timing_at (system_of new.now) task)) }
+    ensures answer { IfOk result
+        (λ answer. answer ≡ answer_to (system_of new.now) (timing_at (system_of new.now) task)) }
     ensures steps { AsksOne (IsChangedTask old.now new.now task) 1 steps.old steps.new }
 {
     let question = ask(alloc, new, task)?;

@@ -1,5 +1,5 @@
-//! What an edit touches, where each task and each chain keeps its number: the tasks that it may give other timings, and
-//! the tasks of their cores, which may get other answers. Times are in ticks.
+//! What an edit touches that keeps the number of each task and each chain: the tasks whose timings
+//! it may change, and the tasks of their cores, whose answers may change. Times are in ticks.
 ghost use Rattle.std.specs.Prelude.{◌≡◌, ℕ, ◌<◌, ◌⊎◌, ◌↔◌, [], ◌∷◌, ◌++◌, cond, length, IsTrue, IfOk, OnOk, All, Contains};
 ghost use Rattle.std.specs.List.Sorted.{IsStrictlyIncreasing};
 ghost use Rattle.cl_model.specs.ByNumber.{core_of, stimulus_of, tasks_of_core};
@@ -30,7 +30,7 @@ fn two_tasks(alloc: Global, one: u32, other: u32) -> Result<List<u32>, NoMemory>
     Ok(tasks)
 }
 
-/// The task of the runnable of that name.
+/// Lists the task of the runnable of this name.
 pub(crate) fn task_of_runnable(
     alloc: Global,
     model: &ValidModel,
@@ -46,7 +46,7 @@ pub(crate) fn task_of_runnable(
     }
 }
 
-/// The task of that name.
+/// Lists the task of this name.
 pub(crate) fn task_named(
     alloc: Global,
     model: &ValidModel,
@@ -62,7 +62,7 @@ pub(crate) fn task_named(
     }
 }
 
-/// The tasks of two names.
+/// Lists the tasks of these two names.
 pub(crate) fn tasks_named(
     alloc: Global,
     model: &ValidModel,
@@ -71,7 +71,8 @@ pub(crate) fn tasks_named(
 ) -> Result<List<u32>, NoMemory>
     requires one { found one.now (task_names model.now) ≡ [] }
     requires other { found other.now (task_names model.now) ≡ [] }
-    ensures tasks { IfOk result (λ tasks. tasks ≡ task_number model.now one.now ∷ task_number model.now other.now ∷ []) }
+    ensures tasks { IfOk result
+        (λ tasks. tasks ≡ task_number model.now one.now ∷ task_number model.now other.now ∷ []) }
     ensures one_known { task_number model.now one.now < length model.now.tasks }
     ensures other_known { task_number model.now other.now < length model.now.tasks }
 {
@@ -88,14 +89,15 @@ fn is_same_kind(one: StimulusKind, other: StimulusKind) -> bool
     one == other
 }
 
-/// Appends a task, unless a test holds.
+/// Appends a task unless `test` holds.
 pub(crate) fn push_unless(tasks: &mut List<u32>, test: bool, task: u32) -> Result<(), NoMemory>
     ensures { OnOk result (tasks.new ≡ cond test tasks.old (tasks.old ++ task ∷ [])) }
 {
     if test { Ok(()) } else { tasks.push(task) }
 }
 
-/// The tasks whose stimuli are of other kinds, or have other numbers, in another model of the same tasks.
+/// Lists the tasks whose stimuli differ between two models of the same tasks, in kind or in
+/// numbers.
 pub(crate) fn tasks_of_other_kinds(
     alloc: Global,
     old: &ValidModel,
@@ -114,7 +116,7 @@ pub(crate) fn tasks_of_other_kinds(
     Ok(tasks)
 }
 
-/// The cores of these tasks, before a change and after it, in rising order.
+/// Lists the cores of these tasks, both before and after a change, in rising order.
 fn cores_of(
     alloc: Global,
     old: &ValidModel,
@@ -124,7 +126,8 @@ fn cores_of(
     requires { Touches old.now new.now tasks.now }
     ensures below { IfOk result (λ cores. All (λ core. core < length new.now.cores) cores.items) }
     ensures all { IfOk result (λ cores. All (λ task.
-        Contains cores.items (core_of old.now task) × Contains cores.items (core_of new.now task)) tasks.now) }
+        Contains cores.items (core_of old.now task)
+        × Contains cores.items (core_of new.now task)) tasks.now) }
 {
     let mut cores = Vec::new(alloc);
     for task in tasks.as_slice() {
@@ -135,7 +138,7 @@ fn cores_of(
     Ok(cores)
 }
 
-/// The tasks of these cores, in rising order.
+/// Lists the tasks of these cores, in rising order.
 pub(crate) fn tasks_of_cores(
     alloc: Global,
     model: &ValidModel,
@@ -144,7 +147,8 @@ pub(crate) fn tasks_of_cores(
     requires { All (λ core. core < length model.now.cores) cores.now }
     ensures rising { IfOk result (λ tasks. IsStrictlyIncreasing tasks.items) }
     ensures below { IfOk result (λ tasks. All (λ task. task < length model.now.tasks) tasks.items) }
-    ensures all { IfOk result (λ tasks. All (λ core. All (Contains tasks.items) (tasks_of_core model.now core)) cores.now) }
+    ensures all { IfOk result
+        (λ tasks. All (λ core. All (Contains tasks.items) (tasks_of_core model.now core)) cores.now) }
 {
     let mut tasks = Vec::new(alloc);
     for core in cores {
@@ -154,7 +158,8 @@ pub(crate) fn tasks_of_cores(
     Ok(tasks)
 }
 
-/// The tasks whose answers may change, in rising order: those of the cores of the tasks that are touched.
+/// Lists the tasks whose answers may change, in rising order: those on the cores, before and after
+/// the change, of the tasks that are touched.
 pub(crate) fn tasks_to_ask(
     alloc: Global,
     old: &ValidModel,

@@ -1,4 +1,5 @@
-//! A model once more, with the answers for its tasks, for the next edit to change. Times are in ticks.
+//! A copy of a model with the answers for its tasks, which the next edit changes. Times are in
+//! ticks.
 ghost use Rattle.std.specs.Prelude.{◌≡◌, ℕ, ◌<◌, ◌⊎◌, length, IfOk, IfSome, Ok, All, Contains};
 ghost use Rattle.cl_bound.specs.Answers.{answer_at};
 ghost use Rattle.cl_edit.specs.Edited.{with_edit, edited};
@@ -11,14 +12,14 @@ use cl_model::{List, ValidModel};
 use cl_time::NoMemory;
 use std::alloc::Global;
 
-/// A model once more, with the answers for its tasks.
+/// A copy of a model, and of the answers for its tasks.
 #[derive(Drop)]
 pub(crate) struct Twin {
     pub(crate) model: ValidModel,
     pub(crate) tasks: List<TaskAnswer>,
 }
 
-/// The same answers once more.
+/// Copies answers.
 fn copy_answers(alloc: Global, answers: &List<TaskAnswer>) -> Result<List<TaskAnswer>, NoMemory>
     ensures { IfOk result (λ copy. copy ≡ answers.now) }
 {
@@ -29,7 +30,7 @@ fn copy_answers(alloc: Global, answers: &List<TaskAnswer>) -> Result<List<TaskAn
     Ok(copy)
 }
 
-/// A model and the answers for its tasks once more.
+/// Copies a model and the answers for its tasks.
 pub(crate) fn twin_of(
     alloc: Global,
     model: &ValidModel,
@@ -42,7 +43,8 @@ pub(crate) fn twin_of(
     Ok(Twin { model, tasks })
 }
 
-/// The twin of an edited model with these answers: the model before, which is edited too where there is memory for that.
+/// Makes the twin of an edited model: applies the same edit to the old model, and joins it with
+/// these answers. `None` comes where there is no memory for the edit.
 pub(crate) fn twin_with(
     alloc: Global,
     old: ValidModel,
@@ -57,11 +59,13 @@ pub(crate) fn twin_with(
     Some(Twin { model, tasks })
 }
 
-/// Brings answers up to these ones, where those for other tasks than these are the same already.
+/// Replaces the answers for these tasks by those in `new`. The answers for all other tasks are
+/// those in `new` already.
 fn catch_up(answers: &mut List<TaskAnswer>, tasks: &[u32], new: &List<TaskAnswer>)
     requires count { length answers.old ≡ length new.now }
     requires below { All (λ task. task < length new.now) tasks.now }
-    requires others { (task : ℕ) → task < length new.now → (answer_at answers.old task ≡ answer_at new.now task) ⊎ Contains tasks.now task }
+    requires others { (task : ℕ) → task < length new.now
+        → (answer_at answers.old task ≡ answer_at new.now task) ⊎ Contains tasks.now task }
     ensures { answers.new ≡ new.now }
 {
     for task in tasks {
@@ -70,7 +74,8 @@ fn catch_up(answers: &mut List<TaskAnswer>, tasks: &[u32], new: &List<TaskAnswer
     }
 }
 
-/// The twin of an edited model, with the answers for its tasks, which are brought up to the new ones.
+/// As `twin_with`, but first brings `tasks` up to `answers`. Only the answers for `asked` may
+/// differ between them.
 pub(crate) fn caught_up(
     alloc: Global,
     old: ValidModel,
@@ -83,7 +88,8 @@ pub(crate) fn caught_up(
     requires passes { edited old edit.now ≡ Ok (with_edit old edit.now) }
     requires count { length tasks ≡ length answers.now }
     requires below { All (λ task. task < length answers.now) asked.now }
-    requires others { (task : ℕ) → task < length answers.now → (answer_at tasks task ≡ answer_at answers.now task) ⊎ Contains asked.now task }
+    requires others { (task : ℕ) → task < length answers.now
+        → (answer_at tasks task ≡ answer_at answers.now task) ⊎ Contains asked.now task }
     ensures { IfSome result (IsEditedTwin old edit.now answers.now) }
 {
     catch_up(&mut tasks, asked, answers);

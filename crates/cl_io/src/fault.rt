@@ -1,6 +1,6 @@
 use thiserror::Error;
 
-/// Why a fetch gave no bytes.
+/// Why a fetch returned no bytes.
 #[derive(Clone, Copy, Debug, PartialEq, Eq, Error)]
 pub enum FetchFault {
     /// The file couldn't be read.
@@ -9,17 +9,18 @@ pub enum FetchFault {
     /// The file has more bytes than the limit.
     #[error("the file is too long: more than {taken} bytes")]
     Long {
-        /// How many bytes were taken before the fetch stopped, more than the limit.
+        /// How many bytes were taken before the fetch stopped: more than the limit.
         taken: u64,
     },
-    /// No memory was found for the file.
+    /// There is no memory for the file.
     #[error("memory ran out")]
     NoMemory,
 }
 
-/// Why a sink took nothing.
+/// Why a sink took no bytes.
 #[derive(Clone, Copy, Debug, PartialEq, Eq, Error)]
 pub enum SinkFault {
+    /// The output couldn't be written.
     #[error("the output couldn't be written")]
     Failed,
 }
@@ -27,6 +28,7 @@ pub enum SinkFault {
 /// Why a piece wasn't written whole.
 #[derive(Clone, Copy, Debug, PartialEq, Eq, Error)]
 pub enum WriteFault {
+    /// The sink failed before the whole piece was written.
     #[error("the output stopped after {written} bytes")]
     Failed {
         /// How many bytes of the piece were written before the sink failed.

@@ -7,7 +7,7 @@ use cl_time::NoMemory;
 use std::alloc::Global;
 use std::collections::BTreeMap;
 
-/// The files that a shelf in memory holds, by their names.
+/// The files of a shelf in memory, by name.
 #[derive(Drop)]
 pub(crate) struct Files {
     alloc: Global,
@@ -15,6 +15,7 @@ pub(crate) struct Files {
 }
 
 impl Files {
+    /// Creates an empty list of files. Takes no memory.
     pub(crate) fn new(alloc: Global) -> Self
         ensures { SameAtEach (λ _. None) (file_of result) }
     {
@@ -24,7 +25,7 @@ impl Files {
         }
     }
 
-    /// The file of that name.
+    /// Returns the bytes of the file with this name, or `None` where there is no such file.
     pub(crate) fn get(&self, name: &str) -> Option<&[u8]>
         ensures { option_copied result ≡ file_of self.now name.now }
     {
@@ -34,9 +35,11 @@ impl Files {
         }
     }
 
-    /// Puts a file in place of what stood under the name. Where memory runs out, each file is as it was.
+    /// Puts a file under a name in place of one that was there. After `NoMemory` each file is as it
+    /// was.
     pub(crate) fn put(&mut self, name: &str, content: &[u8]) -> Result<(), NoMemory>
-        ensures ok { OnOk result (ChangesAlone name.now (Some content.now) (file_of self.old) (file_of self.new)) }
+        ensures ok { OnOk result
+            (ChangesAlone name.now (Some content.now) (file_of self.old) (file_of self.new)) }
         ensures err { OnErr result (SameAtEach (file_of self.old) (file_of self.new)) }
     {
         let key = String::from_str(self.alloc, name)?;

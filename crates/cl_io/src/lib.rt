@@ -1,7 +1,8 @@
-//! The outside as the program sees it: shelves that hold files, a sink that takes text, and the words of a command.
+//! The outside as the program sees it: shelves that hold files, sinks that take text, and the words
+//! of a command.
 //!
-//! The traits say what a caller may rely on, whatever stands behind them. The shelves and sinks in memory
-//! are for tests and for callers that keep everything in the process.
+//! The traits say what a caller may rely on, whatever stands behind them. The shelves and sinks in
+//! memory are for tests and for callers that keep everything in the process.
 #![tactic(auto)]
 
 mod fault;

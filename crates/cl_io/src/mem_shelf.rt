@@ -11,8 +11,8 @@ use crate::{FetchFault, NameNumbers, Shelf};
 use cl_time::NoMemory;
 use std::alloc::Global;
 
-/// A shelf in memory that tells what it holds, and fails where it is told to. A fetch of a name that it doesn't
-/// hold fails.
+/// A shelf in memory that tells what it holds and fails where it is told to. A fetch of a name that
+/// it doesn't hold fails too.
 #[derive(Drop)]
 pub struct MemShelf {
     files: Files,
@@ -22,7 +22,7 @@ pub struct MemShelf {
 }
 
 impl MemShelf {
-    /// An empty shelf, on which each number of each name is 0. Takes no memory.
+    /// Creates an empty shelf. Both numbers of each name are 0. Takes no memory.
     pub fn new(alloc: Global) -> Self
         ensures held { SameAtEach (λ _. Absent) (mem_held result) }
         ensures numbers { SameAtEach (λ _. no_numbers) (mem_numbers result) }
@@ -37,10 +37,11 @@ impl MemShelf {
         }
     }
 
-    /// Puts a file on the shelf, in place of what stood under the name. Where memory runs out, the shelf holds what it
-    /// held.
+    /// Puts a file on the shelf under a name, in place of one that was there. After `NoMemory` the
+    /// shelf holds what it held.
     pub fn put(&mut self, name: &str, content: &[u8]) -> Result<(), NoMemory>
-        ensures ok { OnOk result (ChangesAlone name.now (Content content.now) (mem_held self.old) (mem_held self.new)) }
+        ensures ok { OnOk result
+            (ChangesAlone name.now (Content content.now) (mem_held self.old) (mem_held self.new)) }
         ensures err { OnErr result (SameAtEach (mem_held self.old) (mem_held self.new)) }
         ensures numbers { SameAtEach (mem_numbers self.old) (mem_numbers self.new) }
         ensures failing { failing_calls self.new ≡ failing_calls self.old }
@@ -49,7 +50,8 @@ impl MemShelf {
         self.files.put(name, content)
     }
 
-    /// Makes the fetch of that number fail, from 0 for the first. Where memory runs out, the shelf is as it was.
+    /// Makes the fetch with this number fail, counted from 0 over all fetches of the shelf. After
+    /// `NoMemory` the shelf is as it was.
     pub fn fail_call(&mut self, call: u64) -> Result<(), NoMemory>
         ensures ok { OnOk result (failing_calls self.new ≡ failing_calls self.old ++ call ∷ []) }
         ensures err { OnErr result (failing_calls self.new ≡ failing_calls self.old) }
@@ -71,8 +73,10 @@ impl Shelf for MemShelf {
 
     fn fetch(&mut self, alloc: Global, name: &str, limit: u64) -> Result<Vec<u8>, FetchFault>
         ensures same { SameAtEach (mem_held self.old) (mem_held self.new) }
-        ensures faults { RisesAlone name.now (λ n. (mem_numbers self.old n).faults) (λ n. (mem_numbers self.new n).faults) }
-        ensures longest { RisesAlone name.now (λ n. (mem_numbers self.old n).longest) (λ n. (mem_numbers self.new n).longest) }
+        ensures faults { RisesAlone name.now (λ n. (mem_numbers self.old n).faults)
+            (λ n. (mem_numbers self.new n).faults) }
+        ensures longest { RisesAlone name.now (λ n. (mem_numbers self.old n).longest)
+            (λ n. (mem_numbers self.new n).longest) }
         ensures answer { MayAnswer (mem_held self.old name.now) limit
             (mem_numbers self.old name.now) (mem_numbers self.new name.now) result }
 
@@ -99,7 +103,8 @@ impl Shelf for MemShelf {
     }
 }
 
-/// Hands out a copy of what lies under a name, or says that it is too long, and notes how many bytes were taken.
+/// Returns a copy of the content under a name, or `Long` where it has more than `limit` bytes, and
+/// notes how many bytes were taken. After `NoMemory` no number has changed.
 pub(crate) fn give(
     alloc: Global,
     content: &[u8],

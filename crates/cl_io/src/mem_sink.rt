@@ -8,8 +8,8 @@ use cl_time::NoMemory;
 use std::alloc::Global;
 use std::marker::Model;
 
-/// A sink in memory, with room for so many bytes, that takes at most a step of them at a time and fails where it is
-/// told to.
+/// A sink in memory with room for a fixed number of bytes. Each write takes at most `step` of them,
+/// and fails where no room is left or where the sink is told to fail.
 #[derive(Drop)]
 pub struct MemSink {
     bytes: Vec<u8>,
@@ -42,7 +42,8 @@ impl Model for MemSink {
 }
 
 impl MemSink {
-    /// A sink with room for `room` bytes, taken at once, of which one write takes at most `step`.
+    /// Creates a sink with room for `room` bytes, of which one write takes at most `step`. The room
+    /// is allocated here: `NoMemory` comes where there is no memory for it.
     pub fn new(alloc: Global, room: usize, step: usize) -> Result<Self, NoMemory>
         requires { 0 < step }
         ensures { IfOk result (λ sink. sink ≡ new_sink room step) }
@@ -58,16 +59,18 @@ impl MemSink {
         })
     }
 
-    /// Makes the write of that number fail, from 0 for the first. Where memory runs out, the sink is as it was.
+    /// Makes the write with this number fail, counted from 0. After `NoMemory` the sink is as it
+    /// was.
     pub fn fail_call(&mut self, call: u64) -> Result<(), NoMemory>
-        ensures ok { OnOk result (self.new ≡ record self.old { failing = self.old.failing ++ call ∷ [] }) }
+        ensures ok { OnOk result
+            (self.new ≡ record self.old { failing = self.old.failing ++ call ∷ [] }) }
         ensures err { OnErr result (self.new ≡ self.old) }
     {
         self.failing.push(call)?;
         Ok(())
     }
 
-    /// All that was written.
+    /// Returns all bytes that were written.
     pub fn bytes(&self) -> &[u8]
         ensures { result.now ≡ self.now.written }
     {

@@ -4,23 +4,25 @@ ghost use Rattle.cl_io.specs.Sink.{MayTake, MayWrite};
 
 use crate::{SinkFault, WriteFault};
 
-/// Where text goes.
+/// A destination for text.
 pub trait Sink {
-    /// All that was written to it, where it tells that.
+    /// All bytes that were written to it, if it tells that.
     ghost written: { Self → Option (List ℕ) };
 
-    /// How often a write has failed. The count never falls, and at the greatest `u64` it stays there.
+    /// How often a write has failed. The count never falls, and at the greatest `u64` it stays
+    /// there.
     ghost faults: { Self → ℕ };
 
-    /// Whether its last write failed. A sink whose writes can fail keeps it: false until its first write, and from
-    /// then on what each write makes of it.
+    /// Whether the last write failed. A sink whose writes can fail keeps it: false until the first
+    /// write, and after each write whether that one failed.
     ghost last_failed: { Self → Bool };
 
-    /// Takes the first bytes of a piece, and says how many: at least one, where the piece isn't empty.
+    /// Writes the first bytes of a piece and returns how many: at least one, if the piece isn't
+    /// empty.
     ///
-    /// `Failed` comes only where the count of faults rose in this call, by exactly one unless it is at its end, and
-    /// then nothing was taken; where bytes were taken, the count is as it was. Whatever it answers, a sink that tells
-    /// what was written goes on telling it.
+    /// `Failed` comes only where the count of faults rose in this call, by exactly one, or was at
+    /// the greatest `u64` already. Nothing was written then. Where bytes were written, the count is
+    /// as it was. Whatever the answer, a sink that tells what was written goes on telling it.
     fn write(&mut self, piece: &[u8]) -> Result<usize, SinkFault>
         ensures faults { faults self.old ≤ faults self.new }
         ensures answer { MayTake piece.now (faults self.old) (faults self.new) (written self.old) (written self.new) result }
@@ -28,11 +30,13 @@ pub trait Sink {
         ensures last { IsTrue (last_failed self.new) ↔ IsErr result };
 }
 
-/// Writes a whole piece, by as many calls as the sink needs. An empty piece needs none. Takes no memory.
+/// Writes a whole piece, with as many writes as the sink needs, none for an empty piece. Takes no
+/// memory.
 ///
-/// `Failed` comes only where the sink's count of faults rose in this call. The sink has then taken exactly the first
-/// `written` bytes, fewer than the piece has. It isn't called again: one write failed, and it was the last. Where the
-/// piece was written whole no write failed: the count is as it was.
+/// `Failed` comes only where the sink's count of faults rose in this call, by exactly one, or was
+/// at the greatest `u64` already. The sink has then taken exactly the first `written` bytes, fewer
+/// than the piece has, and isn't called again: one write failed, and it was the last. Where the
+/// piece was written whole, no write failed and the count is as it was.
 pub fn write_all<K: Sink>(sink: &mut K, piece: &[u8]) -> Result<(), WriteFault>
     ensures faults { K.faults sink.old ≤ K.faults sink.new }
     ensures answer { MayWrite piece.now (K.faults sink.old) (K.faults sink.new) (K.written sink.old) (K.written sink.new) result }

@@ -9,7 +9,8 @@ use crate::{FetchFault, NameNumbers, Shelf};
 use cl_time::NoMemory;
 use std::alloc::Global;
 
-/// A shelf in memory of which no fetch fails: a name under which nothing was put is an empty file.
+/// A shelf in memory whose fetches never return `Failed`: a name under which nothing was put is an
+/// empty file. They return `Long` only where the file has more bytes than the limit.
 #[derive(Drop)]
 pub struct SureShelf {
     files: Files,
@@ -17,7 +18,8 @@ pub struct SureShelf {
 }
 
 impl SureShelf {
-    /// A shelf on which every name is an empty file that was never fetched. Takes no memory.
+    /// Creates a shelf on which every name is an empty file that was never fetched. Takes no
+    /// memory.
     pub fn new(alloc: Global) -> Self
         ensures held { SameAtEach (λ _. Content []) (sure_held result) }
         ensures longest { SameAtEach (λ _. 0) (sure_longest result) }
@@ -28,10 +30,11 @@ impl SureShelf {
         }
     }
 
-    /// Puts a file on the shelf, in place of what stood under the name. Where memory runs out, the shelf holds what it
-    /// held.
+    /// Puts a file on the shelf under a name, in place of one that was there. After `NoMemory` the
+    /// shelf holds what it held.
     pub fn put(&mut self, name: &str, content: &[u8]) -> Result<(), NoMemory>
-        ensures ok { OnOk result (ChangesAlone name.now (Content content.now) (sure_held self.old) (sure_held self.new)) }
+        ensures ok { OnOk result
+            (ChangesAlone name.now (Content content.now) (sure_held self.old) (sure_held self.new)) }
         ensures err { OnErr result (SameAtEach (sure_held self.old) (sure_held self.new)) }
         ensures longest { SameAtEach (sure_longest self.old) (sure_longest self.new) }
     {

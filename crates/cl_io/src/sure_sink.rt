@@ -5,8 +5,8 @@ ghost use Rattle.cl_io.specs.Sink.{MayTake};
 use crate::{Sink, SinkFault};
 use std::marker::Model;
 
-/// A sink that takes every piece whole and keeps only how many bytes it took, which is what contracts see. It never
-/// fails and needs no memory.
+/// A sink that takes every piece whole and keeps only how many bytes it took, which is what
+/// contracts see. It never fails and takes no memory.
 #[derive(Debug, Drop)]
 pub struct SureSink {
     taken: u64,
@@ -19,13 +19,14 @@ impl Model for SureSink {
 }
 
 impl SureSink {
+    /// Creates a sink that has taken no bytes.
     pub fn new() -> Self
         ensures { result ≡ 0 }
     {
         SureSink { taken: 0 }
     }
 
-    /// How many bytes it has taken. At the greatest `u64` the number stays.
+    /// Returns how many bytes the sink has taken. At the greatest `u64` the number stays.
     pub fn taken(&self) -> u64
         ensures { result ≡ self.now }
     {

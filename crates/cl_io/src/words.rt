@@ -21,7 +21,7 @@ impl Model for Words {
 }
 
 impl Words {
-    /// No words. Takes no memory.
+    /// Creates an empty list of words. Takes no memory.
     pub fn new(alloc: Global) -> Self
         ensures { result ≡ [] }
     {
@@ -31,7 +31,7 @@ impl Words {
         }
     }
 
-    /// Adds a word at the end. Where memory runs out, the words are as they were.
+    /// Appends a word. After `NoMemory` the words are as they were.
     pub fn push(&mut self, word: &str) -> Result<(), NoMemory>
         ensures ok { OnOk result (self.new ≡ self.old ++ word.now ∷ []) }
         ensures err { OnErr result (self.new ≡ self.old) }
@@ -41,19 +41,21 @@ impl Words {
         Ok(())
     }
 
+    /// Counts the words.
     pub fn len(&self) -> usize
         ensures { result ≡ length self.now }
     {
         self.words.len()
     }
 
+    /// Checks whether there is no word.
     pub fn is_empty(&self) -> bool
         ensures { IsTrue result ↔ (self.now ≡ []) }
     {
         self.words.is_empty()
     }
 
-    /// The word at a place, from 0, or `None` past the end.
+    /// Returns the word at an index, counted from 0, or `None` past the end.
     pub fn at(&self, place: usize) -> Option<&str>
         ensures { option_copied result ≡ slice_get self.now place }
     {

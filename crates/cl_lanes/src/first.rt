@@ -4,13 +4,14 @@ ghost use Rattle.cl_lanes.specs.Inner.Places.{ArePaired, AreWithout};
 
 use crate::lanes::{first_lane, full_chunks};
 
-/// The first place whose end lies `gap` ticks after its start.
+/// Finds the first index whose end lies exactly `gap` ticks after its start.
 ///
-/// The slices have equal lengths, and each end is at or after its start. `None` comes exactly where
-/// no place has the gap. It takes no memory, and is faster than a plain loop.
+/// The slices have equal lengths, and each end is at or after its start. Returns `None` exactly
+/// where no index has the gap. Takes no memory, and is faster than a plain loop.
 pub fn first_gap(ends: &[u64], starts: &[u64], gap: u64) -> Option<usize>
     requires as_many { length ends.now ≡ length starts.now }
-    requires in_order { EachIndex ends.now (λ i. slice_index starts.now i ≤ slice_index ends.now i) }
+    requires in_order { EachIndex ends.now
+        (λ i. slice_index starts.now i ≤ slice_index ends.now i) }
     ensures first { result ≡ position (λ found. found == gap) (gaps ends.now starts.now) }
     ensures nowhere { IfNone result (EachIndex ends.now (λ i. ¬ HasGap ends.now starts.now gap i)) }
     ensures found { IfSome result (λ place. IsFirst ends.now starts.now gap place) }
@@ -21,7 +22,7 @@ pub fn first_gap(ends: &[u64], starts: &[u64], gap: u64) -> Option<usize>
     }
 }
 
-// The first place with the gap, of those in full chunks.
+// Finds the first index with the gap among the full chunks.
 fn first_in_chunks(ends: &[u64], starts: &[u64], gap: u64) -> Option<usize>
     requires { ArePaired ends.now starts.now }
     ensures { MatchOption result (AreWithout ends.now starts.now (length ends.now / 8 * 8) gap)
@@ -37,7 +38,7 @@ fn first_in_chunks(ends: &[u64], starts: &[u64], gap: u64) -> Option<usize>
     None
 }
 
-// The first place with the gap, where none in full chunks has it.
+// Finds the first index with the gap behind the full chunks, none of which has it.
 fn first_in_rest(ends: &[u64], starts: &[u64], gap: u64) -> Option<usize>
     requires paired { ArePaired ends.now starts.now }
     requires not_before { AreWithout ends.now starts.now (length ends.now / 8 * 8) gap }

@@ -6,13 +6,14 @@ ghost use Rattle.cl_lanes.specs.Inner.Places.{ArePaired, IsAbove, IsGap};
 use crate::lanes::{full_chunks, lane_gaps};
 use std::simd::prelude::*;
 
-/// The greatest gap between the ends and their starts, in ticks.
+/// Finds the greatest gap between the ends and their starts, in ticks.
 ///
-/// The slices have equal lengths, and each end is at or after its start. `None` comes exactly where
-/// they are empty. It takes no memory.
+/// The slices have equal lengths, and each end is at or after its start. Returns `None` exactly
+/// where they are empty. Takes no memory.
 pub fn greatest_gap(ends: &[u64], starts: &[u64]) -> Option<u64>
     requires as_many { length ends.now ≡ length starts.now }
-    requires in_order { EachIndex ends.now (λ i. slice_index starts.now i ≤ slice_index ends.now i) }
+    requires in_order { EachIndex ends.now
+        (λ i. slice_index starts.now i ≤ slice_index ends.now i) }
     ensures empty { IsNone result ↔ (length ends.now ≡ 0) }
     ensures greatest { IfSome result (IsGreatest (gaps ends.now starts.now)) }
     ensures attained { IfSome result (λ gap. SomeIndex ends.now (HasGap ends.now starts.now gap)) }
@@ -26,7 +27,7 @@ pub fn greatest_gap(ends: &[u64], starts: &[u64]) -> Option<u64>
     }
 }
 
-// A gap that none in full chunks exceeds.
+// Finds one of the gaps, such that none in the full chunks is greater.
 fn greatest_in_chunks(ends: &[u64], starts: &[u64]) -> u64
     requires paired { ArePaired ends.now starts.now }
     requires some { 0 < length ends.now }
@@ -40,8 +41,8 @@ fn greatest_in_chunks(ends: &[u64], starts: &[u64]) -> u64
     greatest
 }
 
-// For each lane a gap that none of its own in full chunks exceeds. Where no chunk is full it is that
-// of the first place.
+// Finds for each lane one of the gaps, such that none of the lane in the full chunks is greater.
+// Where no chunk is full, that is the gap of the first pair.
 fn greatest_by_lane(ends: &[u64], starts: &[u64]) -> [u64; 8]
     requires paired { ArePaired ends.now starts.now }
     requires some { 0 < length ends.now }
@@ -56,7 +57,7 @@ fn greatest_by_lane(ends: &[u64], starts: &[u64]) -> [u64; 8]
     greatest.to_array()
 }
 
-// The greatest gap, from one that none in full chunks exceeds.
+// Finds the greatest gap, from one that none in the full chunks exceeds.
 fn greatest_with_rest(ends: &[u64], starts: &[u64], in_chunks: u64) -> u64
     requires paired { ArePaired ends.now starts.now }
     requires one_of { IsGap ends.now starts.now in_chunks }

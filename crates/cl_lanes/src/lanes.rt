@@ -5,7 +5,7 @@ ghost use Rattle.cl_lanes.specs.Inner.Places.{ArePaired, AreWithout};
 
 use std::simd::prelude::*;
 
-// The full chunks of eight, without the rest.
+// Splits the numbers into chunks of eight and returns the full ones, without the rest.
 #[inline(always)]
 pub(crate) fn full_chunks(numbers: &[u64]) -> &[[u64; 8]]
     ensures { AreChunks numbers.now result.now }
@@ -13,7 +13,7 @@ pub(crate) fn full_chunks(numbers: &[u64]) -> &[[u64; 8]]
     numbers.as_chunks::<8>().0
 }
 
-// The gaps of eight places.
+// Computes the gaps of eight pairs.
 #[inline(always)]
 pub(crate) fn lane_gaps(ends: &[u64; 8], starts: &[u64; 8]) -> u64x8
     requires { ArePaired ends.now starts.now }
@@ -22,7 +22,7 @@ pub(crate) fn lane_gaps(ends: &[u64; 8], starts: &[u64; 8]) -> u64x8
     u64x8::from_array(*ends).strict_sub(u64x8::from_array(*starts))
 }
 
-// The first of eight places that has the gap.
+// Finds the first of eight pairs that has the gap.
 #[inline(always)]
 pub(crate) fn first_lane(ends: &[u64; 8], starts: &[u64; 8], gap: u64) -> Option<usize>
     requires { ArePaired ends.now starts.now }

@@ -1,7 +1,7 @@
-//! The greatest gap between ends and their starts, and the first place that has a given gap.
+//! The greatest gap between ends and their starts, and the first index with a given gap.
 //!
-//! Ends and starts are moments in ticks, paired by place. Both calls look at eight places at a time,
-//! on lanes, and at the rest one by one. Neither takes memory.
+//! Ends and starts are moments in ticks, paired by index. Both calls look at eight pairs at a time,
+//! on SIMD lanes, and at the rest one by one. Neither takes memory.
 #![tactic(auto)]
 
 mod first;

@@ -5,7 +5,7 @@ use crate::name::Name;
 use cl_time::NoMemory;
 use std::alloc::Global;
 
-/// Which length of a chain is meant.
+/// A length of a chain: its reaction, its age or its reduced age.
 #[derive(Clone, Copy, Debug, PartialEq, Eq)]
 pub enum LengthKind {
     Reaction,
@@ -13,21 +13,22 @@ pub enum LengthKind {
     Reduced,
 }
 
-/// A path of runnables, where each hands a label to the next.
+/// A chain of runnables, each of which writes a label that the next one reads.
 #[derive(Debug, PartialEq, Eq, Drop)]
 pub struct ChainDef {
     pub name: Name,
     pub runnables: List<Name>,
-    /// The label of each hop, one fewer than there are runnables.
+    /// The label of each hop, in order. A valid chain has one fewer than runnables.
     pub labels: List<Name>,
 }
 
-/// The most that a length of a chain may be.
+/// A requirement: the most that a length of a chain may be.
 #[derive(Debug, PartialEq, Eq, Drop)]
 pub struct RequirementDef {
     pub name: Name,
     pub chain: Name,
     pub kind: LengthKind,
+    /// The greatest length that is allowed.
     pub most: u64,
 }
 

@@ -1,4 +1,4 @@
-//! Changes of a model in place, of what stands there under a number. Times are in ticks.
+//! Changes of a model in place. What is changed is given by its number. Times are in ticks.
 ghost use Rattle.std.specs.Prelude.{◌≡◌, ◌<◌, length};
 ghost use Rattle.cl_model.specs.Groups.{IsStepOf};
 ghost use Rattle.cl_model.specs.Changes.{with_range, with_whole, with_kind, with_deadline, with_priority, with_swap, with_place, with_access, without_task, without_chain};
@@ -10,7 +10,7 @@ use crate::stimulus::StimulusKind;
 use crate::task::AccessKind;
 
 impl SystemModel {
-    /// Sets the execution times of a runnable.
+    /// Sets the least and the greatest execution time of a runnable.
     pub fn set_range(&mut self, step: Step, least: u64, greatest: u64)
         requires { IsStepOf self.old step }
         ensures { self.new ≡ with_range self.old step least greatest }
@@ -21,7 +21,7 @@ impl SystemModel {
         runnable.greatest = greatest;
     }
 
-    /// Sets whether a runnable runs to its end without a break.
+    /// Sets whether a runnable can't be preempted once it has begun.
     pub fn set_whole(&mut self, step: Step, whole: bool)
         requires { IsStepOf self.old step }
         ensures { self.new ≡ with_whole self.old step whole }
@@ -39,7 +39,7 @@ impl SystemModel {
         self.stimuli.item_mut(stimulus).kind = kind;
     }
 
-    /// Sets the deadline of a task.
+    /// Sets the deadline of a task from arrival, or removes it where `deadline` is `None`.
     pub fn set_deadline(&mut self, task: usize, deadline: Option<u64>)
         requires { task < length self.old.tasks }
         ensures { self.new ≡ with_deadline self.old task deadline }
@@ -84,7 +84,7 @@ impl SystemModel {
         self.tasks.item_mut(task).access = access;
     }
 
-    /// Takes a task out of the model. The others keep their order.
+    /// Removes a task. The others keep their order.
     pub fn drop_task(&mut self, task: usize)
         requires { task < length self.old.tasks }
         ensures { self.new ≡ without_task self.old task }
@@ -92,7 +92,7 @@ impl SystemModel {
         let _dropped = self.tasks.remove(task);
     }
 
-    /// Takes a chain out of the model. The others keep their order.
+    /// Removes a chain. The others keep their order.
     pub fn drop_chain(&mut self, chain: usize)
         requires { chain < length self.old.chains }
         ensures { self.new ≡ without_chain self.old chain }

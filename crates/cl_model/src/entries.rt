@@ -11,15 +11,17 @@ use crate::task::{RunnableDef, TaskDef};
 use cl_time::NoMemory;
 use std::alloc::Global;
 
-/// What has a name.
+/// An entry that has a name.
 pub trait Named {
     ghost name_of: { Self → List ℕ };
 
+    /// Returns the name of the entry.
     fn name(&self) -> &Name
         ensures { result.now ≡ name_of self.now };
 }
 
-/// Adds the names of entries behind others, where each of them is new.
+/// Adds the names of entries after the others, where each of them is new. After `NoMemory` the
+/// first of them, possibly none, are added.
 pub fn add_names<T: Named>(names: &mut NameSet, entries: &[T]) -> Result<(), NoMemory>
     requires { AreNew names.old (map T.name_of entries.now) }
     ensures { OnOk result (names.new ≡ names.old ++ map T.name_of entries.now) }
@@ -30,7 +32,8 @@ pub fn add_names<T: Named>(names: &mut NameSet, entries: &[T]) -> Result<(), NoM
     Ok(())
 }
 
-/// The names of entries that have different ones, numbered as the entries.
+/// Makes the set of the names of entries, which must differ, numbered as the entries. Fails with
+/// `NoMemory` where memory runs out.
 pub fn name_numbers<T: Named>(alloc: Global, entries: &[T]) -> Result<NameSet, NoMemory>
     requires { AreDistinctNames (map T.name_of entries.now) }
     ensures { IfOk result (λ names. names ≡ map T.name_of entries.now) }

@@ -2,14 +2,16 @@
 ghost use Rattle.std.specs.Prelude.{◌≡◌};
 ghost use Rattle.cl_model.specs.Groups.{is_inner, group_of_step};
 
-/// A step of a chain: a runnable, as a task and a place in it.
+/// A step of a chain: a runnable, given by its task and its index in that task, both counted from
+/// 0.
 #[derive(Clone, Copy, Debug, PartialEq, Eq)]
 pub struct Step {
     pub task: u32,
     pub place: u32,
 }
 
-/// Steps of a chain that one job executes: a task, and the places of the first and the last runnable in it.
+/// A group: steps of a chain that one job executes. It has the number of their task, and the
+/// indices of the first and the last of their runnables in it.
 #[derive(Clone, Copy, Debug, PartialEq, Eq)]
 pub struct Group {
     pub task: u32,
@@ -18,7 +20,7 @@ pub struct Group {
 }
 
 impl Group {
-    /// A group of one step.
+    /// Makes a group of one step.
     pub fn of_step(step: Step) -> Group
         ensures { result ≡ group_of_step step }
     {
@@ -29,7 +31,8 @@ impl Group {
         }
     }
 
-    /// Whether the hop from the group to a step is inner: both stand in one task, and the step stands behind the group.
+    /// Whether the hop from the group to a step is inner: both are in one task, and the step comes
+    /// after the last runnable of the group.
     pub fn is_inner(self, step: Step) -> bool
         ensures { result ≡ is_inner self step }
     {

@@ -21,7 +21,7 @@ use crate::task_numbers::renumber_steps;
 use cl_time::NoMemory;
 use std::alloc::Global;
 
-/// The runnables of a model by name: the number of a name is the place of its step.
+/// The runnables of a model by name: the number of a name is the index of its step.
 #[derive(Drop)]
 pub struct StepTable {
     pub names: NameSet,
@@ -60,7 +60,8 @@ fn steps_of_tasks(alloc: Global, tasks: &[TaskDef]) -> Result<Vec<Step>, NoMemor
     Ok(steps)
 }
 
-/// The runnables of a valid model by name.
+/// Makes the table of the runnables of a valid model, in file order. Fails with `NoMemory` where
+/// memory runs out.
 pub fn step_table(alloc: Global, model: &SystemModel) -> Result<StepTable, NoMemory>
     requires { IsValid model.now }
     ensures { IfOk result (AreStepsOf model.now.tasks) }
@@ -73,7 +74,8 @@ pub fn step_table(alloc: Global, model: &SystemModel) -> Result<StepTable, NoMem
 }
 
 impl StepTable {
-    /// Adds the runnables of a task of this number behind the others, whose names are new.
+    /// Appends the runnables of the task of this number, whose names must be new. After `NoMemory`
+    /// names and steps may no longer match.
     pub fn add_task(&mut self, number: u32, task: &TaskDef) -> Result<(), NoMemory>
         requires in_range { IsTaskInRange task.now }
         requires new { AreNew self.old.names (runnable_names task.now.runnables) }
@@ -83,8 +85,8 @@ impl StepTable {
         push_steps(&mut self.steps, number, task.runnables.len() as u32)
     }
 
-    /// Takes the runnables from number `first` to before `last` out, which are all those of a task. The tasks behind it
-    /// move up.
+    /// Removes the runnables from number `first` up to, but not including, `last`, which are all
+    /// those of a task. The tasks after it get numbers that are one less.
     pub fn drop_task(&mut self, task: u32, first: usize, last: usize)
         requires { HasSteps self.old first last }
         ensures { StepsDropped task first last self.old self.new }
@@ -95,7 +97,8 @@ impl StepTable {
     }
 }
 
-/// The steps of these names. Most often a step is the runnable behind the one before.
+/// Finds the steps of these names, in order. A step is first looked for right after the one before
+/// it, where it mostly is.
 fn steps_named(alloc: Global, table: &StepTable, names: &[Name]) -> Result<Vec<Step>, NoMemory>
     requires known { All (λ name. has_name name table.now.names ≡ true) names.now }
     requires paired { length table.now.steps.items ≡ length table.now.names }
@@ -113,7 +116,7 @@ fn steps_named(alloc: Global, table: &StepTable, names: &[Name]) -> Result<Vec<S
     Ok(steps)
 }
 
-/// The groups of a list of steps.
+/// Finds the groups of a list of steps, in order. Fails with `NoMemory` where memory runs out.
 pub fn groups(alloc: Global, steps: &[Step]) -> Result<List<Group>, NoMemory>
     ensures { IfOk result (λ list. list ≡ groups steps.now) }
 {
@@ -134,7 +137,8 @@ pub fn groups(alloc: Global, steps: &[Step]) -> Result<List<Group>, NoMemory>
     Ok(groups)
 }
 
-/// The groups of a chain whose runnables are known.
+/// Finds the groups of a chain whose runnables are known, in order. Fails with `NoMemory` where
+/// memory runs out.
 pub fn groups_of_chain(
     alloc: Global,
     table: &StepTable,
@@ -148,7 +152,8 @@ pub fn groups_of_chain(
     groups(alloc, steps.as_slice())
 }
 
-/// The groups of each chain, in time linear in the size of the model.
+/// Finds the groups of each chain, in file order and in time linear in the size of the model. Fails
+/// with `NoMemory` where memory runs out.
 pub fn groups_of_chains(
     alloc: Global,
     model: &SystemModel,

@@ -1,4 +1,4 @@
-//! What callers of a model that is read or valid may rely on.
+//! What callers may rely on of each model that was read, and of each valid one.
 pub mod groups;
 pub mod links;
 pub mod names;

@@ -1,4 +1,5 @@
-//! The types of a model of cores, tasks, runnables, labels and chains, and why a model is refused.
+//! The types of a model of cores, stimuli, labels, tasks, runnables, chains and requirements, and
+//! why a model is refused.
 #![tactic(auto)]
 
 mod chain;

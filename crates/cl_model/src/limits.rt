@@ -1,9 +1,9 @@
 //! The limits of a model. Times are in ticks.
 
-/// The greatest time in a model.
+/// The greatest time in a model, except for the lengths that requirements allow.
 pub const MOST_TICKS: u64 = 1_000_000_000_000;
 
-/// The greatest length that a requirement may ask.
+/// The greatest length that a requirement may allow.
 pub const MOST_REQUIRED: u64 = 1_000_000_000_000_000;
 
 /// The highest priority.
@@ -30,7 +30,7 @@ pub const MOST_TASKS: usize = 1_024;
 /// The most runnables of one task.
 pub const MOST_RUNNABLES: usize = 256;
 
-/// The most labels that one runnable reads, and the most that it writes.
+/// The most labels that one runnable may read, and the most that it may write.
 pub const MOST_ACCESSES: usize = 256;
 
 /// The most chains.
@@ -51,5 +51,6 @@ pub const MOST_TASKS_OF_CORE: usize = 128;
 /// The most runnables of all tasks together.
 pub const MOST_RUNNABLES_OF_MODEL: usize = 8_192;
 
-/// How many least distances of a task of higher priority a deadline may span, with the jitter of that task.
+/// The most least distances of a task of higher priority on the same core that a deadline, with the
+/// jitter of that task added, may span.
 pub const MOST_DISTANCES: u64 = 1_000_000;

@@ -12,7 +12,7 @@ use std::alloc::Global;
 use std::marker::Model;
 use std::slice;
 
-/// A list in the order in which its items were pushed.
+/// A growable list of items.
 #[derive(Debug, Drop)]
 pub struct List<T> {
     items: Vec<T>,
@@ -30,7 +30,7 @@ impl<T> Model for List<T> {
 }
 
 impl<T> List<T> {
-    /// An empty list. It takes no memory.
+    /// Makes an empty list. It takes no memory.
     pub fn new(alloc: Global) -> List<T>
         ensures { result ≡ [] }
     {
@@ -39,8 +39,8 @@ impl<T> List<T> {
         }
     }
 
-    /// An empty list with room for so many items: while it has no more, pushing takes no memory. Where there is no memory
-    /// for it, nothing is left.
+    /// Makes an empty list with room for `room` items: pushing up to that many takes no memory.
+    /// Fails with `NoMemory` where there is no memory for them.
     pub fn with_room(alloc: Global, room: usize) -> Result<List<T>, NoMemory>
         ensures { IfOk result (λ list. list ≡ []) }
     {
@@ -49,35 +49,36 @@ impl<T> List<T> {
         })
     }
 
-    /// The number of items.
+    /// Returns the number of items.
     pub fn len(&self) -> usize
         ensures { result ≡ length self.now }
     {
         self.items.len()
     }
 
-    /// Whether there is no item.
+    /// Whether the list has no items.
     pub fn is_empty(&self) -> bool
         ensures { IsTrue result ↔ (self.now ≡ []) }
     {
         self.items.is_empty()
     }
 
-    /// The item at a place, counted from 0. There is none exactly where the place is past the last item.
+    /// Returns the item at index `place`, counted from 0, or `None` exactly where the index is past
+    /// the last item.
     pub fn at(&self, place: usize) -> Option<&T>
         ensures { option_copied result ≡ slice_get self.now place }
     {
         self.items.as_slice().get(place)
     }
 
-    /// The items in order.
+    /// Returns the items in order.
     pub fn as_slice(&self) -> &[T]
         ensures { result.now ≡ self.now }
     {
         self.items.as_slice()
     }
 
-    /// Goes over the items in order.
+    /// Iterates over the items in order.
     pub fn iter(&self) -> slice::Iter<'_, T>
         ensures { iter_rest result ≡ self.now }
     {
@@ -86,7 +87,8 @@ impl<T> List<T> {
 }
 
 impl<T: Drop> List<T> {
-    /// Appends an item. Where there is no memory for it, the list stays as it was and the item is dropped.
+    /// Appends an item. Where there is no memory for it, the list stays as it was and the item is
+    /// dropped.
     pub fn push(&mut self, item: T) -> Result<(), NoMemory>
         ensures ok { OnOk result (self.new ≡ self.old ++ item ∷ []) }
         ensures err { OnErr result (self.new ≡ self.old) }

@@ -1,4 +1,4 @@
-//! What is kept beside a valid model, so that it answers in constant time.
+//! The tables that are kept beside a valid model, so that it answers in constant time.
 ghost use Rattle.std.specs.Prelude.{◌≡◌, ◌<◌, ◌^◌, [], ◌∷◌, ◌++◌, length, map, replicate, slice_index_or, slice_set, IfOk, OnOk, All};
 ghost use Rattle.std.specs.List.{range_with_len};
 ghost use Rattle.cl_model.specs.Named.{core_names, stimulus_names, kind_named};
@@ -21,7 +21,8 @@ use crate::task::TaskDef;
 use cl_time::NoMemory;
 use std::alloc::Global;
 
-/// The kind of the stimulus of that name, where the names of the stimuli are numbered.
+/// Finds the kind of the stimulus of this name, or `None` exactly where no stimulus has it.
+/// `stimuli` are the names of the model's stimuli, numbered as these.
 pub fn kind_named(model: &SystemModel, stimuli: &NameSet, name: &Name) -> Option<StimulusKind>
     requires { stimuli.now ≡ stimulus_names model.now }
     ensures { result ≡ kind_named model.now name.now }
@@ -53,7 +54,9 @@ fn stimulus_numbers(
 ) -> Result<Vec<u32>, NoMemory>
     requires valid { IsValid model.now }
     requires stimuli { stimuli.now ≡ stimulus_names model.now }
-    ensures { IfOk result (λ numbers. numbers.items ≡ map (λ task. stimulus_number model.now task.stimulus) model.now.tasks) }
+    ensures { IfOk result
+        (λ numbers. numbers.items ≡ map
+        (λ task. stimulus_number model.now task.stimulus) model.now.tasks) }
 {
     let mut numbers = Vec::with_capacity(alloc, model.tasks.len())?;
     for task in model.tasks.as_slice() {
@@ -65,7 +68,7 @@ fn stimulus_numbers(
     Ok(numbers)
 }
 
-/// The greatest execution time of a job of a task.
+/// Returns the greatest execution time of a job of a task, in ticks: the sum over its runnables.
 pub fn greatest_time(task: &TaskDef) -> u64
     requires { greatest_time task.now < 2 ^ 64 }
     ensures { result ≡ greatest_time task.now }
@@ -99,7 +102,9 @@ fn no_tasks(alloc: Global, cores: usize) -> Result<Vec<List<u32>>, NoMemory>
 
 fn put(lists: &mut Vec<List<u32>>, core: usize, task: u32) -> Result<(), NoMemory>
     requires { core < length lists.old.items }
-    ensures { OnOk result (lists.new.items ≡ slice_set lists.old.items core (slice_index_or lists.old.items core [] ++ task ∷ [])) }
+    ensures { OnOk result
+        (lists.new.items ≡ slice_set lists.old.items core (slice_index_or lists.old.items core []
+        ++ task ∷ [])) }
 {
     lists[core].push(task)
 }
@@ -111,7 +116,8 @@ fn tasks_of_cores(
 ) -> Result<Vec<List<u32>>, NoMemory>
     requires valid { IsValid model.now }
     requires numbers { core_numbers.now ≡ map (core_number model.now) model.now.tasks }
-    ensures { IfOk result (λ lists. lists.items ≡ map (tasks_of_core model.now) (range_with_len 0 (length model.now.cores))) }
+    ensures { IfOk result
+        (λ lists. lists.items ≡ map (tasks_of_core model.now) (range_with_len 0 (length model.now.cores))) }
 {
     let mut lists = no_tasks(alloc, model.cores.len())?;
     for (task, core) in core_numbers.iter().enumerate() {
@@ -141,16 +147,16 @@ fn section_names(alloc: Global, model: &SystemModel) -> Result<SectionNames, NoM
     })
 }
 
-/// What is kept of each task, and of each core.
+/// The tables of the tasks and of the cores, by their numbers.
 #[derive(Drop)]
 pub struct TaskTables {
     /// The number of the core of each task.
     pub cores: Vec<u32>,
     /// The number of the stimulus of each task.
     pub stimuli: Vec<u32>,
-    /// The greatest execution time of a job of each task.
+    /// The greatest execution time of a job of each task, in ticks.
     pub times: Vec<u64>,
-    /// The numbers of the tasks of each core.
+    /// The numbers of the tasks of each core, in file order.
     pub on_cores: Vec<List<u32>>,
 }
 
@@ -173,18 +179,19 @@ fn task_tables(
     })
 }
 
-/// What is kept beside a model.
+/// The tables that are kept beside a model.
 #[derive(Drop)]
 pub struct LookUps {
     pub names: SectionNames,
     pub tasks: TaskTables,
-    /// The runnables by name.
+    /// The runnables by name, in file order.
     pub steps: StepTable,
-    /// The groups of each chain.
+    /// The groups of each chain, in order.
     pub groups: Vec<List<Group>>,
 }
 
-/// What is kept beside a valid model, in time linear in the size of the model.
+/// Makes the tables of a valid model, in time linear in the size of the model. Fails with
+/// `NoMemory` where memory runs out.
 pub fn look_ups_of(alloc: Global, model: &SystemModel) -> Result<LookUps, NoMemory>
     requires { IsValid model.now }
     ensures { IfOk result (AreLookUpsOf model.now) }

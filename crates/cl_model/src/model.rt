@@ -1,4 +1,4 @@
-//! A whole model, as a model file writes it.
+//! A whole model, as a model file describes it.
 ghost use Rattle.std.specs.Prelude.{◌≡◌, IfOk};
 
 use crate::chain::{ChainDef, RequirementDef};
@@ -22,7 +22,8 @@ pub struct LabelDef {
     pub name: Name,
 }
 
-/// A model. It need not be valid: its names may be unknown and its numbers may not fit together.
+/// A model. It need not be valid: its names may refer to nothing, and its numbers may be out of
+/// range or contradict each other.
 #[derive(Debug, PartialEq, Eq, Drop)]
 pub struct SystemModel {
     pub cores: List<CoreDef>,
@@ -34,7 +35,7 @@ pub struct SystemModel {
 }
 
 impl SystemModel {
-    /// An equal model.
+    /// Copies the model, or fails with `NoMemory` where memory runs out.
     pub fn copy(&self, alloc: Global) -> Result<SystemModel, NoMemory>
         ensures { IfOk result (λ copy. copy ≡ self.now) }
     {

@@ -1,4 +1,4 @@
-//! Why something isn't answered of a model: the first refusal, or want of memory.
+//! Why there is no result for a model: the first refusal, or want of memory.
 ghost use Rattle.std.specs.Prelude.{◌≡◌, ◌++◌, ◌∷◌, [], OnOk};
 ghost use Rattle.cl_model.specs.Answers.{Answers};
 ghost use Rattle.cl_model.specs.Named.{has_name};
@@ -11,10 +11,10 @@ use crate::refusal::{Code, Refusal};
 use cl_time::NoMemory;
 use std::alloc::{AllocError, AllocFailed};
 
-/// Why something isn't answered of a model.
+/// Why there is no result for a model or an edit of it.
 #[derive(Clone, Copy, Debug, PartialEq, Eq)]
 pub enum ModelFault {
-    /// It is refused: the first refusal.
+    /// The model or the edit is refused: this is the first refusal.
     Refused(Refusal),
     /// Memory ran out.
     NoMemory,
@@ -54,7 +54,7 @@ impl<T: Drop> From<AllocFailed<T>> for ModelFault {
 }
 
 impl ModelFault {
-    /// The refusal of this code at a place.
+    /// Makes the fault of a refusal with this code at this place.
     pub fn refused(code: Code, place: Place) -> ModelFault
         ensures { result ≡ ModelFault.Refused (record { code = code; place = place }) }
     {
@@ -62,7 +62,7 @@ impl ModelFault {
     }
 }
 
-/// Refuses where the test passes.
+/// Refuses with this code at this place where the test passes.
 pub fn refuse_when(test: bool, code: Code, place: Place) -> Result<(), ModelFault>
     ensures { Answers result (when test code place) tt }
 {
@@ -72,14 +72,15 @@ pub fn refuse_when(test: bool, code: Code, place: Place) -> Result<(), ModelFaul
     Ok(())
 }
 
-/// Refuses, unless the test passes.
+/// Refuses with this code at this place unless the test passes.
 pub fn refuse_unless(test: bool, code: Code, place: Place) -> Result<(), ModelFault>
     ensures { Answers result (unless test code place) tt }
 {
     refuse_when(!test, code, place)
 }
 
-/// Adds a name behind the others, and refuses one that is there already.
+/// Adds a name after the others. A name that is there already is refused with this code at this
+/// place. A refusal and `NoMemory` leave the names as they were.
 pub fn add_new(names: &mut NameSet, name: &Name, code: Code, place: Place) -> Result<(), ModelFault>
     ensures checked { Answers result (when (has_name name.now names.old) code place) tt }
     ensures names { OnOk result (names.new ≡ names.old ++ name.now ∷ []) }

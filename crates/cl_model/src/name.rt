@@ -18,10 +18,11 @@ use std::hash::{Hash, Hasher};
 use std::marker::Model;
 use std::{fmt, str};
 
-/// The most bytes of a name.
+/// The most bytes that a name may have.
 pub const LONGEST_NAME: usize = 64;
 
-/// A name: 1 to 64 bytes, each an ASCII letter, a digit, `_`, `.` or `-`. Names compare by their bytes.
+/// A name: 1 to 64 bytes, each an ASCII letter, a digit, `_`, `.` or `-`. Names compare by their
+/// bytes.
 #[derive(Drop)]
 pub struct Name {
     text: ArrayString<LONGEST_NAME>,
@@ -57,7 +58,8 @@ fn is_name(word: &[u8]) -> bool
 }
 
 impl Name {
-    /// The name that a word spells. There is none exactly where the word isn't of the name grammar.
+    /// Makes the name that a word spells, or returns `None` exactly where the word isn't of the
+    /// name grammar.
     pub fn read(word: &[u8]) -> Option<Name>
         ensures grammar { IsSome result ↔ IsName word.now }
         ensures bytes { IfSome result (λ name. name ≡ word.now) }
@@ -71,7 +73,8 @@ impl Name {
         Name::of_text(text)
     }
 
-    /// The name that a text spells. There is none exactly where the text isn't of the name grammar.
+    /// Makes the name that a text spells, or returns `None` exactly where the text isn't of the
+    /// name grammar.
     pub fn of_text(text: &str) -> Option<Name>
         ensures grammar { IsSome result ↔ IsName text.now }
         ensures bytes { IfSome result (λ name. name ≡ text.now) }
@@ -85,7 +88,7 @@ impl Name {
         Some(Name { text })
     }
 
-    /// The bytes of the name.
+    /// Returns the bytes of the name, which are of the name grammar.
     pub fn as_slice(&self) -> &[u8]
         ensures bytes { result.now ≡ self.now }
         ensures name { IsName self.now }
@@ -93,7 +96,7 @@ impl Name {
         self.text.as_str().as_bytes()
     }
 
-    /// An equal name.
+    /// Copies the name. It takes no memory.
     pub fn copy(&self) -> Name
         ensures { result ≡ self.now }
     {

@@ -1,4 +1,4 @@
-//! Names that are numbered and found by their bytes.
+//! Sets of names, which are numbered and found by their bytes.
 ghost use Rattle.std.specs.Prelude.{◌≡◌, ◌<◌, ◌≤◌, [], ◌∷◌, ◌++◌, not, remove, length, IfOk, OnOk, OnErr, IfSome, is_some};
 ghost use Rattle.std.specs.List.{remove_range};
 ghost use Rattle.cl_model.specs.Named.{has_name, index_of};
@@ -10,10 +10,11 @@ use indexmap::IndexSet;
 use std::alloc::Global;
 use std::marker::Model;
 
-/// So many names are compared sooner than one is hashed.
+/// Up to this many names are compared one by one, which is faster than hashing one.
 const FEW_NAMES: usize = 4;
 
-/// Names without repeats, numbered in the order in which they came. A name is found in constant time.
+/// A set of names, numbered from 0 in the order in which they were added. A name is found in
+/// constant time.
 #[derive(Drop)]
 pub struct NameSet {
     names: IndexSet<Name>,
@@ -28,7 +29,7 @@ impl Model for NameSet {
 }
 
 impl NameSet {
-    /// No names. It takes no memory.
+    /// Makes an empty set. It takes no memory.
     pub fn new(alloc: Global) -> NameSet
         ensures { result ≡ [] }
     {
@@ -37,14 +38,14 @@ impl NameSet {
         }
     }
 
-    /// The number of names.
+    /// Returns the number of names.
     pub fn len(&self) -> usize
         ensures { result ≡ length self.now }
     {
         self.names.len()
     }
 
-    /// Makes room for so many further names. Where there is no memory for it, the names are those that they were.
+    /// Makes room for `further` more names. `NoMemory` leaves the names as they were.
     pub fn reserve(&mut self, further: usize) -> Result<(), NoMemory>
         ensures { self.new ≡ self.old }
     {
@@ -52,7 +53,8 @@ impl NameSet {
         Ok(())
     }
 
-    /// Adds a name behind the others, and tells whether it is new. A name that is there already changes nothing.
+    /// Adds a name after the others and returns whether it is new. A name that is there already
+    /// changes nothing. `NoMemory` leaves the names as they were.
     pub fn add(&mut self, name: &Name) -> Result<bool, NoMemory>
         ensures is_new { IfOk result (λ is_new. is_new ≡ not (has_name name.now self.old)) }
         ensures ok { OnOk result (self.new ≡ names_with name.now self.old) }
@@ -61,14 +63,16 @@ impl NameSet {
         Ok(self.names.insert(name.copy())?)
     }
 
-    /// Takes the name of a number out. The others keep their order. A number past the last one takes out none.
+    /// Removes the name of this number. The others keep their order. A number past the last one
+    /// removes nothing.
     pub fn remove(&mut self, number: usize)
         ensures { self.new ≡ remove self.old number }
     {
         let _removed = self.names.shift_remove_index(number);
     }
 
-    /// Takes the names from the number `first` to before `last` out. The others keep their order.
+    /// Removes the names from number `first` up to, but not including, `last`. The others keep
+    /// their order.
     pub fn remove_range(&mut self, first: usize, last: usize)
         requires ordered { first ≤ last }
         requires within { last ≤ length self.old }
@@ -77,7 +81,7 @@ impl NameSet {
         self.names.drain(first..last);
     }
 
-    /// Whether a name is there. Few names are compared one by one.
+    /// Whether a name is in the set. Few names are compared one by one.
     pub fn contains(&self, name: &Name) -> bool
         ensures { result ≡ has_name name.now self.now }
     {
@@ -88,7 +92,8 @@ impl NameSet {
         }
     }
 
-    /// The number of a name, counted from 0. There is none exactly where the name isn't there.
+    /// Finds the number of a name, counted from 0, or `None` exactly where the name isn't in the
+    /// set.
     pub fn number_of(&self, name: &Name) -> Option<usize>
         ensures number { result ≡ index_of name.now self.now }
         ensures found { is_some result ≡ has_name name.now self.now }
@@ -97,8 +102,9 @@ impl NameSet {
         self.names.get_index_of(name)
     }
 
-    /// The number of a name, counted from 0, as `number_of` says it. A right guess makes it cheap: of names in their order
-    /// each comes behind the one before.
+    /// Finds the number of a name as `number_of` does, but looks at number `guess` first: a right
+    /// guess is found without hashing. Names that are looked up in their order can be guessed, each
+    /// as the one after the last one found.
     pub fn number_guessed(&self, name: &Name, guess: usize) -> Option<usize>
         ensures number { result ≡ index_of name.now self.now }
         ensures found { is_some result ≡ has_name name.now self.now }

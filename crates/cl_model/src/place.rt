@@ -48,21 +48,23 @@ pub enum Key {
     Most,
 }
 
-/// Where in a model file something stands. Numbers count from 0.
+/// A place in a model file: a part, and in it the entry, the runnable, the key and the member of an
+/// array that are given. Numbers count from 0.
 #[derive(Clone, Copy, Debug, PartialEq, Eq)]
 pub struct Place {
     pub part: Part,
-    /// The entry of the section.
+    /// The number of the entry in the section.
     pub item: Option<u32>,
-    /// The runnable of the task.
+    /// The number of the runnable in the task.
     pub sub: Option<u32>,
+    /// The key of the table.
     pub key: Option<Key>,
-    /// The member of the array under the key.
+    /// The number of the member in the array under the key.
     pub spot: Option<u32>,
 }
 
 impl Part {
-    /// The part as a whole.
+    /// Returns the place of the part as a whole.
     pub fn section_place(self) -> Place
         ensures { result ≡ section_place self }
     {
@@ -75,7 +77,7 @@ impl Part {
         }
     }
 
-    /// The word by which the part prints.
+    /// Returns the word that stands for the part where a place is printed.
     pub fn word(self) -> &'static str
         ensures { result.now ≡ part_text self }
     {
@@ -92,7 +94,7 @@ impl Part {
 }
 
 impl Key {
-    /// The key as a model file writes it.
+    /// Returns the key as a model file writes it.
     pub fn word(self) -> &'static str
         ensures { result.now ≡ key_text self }
     {
@@ -129,14 +131,14 @@ impl Key {
 }
 
 impl Place {
-    /// The top level of a file.
+    /// Returns the place of the top level of a file.
     pub fn top() -> Place
         ensures { result ≡ top }
     {
         Part::Top.section_place()
     }
 
-    /// An entry of this section.
+    /// Returns the place of an entry of this section.
     pub fn at_item(self, item: u32) -> Place
         ensures { result ≡ at_item item self }
     {
@@ -146,7 +148,7 @@ impl Place {
         }
     }
 
-    /// A runnable of this task.
+    /// Returns the place of a runnable of this task, without the key.
     pub fn at_sub(self, sub: u32) -> Place
         ensures { result ≡ at_sub sub self }
     {
@@ -157,7 +159,7 @@ impl Place {
         }
     }
 
-    /// A key of this table.
+    /// Returns the place of a key of this table.
     pub fn at_key(self, key: Key) -> Place
         ensures { result ≡ at_key key self }
     {
@@ -167,7 +169,7 @@ impl Place {
         }
     }
 
-    /// A member of this array.
+    /// Returns the place of a member of this array.
     pub fn at_spot(self, spot: u32) -> Place
         ensures { result ≡ at_spot spot self }
     {
@@ -194,7 +196,7 @@ impl fmt::Display for Key {
     }
 }
 
-/// A number in brackets, where there is one.
+/// A number in brackets, or nothing.
 #[derive(Clone, Copy)]
 struct Index(Option<u32>);
 
@@ -209,7 +211,7 @@ impl fmt::Display for Index {
     }
 }
 
-/// The runnable of a task, where there is one.
+/// The runnable of a task, or nothing.
 #[derive(Clone, Copy)]
 struct Sub(Option<u32>);
 
@@ -224,7 +226,7 @@ impl fmt::Display for Sub {
     }
 }
 
-/// A key behind a dot, where there is one.
+/// A key after a dot, or nothing.
 #[derive(Clone, Copy)]
 struct Dotted(Option<Key>);
 

@@ -5,7 +5,7 @@ ghost use Rattle.cl_model.specs.Refusal.{code_text, refusal_text};
 use crate::place::Place;
 use std::fmt;
 
-/// What is wrong: M1 to M10 with a model file, M20 and above with a model, E1 to E3 with an edit.
+/// What is wrong: M1 to M10 with a model file, M20 to M47 with a model, E1 to E3 with an edit.
 #[derive(Clone, Copy, Debug, PartialEq, Eq)]
 pub enum Code {
     M1,
@@ -51,7 +51,7 @@ pub enum Code {
     E3,
 }
 
-/// What is wrong, and where.
+/// A refusal: what is wrong, and where.
 #[derive(Clone, Copy, Debug, PartialEq, Eq)]
 pub struct Refusal {
     pub code: Code,
@@ -59,7 +59,7 @@ pub struct Refusal {
 }
 
 impl Code {
-    /// The code as it prints.
+    /// Returns the code as it is printed.
     pub fn word(self) -> &'static str
         ensures { result.now ≡ code_text self }
     {

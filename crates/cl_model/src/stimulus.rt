@@ -32,7 +32,7 @@ pub enum StimulusKind {
     },
 }
 
-/// A stimulus, which tasks name.
+/// A stimulus: a named pattern of arrivals, to which tasks refer.
 #[derive(Debug, PartialEq, Eq, Drop)]
 pub struct StimulusDef {
     pub name: Name,
@@ -40,14 +40,15 @@ pub struct StimulusDef {
 }
 
 impl StimulusKind {
-    /// Whether jobs arrive by one period.
+    /// Whether the kind is `Periodic`.
     pub fn is_periodic(self) -> bool
         ensures { result ≡ is_periodic self }
     {
         matches!(self, StimulusKind::Periodic { .. })
     }
 
-    /// The least distance between two arrivals.
+    /// Returns the least distance between consecutive arrivals. Of a burst it is the distance
+    /// within the burst.
     pub fn least_distance(self) -> u64
         ensures { result ≡ least_distance self }
     {
@@ -58,7 +59,9 @@ impl StimulusKind {
         }
     }
 
-    /// The greatest distance between two arrivals.
+    /// Returns the greatest distance between consecutive arrivals. Of a burst it is the distance
+    /// from the last job of one burst to the first job of the next, or 0 where that job doesn't
+    /// arrive later.
     pub fn greatest_distance(self) -> u64
         ensures { result ≡ greatest_distance self }
     {
@@ -74,7 +77,8 @@ impl StimulusKind {
         }
     }
 
-    /// How long after its arrival a job is released at most.
+    /// Returns the most ticks from the arrival of a job to its release: the jitter of a periodic
+    /// kind, and 0 of any other.
     pub fn greatest_jitter(self) -> u64
         ensures { result ≡ greatest_jitter self }
     {

@@ -25,14 +25,14 @@ pub enum AccessKind {
 }
 
 impl AccessKind {
-    /// Whether tasks of this kind are timed.
+    /// Whether the kind is `Timed`.
     pub fn is_timed(self) -> bool
         ensures { result ≡ is_timed self }
     {
         matches!(self, AccessKind::Timed)
     }
 
-    /// The word of this kind in a model file and in a list of edits.
+    /// Returns the word of this kind in a model file and in a list of edits.
     pub fn word(self) -> &'static str
         ensures { result.now ≡ access_word self }
     {
@@ -43,7 +43,7 @@ impl AccessKind {
         }
     }
 
-    /// The kind of this word. There is none exactly where no kind has it.
+    /// Finds the kind that has this word, or `None` exactly where none has it.
     pub fn of_word(word: &[u8]) -> Option<AccessKind>
         ensures { result ≡ meaning_of access_words word.now }
     {
@@ -64,7 +64,7 @@ pub struct RunnableDef {
     pub least: u64,
     /// The greatest execution time.
     pub greatest: u64,
-    /// Whether it runs to its end without a break once it has started.
+    /// Whether it can't be preempted once it has begun.
     pub whole: bool,
     pub reads: List<Name>,
     pub writes: List<Name>,
@@ -79,15 +79,15 @@ pub struct TaskDef {
     /// A greater number is a higher priority.
     pub priority: u64,
     pub access: AccessKind,
-    /// The deadline, from arrival. One that isn't given is the least distance between arrivals.
+    /// The deadline from arrival. Where none is given, it is the least distance between arrivals.
     pub deadline: Option<u64>,
     /// The runnables, in the order in which a job executes them.
     pub runnables: List<RunnableDef>,
 }
 
 impl RunnableDef {
-    /// How long the runnable may hold its core once it has begun: its greatest time without its first tick, in ticks,
-    /// where it is whole, and else 0.
+    /// Returns how long the runnable may hold its core once it has begun, in ticks: its greatest
+    /// execution time without the first tick where it is whole, and 0 otherwise.
     pub fn hold(&self) -> u64
         ensures { result ≡ runnable_hold self.now }
     {
@@ -100,7 +100,8 @@ impl RunnableDef {
 }
 
 impl TaskDef {
-    /// How long a runnable of the task may hold its core once it has begun, in ticks.
+    /// Returns how long a runnable of the task may hold its core once it has begun, in ticks: the
+    /// greatest `hold` of its runnables, 0 where it has none.
     pub fn longest_hold(&self) -> u64
         ensures { result ≡ task_hold self.now }
     {
@@ -111,7 +112,8 @@ impl TaskDef {
         longest
     }
 
-    /// The deadline that is given, or else the least distance of the task's stimulus.
+    /// Returns the deadline that is given, or else the least distance of `kind`, in ticks. `kind`
+    /// is meant to be that of the task's stimulus.
     pub fn deadline_under(&self, kind: StimulusKind) -> u64
         ensures { result ≡ deadline_under kind self.now }
     {

@@ -1,4 +1,4 @@
-//! The numbers of tasks where one of them is taken out: those behind it move up.
+//! The numbers of tasks when one of them is removed: those after it get numbers that are one less.
 ghost use Rattle.std.specs.Prelude.{◌≡◌, map};
 ghost use Rattle.cl_model.specs.TaskNumbers.{number_without, step_without, group_without};
 
@@ -11,6 +11,7 @@ fn number_without(gone: u32, task: u32) -> u32
     if gone < task { task - 1 } else { task }
 }
 
+/// Renumbers tasks for the removal of task `gone`.
 pub fn renumber_tasks(tasks: &mut List<u32>, gone: u32)
     ensures { tasks.new ≡ map (number_without gone) tasks.old }
 {
@@ -20,6 +21,7 @@ pub fn renumber_tasks(tasks: &mut List<u32>, gone: u32)
     }
 }
 
+/// Renumbers the task of each step for the removal of task `gone`.
 pub fn renumber_steps(steps: &mut Vec<Step>, gone: u32)
     ensures { steps.new.items ≡ map (step_without gone) steps.old.items }
 {
@@ -28,6 +30,7 @@ pub fn renumber_steps(steps: &mut Vec<Step>, gone: u32)
     }
 }
 
+/// Renumbers the task of each group for the removal of task `gone`.
 pub fn renumber_groups(groups: &mut List<Group>, gone: u32)
     ensures { groups.new ≡ map (group_without gone) groups.old }
 {
@@ -37,7 +40,7 @@ pub fn renumber_groups(groups: &mut List<Group>, gone: u32)
     }
 }
 
-/// Renumbers the tasks of each core.
+/// Renumbers the tasks of each core for the removal of task `gone`.
 pub fn renumber_cores(cores: &mut Vec<List<u32>>, gone: u32)
     ensures { cores.new.items ≡ map (map (number_without gone)) cores.old.items }
 {
@@ -46,7 +49,7 @@ pub fn renumber_cores(cores: &mut Vec<List<u32>>, gone: u32)
     }
 }
 
-/// Renumbers the groups of each chain.
+/// Renumbers the tasks of the groups of each chain for the removal of task `gone`.
 pub fn renumber_chains(chains: &mut Vec<List<Group>>, gone: u32)
     ensures { chains.new.items ≡ map (map (group_without gone)) chains.old.items }
 {

@@ -22,7 +22,7 @@ use cl_time::NoMemory;
 use std::alloc::Global;
 use std::marker::Model;
 
-/// A model that is valid. What is asked often is kept beside the model, and is answered in constant time.
+/// A valid model. What is asked often is kept in tables beside it and answered in constant time.
 #[derive(Drop)]
 pub struct ValidModel {
     model: SystemModel,
@@ -42,8 +42,8 @@ impl Model for ValidModel {
 }
 
 impl ValidModel {
-    /// The valid model that a plain one is. Where there is no memory for what is kept beside it, the same model
-    /// comes back.
+    /// Turns a plain model, which must be valid, into a `ValidModel`. Fails with `NoMemory` where
+    /// there is no memory for the tables beside it, and then returns the model unchanged.
     pub fn adopt(alloc: Global, model: SystemModel) -> Result<ValidModel, (SystemModel, NoMemory)>
         requires { IsValid model }
         ensures ok { IfOk result (λ valid. valid ≡ model) }
@@ -55,7 +55,7 @@ impl ValidModel {
         }
     }
 
-    /// The model itself.
+    /// Returns the model itself.
     pub fn plain(&self) -> &SystemModel
         ensures plain { result.now ≡ self.now }
         ensures valid { IsValid self.now }
@@ -63,7 +63,7 @@ impl ValidModel {
         &self.model
     }
 
-    /// The number of tasks.
+    /// Returns the number of tasks.
     pub fn tasks(&self) -> u32
         ensures count { result ≡ length self.now.tasks }
         ensures valid { IsValid self.now }
@@ -71,7 +71,7 @@ impl ValidModel {
         self.model.tasks.len() as u32
     }
 
-    /// The task of a number.
+    /// Returns the task of this number.
     pub fn task(&self, task: u32) -> &TaskDef
         requires { task < length self.now.tasks }
         ensures task { result.now ≡ task_at self.now task }
@@ -80,7 +80,7 @@ impl ValidModel {
         &self.model.tasks.as_slice()[task as usize]
     }
 
-    /// The number of cores.
+    /// Returns the number of cores.
     pub fn cores(&self) -> u32
         ensures count { result ≡ length self.now.cores }
         ensures valid { IsValid self.now }
@@ -88,7 +88,7 @@ impl ValidModel {
         self.model.cores.len() as u32
     }
 
-    /// The core of a number.
+    /// Returns the core of this number.
     pub fn core(&self, core: u32) -> &CoreDef
         requires { core < length self.now.cores }
         ensures core { result.now ≡ core_at self.now core }
@@ -97,7 +97,7 @@ impl ValidModel {
         &self.model.cores.as_slice()[core as usize]
     }
 
-    /// The number of chains.
+    /// Returns the number of chains.
     pub fn chains(&self) -> u32
         ensures count { result ≡ length self.now.chains }
         ensures valid { IsValid self.now }
@@ -105,7 +105,7 @@ impl ValidModel {
         self.model.chains.len() as u32
     }
 
-    /// The chain of a number.
+    /// Returns the chain of this number.
     pub fn chain(&self, chain: u32) -> &ChainDef
         requires { chain < length self.now.chains }
         ensures chain { result.now ≡ chain_at self.now chain }
@@ -114,7 +114,7 @@ impl ValidModel {
         &self.model.chains.as_slice()[chain as usize]
     }
 
-    /// The number of the core of a task.
+    /// Returns the number of the core of a task.
     pub fn core_of(&self, task: u32) -> u32
         requires { task < length self.now.tasks }
         ensures core { result ≡ core_of self.now task }
@@ -123,7 +123,7 @@ impl ValidModel {
         self.look_ups.tasks.cores[task as usize]
     }
 
-    /// The number of the stimulus of a task.
+    /// Returns the number of the stimulus of a task.
     fn stimulus_number(&self, task: u32) -> u32
         requires { task < length self.now.tasks }
         ensures within { result < length self.now.stimuli }
@@ -132,7 +132,7 @@ impl ValidModel {
         self.look_ups.tasks.stimuli[task as usize]
     }
 
-    /// The kind of the stimulus of a task.
+    /// Returns the kind of the stimulus of a task.
     pub fn stimulus_of(&self, task: u32) -> StimulusKind
         requires { task < length self.now.tasks }
         ensures { result ≡ stimulus_of self.now task }
@@ -141,7 +141,8 @@ impl ValidModel {
         self.model.stimuli.as_slice()[number as usize].kind
     }
 
-    /// The deadline of a task in ticks from its arrival: the one that is given, or the least distance between arrivals.
+    /// Returns the deadline of a task in ticks from arrival: the one that is given, or else the
+    /// least distance between arrivals.
     pub fn deadline_of(&self, task: u32) -> u64
         requires { task < length self.now.tasks }
         ensures { result ≡ deadline_of self.now task }
@@ -149,7 +150,8 @@ impl ValidModel {
         self.task(task).deadline_under(self.stimulus_of(task))
     }
 
-    /// The greatest jitter of a task in ticks: how long after its arrival a job may be released.
+    /// Returns the greatest jitter of a task in ticks: how long after its arrival a job may be
+    /// released.
     pub fn jitter_of(&self, task: u32) -> u64
         requires { task < length self.now.tasks }
         ensures { result ≡ jitter_of self.now task }
@@ -157,7 +159,7 @@ impl ValidModel {
         self.stimulus_of(task).greatest_jitter()
     }
 
-    /// The greatest execution time of a job of a task in ticks: how long its runnables take at most.
+    /// Returns the greatest execution time of a job of a task in ticks: the sum over its runnables.
     pub fn time_of(&self, task: u32) -> u64
         requires { task < length self.now.tasks }
         ensures { result ≡ time_of self.now task }
@@ -165,7 +167,7 @@ impl ValidModel {
         self.look_ups.tasks.times[task as usize]
     }
 
-    /// The numbers of the tasks of a core, in file order.
+    /// Returns the numbers of the tasks of a core, in file order.
     pub fn tasks_of_core(&self, core: u32) -> &[u32]
         requires { core < length self.now.cores }
         ensures tasks { result.now ≡ tasks_of_core self.now core }
@@ -174,7 +176,7 @@ impl ValidModel {
         self.look_ups.tasks.on_cores[core as usize].as_slice()
     }
 
-    /// How many groups the steps of a chain make: one or more.
+    /// Returns the number of groups of a chain: one or more.
     pub fn group_count(&self, chain: u32) -> u32
         requires { chain < length self.now.chains }
         ensures count { result ≡ length (groups_at self.now chain) }
@@ -183,7 +185,7 @@ impl ValidModel {
         self.look_ups.groups[chain as usize].len() as u32
     }
 
-    /// The group of a chain at a place, counted from 0.
+    /// Returns the group of a chain at index `place`, counted from 0.
     pub fn group(&self, chain: u32, place: u32) -> Group
         requires chain { chain < length self.now.chains }
         requires place { place < length (groups_at self.now chain) }
@@ -193,7 +195,7 @@ impl ValidModel {
         self.look_ups.groups[chain as usize].as_slice()[place as usize]
     }
 
-    /// The groups of a chain, in order.
+    /// Returns the groups of a chain, in order: at least one, and at most `MOST_STEPS`.
     pub fn groups(&self, chain: u32) -> &[Group]
         requires { chain < length self.now.chains }
         ensures groups { result.now ≡ groups_at self.now chain }
@@ -204,7 +206,7 @@ impl ValidModel {
         self.look_ups.groups[chain as usize].as_slice()
     }
 
-    /// The number of the core of that name. There is none exactly where no core has it.
+    /// Finds the number of the core of this name, or `None` exactly where no core has it.
     pub fn core_named(&self, name: &Name) -> Option<u32>
         ensures number { result ≡ core_named self.now name.now }
         ensures within { IfSome result (λ core. core < length self.now.cores) }
@@ -213,7 +215,7 @@ impl ValidModel {
         Some(number as u32)
     }
 
-    /// The number of the stimulus of that name. There is none exactly where no stimulus has it.
+    /// Finds the number of the stimulus of this name, or `None` exactly where no stimulus has it.
     pub fn stimulus_named(&self, name: &Name) -> Option<u32>
         ensures number { result ≡ stimulus_named self.now name.now }
         ensures within { IfSome result (λ stimulus. stimulus < length self.now.stimuli) }
@@ -222,7 +224,7 @@ impl ValidModel {
         Some(number as u32)
     }
 
-    /// The number of the task of that name. There is none exactly where no task has it.
+    /// Finds the number of the task of this name, or `None` exactly where no task has it.
     pub fn task_named(&self, name: &Name) -> Option<u32>
         ensures number { result ≡ task_named self.now name.now }
         ensures within { IfSome result (λ task. task < length self.now.tasks) }
@@ -231,7 +233,7 @@ impl ValidModel {
         Some(number as u32)
     }
 
-    /// The number of the chain of that name. There is none exactly where no chain has it.
+    /// Finds the number of the chain of this name, or `None` exactly where no chain has it.
     pub fn chain_named(&self, name: &Name) -> Option<u32>
         ensures number { result ≡ chain_named self.now name.now }
         ensures within { IfSome result (λ chain. chain < length self.now.chains) }
@@ -240,7 +242,7 @@ impl ValidModel {
         Some(number as u32)
     }
 
-    /// The runnable of that name. There is none exactly where no runnable has it.
+    /// Finds the runnable of this name, or `None` exactly where no runnable has it.
     pub fn step_named(&self, name: &Name) -> Option<Step>
         ensures found { is_some result ≡ has_name name.now (runnable_names (all_runnables self.now.tasks)) }
         ensures step { IfSome result (λ step. step ≡ step_named self.now name.now) }
@@ -251,7 +253,7 @@ impl ValidModel {
         Some(steps.steps[number])
     }
 
-    /// An equal model.
+    /// Copies the model, or fails with `NoMemory` where memory runs out.
     pub fn copy(&self, alloc: Global) -> Result<ValidModel, NoMemory>
         ensures { IfOk result (λ copy. copy ≡ self.now) }
     {

@@ -13,29 +13,30 @@ use Rattle.cl_model.specs.declared.stimulus.StimulusKind.{StimulusKind}
 use Rattle.cl_model.specs.Groups.{no_group, group_at}
 use Rattle.cl_model.specs.Timing.{greatest_distance}
 use Rattle.cl_runs.specs.TaskTiming.{System, timing_at}
+use Rattle.cl_stim.specs.declared.phase.Phase.{Phase}
+use Rattle.cl_stim.specs.Integers.{IsIntegerWithin}
+use Rattle.cl_stim.specs.Phase.{phase_of}
 use Rattle.cl_bound.specs.declared.group_timing.GroupTiming.{GroupTiming}
 use Rattle.cl_bound.specs.Bounds.{last_of}
-use Rattle.cl_bound.specs.Hops.{delay, IsNear, IsIntegerWithin}
-use Rattle.cl_phase.specs.declared.pace.Phase.{Phase}
+use Rattle.cl_bound.specs.Hops.{lag, IsNear}
 use Rattle.cl_phase.specs.declared.pace.Pace.{Pace}
 use Rattle.cl_phase.specs.declared.stop.Stop.{Stop}
 use Rattle.cl_phase.specs.declared.keeping.Keeping.{Keeping}
-use Rattle.cl_phase.specs.Phase.{phase_of}
 use Rattle.cl_phase.specs.Kept.{phase_beside, kept_with, pace_with}
 use Rattle.cl_phase.specs.Walks.{no_stop}
 use Rattle.cl_phase.specs.TightAnswers.{tight_response}
-use Rattle.cl_phase.specs.TightBounds.{delay_to_next, stops_beside, stops_of, span_of}
+use Rattle.cl_phase.specs.TightBounds.{lag_to_next, stops_beside, stops_of, span_of}
 use Rattle.cl_phase.specs.Inner.Ranges.{IsPaceInRange, AreStopsInRange}
 use Rattle.cl_phase.specs.Inner.Keeping.{AreKept, AreKeptIn, IsBeside}
-use Rattle.cl_phase.specs.Inner.Course.{tight_timing, delay_from, next_from}
-use Rattle.cl_phase.proofs.Multiples.{HasPeriod, hyperperiod_positive}
+use Rattle.cl_phase.specs.Inner.Course.{tight_timing, lag_from, next_from}
 use Rattle.cl_phase.proofs.SlowestGroups.{pace_of}
 use Rattle.cl_phase.proofs.KeptAfter.{phase_in, kept_after, after_more, phase_of_pace, kept_in}
+use Rattle.cl_phase.proofs.Hyperperiods.{HasPeriod, hyperperiod_positive}
 
 -- a group on its walks whose numbers are those of a valid model
 pub record IsStopInRange (stop : Stop) : Type 0 where
   pub pace : IsPaceInRange stop.pace
-  pub delay : IsIntegerWithin MOST_TICKS stop.delay
+  pub lag : IsIntegerWithin MOST_TICKS stop.lag
 
 -- the first groups of a chain are put together, and what is known then
 pub record IsCourseTo (system : System) (groups : List Group) (place : ℕ) (stops : List Stop) (keeping : Keeping) (timing : GroupTiming) : Type 0 where
@@ -48,10 +49,10 @@ pub record IsCourseTo (system : System) (groups : List Group) (place : ℕ) (sto
   pub timing_is : timing ≡ tight_timing system (group_at groups (min place (length groups - 1)))
   pub near : IsNear timing
 
-delays_same : (system : System) (group : Group) (timing : GroupTiming) (later : List Group) → timing ≡ tight_timing system group
-    → delay_from system timing later ≡ delay_to_next system (tight_response system) group later
-delays_same system group timing [] is = refl
-delays_same system group timing (next ∷ later) is = ap (λ (t : GroupTiming). delay t (tight_timing system next)) is
+lags_same : (system : System) (group : Group) (timing : GroupTiming) (later : List Group) → timing ≡ tight_timing system group
+    → lag_from system timing later ≡ lag_to_next system (tight_response system) group later
+lags_same system group timing [] is = refl
+lags_same system group timing (next ∷ later) is = ap (λ (t : GroupTiming). lag t (tight_timing system next)) is
 
 next_same : (system : System) (timing : GroupTiming) (groups : List Group) (place : ℕ) → place < length groups
     → timing ≡ tight_timing system (group_at groups place)
@@ -90,25 +91,25 @@ module _ (stops : List Stop) (stop : Stop) where
   phases_more = ap (kept_after []) (map-append pace_of stops (stop ∷ [])) ∙ after_more [] (map pace_of stops) stop.pace
 
 same_stop : (pace : Pace) (d : ℤ) (pace' : Pace) (d' : ℤ) → pace ≡ pace' → d ≡ d'
-    → ◌≡◌ {A = Stop} (record { pace = pace; delay = d }) (record { pace = pace'; delay = d' })
+    → ◌≡◌ {A = Stop} (record { pace = pace; lag = d }) (record { pace = pace'; lag = d' })
 same_stop pace d pace' d' e f = cc
 
 -- what is left with one group
 beside_more : (system : System) (kept : List Phase) (group : Group) (later : List Group) (kind : StimulusKind) (pace : Pace) (d : ℤ)
     → kind ≡ (timing_at system group.task).pattern → pace ≡ pace_with (greatest_distance kind) (phase_beside kept (phase_of kind))
-    → d ≡ delay_to_next system (tight_response system) group later
+    → d ≡ lag_to_next system (tight_response system) group later
     → stops_beside system (tight_response system) kept (group ∷ later)
-    ≡ (record { pace = pace; delay = d }) ∷ stops_beside system (tight_response system) (kept_with kept (phase_in pace)) later
+    ≡ (record { pace = pace; lag = d }) ∷ stops_beside system (tight_response system) (kept_with kept (phase_in pace)) later
 unfolding stops_beside
-beside_more system kept group later kind pace d is pace_is delay_is =
+beside_more system kept group later kind pace d is pace_is lag_is =
     let pattern = (timing_at system group.task).pattern in
     let made : pace_with (greatest_distance pattern) (phase_beside kept (phase_of pattern)) ≡ pace =
     ap (λ (k : StimulusKind). pace_with (greatest_distance k) (phase_beside kept (phase_of k))) (sym is) ∙ sym pace_is in
     let phase : phase_beside kept (phase_of pattern) ≡ phase_in pace =
     sym (phase_of_pace (greatest_distance pattern) (phase_beside kept (phase_of pattern))) ∙ ap phase_in made in
     ap (λ (s : Stop). s ∷ stops_beside system (tight_response system) (kept_with kept (phase_beside kept (phase_of pattern))) later)
-    (same_stop _ _ _ _ made (sym delay_is))
-    ∙ ap (λ (o : Option Phase). (record { pace = pace; delay = d }) ∷ stops_beside system (tight_response system) (kept_with kept o) later) phase
+    (same_stop _ _ _ _ made (sym lag_is))
+    ∙ ap (λ (o : Option Phase). (record { pace = pace; lag = d }) ∷ stops_beside system (tight_response system) (kept_with kept o) later) phase
 
 module _ (system : System) (groups : List Group) (some_groups : 0 < length groups) where
   pub course_begins : (stops : List Stop) (keeping : Keeping) (timing : GroupTiming) → stops ≡ [] → AreKept [] keeping
@@ -128,11 +129,11 @@ module _ (system : System) (groups : List Group) (some_groups : 0 < length group
   module _ (place : ℕ) (stops : List Stop) (keeping : Keeping) (timing : GroupTiming) (so_far : IsCourseTo system groups place stops keeping timing) where
     pub course_goes_on : (within : place < length groups) (kind : StimulusKind) (pace : Pace) (more : Keeping) (d : ℤ) (next : GroupTiming)
         → kind ≡ (timing_at system (group_at groups place).task).pattern → IsBeside kind (kept_after [] (map pace_of stops)) pace more → 1 ≤ more.hyperperiod
-        → d ≡ delay_from system timing (drop (place + 1) groups) → IsIntegerWithin MOST_TICKS d
+        → d ≡ lag_from system timing (drop (place + 1) groups) → IsIntegerWithin MOST_TICKS d
         → next ≡ next_from system timing (drop (place + 1) groups) → IsNear next
-        → IsCourseTo system groups (place + 1) (stops ++ (record { pace = pace; delay = d }) ∷ []) more next
-    course_goes_on within kind pace more d next is beside some delay_is small next_is near =
-        let stop : Stop = record { pace = pace; delay = d } in
+        → IsCourseTo system groups (place + 1) (stops ++ (record { pace = pace; lag = d }) ∷ []) more next
+    course_goes_on within kind pace more d next is beside some lag_is small next_is near =
+        let stop : Stop = record { pace = pace; lag = d } in
         let kept = kept_after [] (map pace_of stops) in
         let here : min place (length groups - 1) ≡ place = omega (arith, within) in
         let timing_is : timing ≡ tight_timing system (group_at groups place) = so_far.timing_is ∙ ap (λ n. tight_timing system (group_at groups n)) here in
@@ -141,14 +142,14 @@ module _ (system : System) (groups : List Group) (some_groups : 0 < length group
         let phases = phases_more stops stop in
         record {
           as_many = length-append stops (stop ∷ []) ∙ omega (arith, so_far.as_many);
-          in_range = in_range_more stops stop place so_far.as_many so_far.in_range (record { pace = beside.in_range; delay = small });
+          in_range = in_range_more stops stop place so_far.as_many so_far.in_range (record { pace = beside.in_range; lag = small });
           kept = subst (λ (k : List Phase). AreKept k more) (ap (kept_with kept) phase ∙ sym phases) beside.are;
           some = some;
           stops_are = so_far.stops_are
               ∙ ap (λ (left : List Group). stops ++ stops_beside system (tight_response system) kept left) (with_rest groups place within)
               ∙ ap (λ (left : List Stop). stops ++ left)
               (beside_more system kept (group_at groups place) (drop (place + 1) groups) kind pace d is beside.pace_is
-              (delay_is ∙ delays_same system (group_at groups place) timing (drop (place + 1) groups) timing_is))
+              (lag_is ∙ lags_same system (group_at groups place) timing (drop (place + 1) groups) timing_is))
               ∙ sym (append_assoc stops (stop ∷ []) (stops_beside system (tight_response system) (kept_with kept (phase_in pace)) (drop (place + 1) groups)))
               ∙ ap (λ (k : List Phase). (stops ++ stop ∷ []) ++ stops_beside system (tight_response system) k (drop (place + 1) groups)) (sym phases);
           timing_is = next_is ∙ next_same system timing groups place within timing_is;
@@ -170,7 +171,7 @@ module _ (system : System) (groups : List Group) (some_groups : 0 < length group
         some = omega (arith, so_far.as_many, all, some_groups);
         few = omega (arith, so_far.as_many, all, few);
         paces = λ here below. (so_far.in_range here (omega (arith, below, so_far.as_many))).pace;
-        delays = λ here below. (so_far.in_range here (omega (arith, below, so_far.as_many))).delay;
+        lags = λ here below. (so_far.in_range here (omega (arith, below, so_far.as_many))).lag;
       }
 
       pub course_kept : AreKeptIn stops keeping

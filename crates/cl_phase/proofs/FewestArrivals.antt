@@ -8,13 +8,12 @@ use Rattle.std.proofs.lemmas.Nat.{div-mul-add, div-add-mod', mul-le}
 use Rattle.std.proofs.lemmas.List.Elements.{All-head, All-tail}
 use Rattle.std.proofs.Math.Nat.{div-mul_cancel}
 use Rattle.cl_model.specs.declared.limits.TheConstants.{MOST_TICKS}
+use Rattle.cl_stim.specs.declared.phase.Phase.{Phase}
+use Rattle.cl_stim.specs.Phase.{IsPhaseInRange, arrivals_in}
 use Rattle.cl_phase.specs.declared.pace.TheConstants.{MOST_ARRIVALS}
-use Rattle.cl_phase.specs.declared.pace.Phase.{Phase}
-use Rattle.cl_phase.specs.Phase.{IsPhaseInRange}
-use Rattle.cl_phase.specs.Kept.{arrivals_in}
 use Rattle.cl_phase.specs.Inner.Ranges.{MOST_HYPERPERIOD}
 use Rattle.cl_phase.specs.Inner.Keeping.{fewest_in}
-use Rattle.cl_phase.proofs.Multiples.{Divides}
+use Rattle.cl_phase.proofs.Hyperperiods.{Divides}
 
 -- whether one of the phases has few arrivals
 abbrev pub some_has_few : (ticks most : ℕ) → List Phase → Bool

@@ -5,15 +5,15 @@ use Rattle.std.specs.Prelude.{ℤ, pos, negsuc, ◌≤ℤ◌, All}
 use Rattle.cl_model.specs.declared.group.Group.{Group}
 use Rattle.cl_model.specs.Holds.{greatest_by}
 use Rattle.cl_runs.specs.TaskTiming.{System, IsSound}
+use Rattle.cl_stim.specs.declared.phase.Phase.{Phase}
+use Rattle.cl_stim.specs.Phase.{IsPhase, IsArrivalOf}
+use Rattle.cl_stim.proofs.PhaseSteps.{first_arrives, first_after, first_before, last_arrives, last_before, last_after}
 use Rattle.cl_bound.specs.SettledChains.{IsGroupOfTask}
-use Rattle.cl_phase.specs.declared.pace.Phase.{Phase}
 use Rattle.cl_phase.specs.declared.pace.Pace.TheVariants.{Kept}
 use Rattle.cl_phase.specs.declared.stop.Stop.{Stop}
-use Rattle.cl_phase.specs.Phase.{IsPhase, IsArrivalOf}
 use Rattle.cl_phase.specs.Pace.{IsPace, first_from, last_by}
 use Rattle.cl_phase.specs.Walks.{pace_at}
 use Rattle.cl_phase.specs.TightBounds.{stops_of, hyperperiod_in, slowest, starts, ticks_of, length_from, reduced_from, bounds_from, span_of, tight_bounds}
-use Rattle.cl_phase.proofs.PhaseSteps.{first_arrives, first_after, first_before, last_arrives, last_before, last_after}
 use Rattle.cl_phase.proofs.StartFacts.{start_within, start_reached}
 use Rattle.cl_phase.proofs.SlowestFacts.{slowest_within, slowest_is_kept}
 use Rattle.cl_phase.proofs.StopFacts.{length_stops, stop_is_pace, stops_step, stops_come_round, stops_hyperperiod}

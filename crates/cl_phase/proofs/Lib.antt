@@ -1,14 +1,10 @@
-pub mod Neighbours
 pub mod PaceSteps
 pub mod PatternPaces
 pub mod RunPaces
-pub mod Ranges
-pub mod Multiples
-pub mod PhaseSteps
+pub mod Hyperperiods
 pub mod Stepped
 pub mod WalkRanges
 pub mod LongestWalks
-pub mod TurnFacts
 pub mod ScannedStarts
 pub mod FewestArrivals
 pub mod KeptPhases

@@ -4,19 +4,19 @@ use Rattle.std.proofs.lemmas.Int.{ints}
 use Rattle.std.proofs.lemmas.List.Sums.{fold-append}
 use Rattle.cl_model.specs.Holds.{greatest_by}
 use Rattle.cl_model.specs.declared.limits.TheConstants.{MOST_TICKS}
+use Rattle.cl_stim.specs.declared.phase.Phase.{Phase}
+use Rattle.cl_stim.specs.Phase.{IsPhase, IsPhaseInRange, IsArrivalOf, first_arrival}
+use Rattle.cl_stim.proofs.PhaseSteps.{first_arrives, first_after}
 use Rattle.cl_phase.specs.declared.stop.Stop.{Stop}
 use Rattle.cl_phase.specs.declared.walk.Longest.{Longest}
 use Rattle.cl_phase.specs.Pace.{previous}
 use Rattle.cl_phase.specs.Walks.{pace_at, last_place, arrival_at_first, arrival_at_last}
-use Rattle.cl_phase.specs.declared.pace.Phase.{Phase}
 use Rattle.cl_phase.specs.declared.pace.Pace.TheVariants.{Kept}
-use Rattle.cl_phase.specs.Phase.{IsPhase, IsPhaseInRange, IsArrivalOf, first_arrival}
 use Rattle.cl_phase.specs.Inner.Ranges.{IsPaceInRange, AreStopsInRange}
 use Rattle.cl_phase.specs.TightBounds.{ticks_of, length_from, reduced_from, arrives_at, starts}
 use Rattle.cl_phase.specs.Inner.Longest.{lengths_at, longer_of, longest_of}
 use Rattle.cl_phase.proofs.StartFacts.{test_from_arrival}
 use Rattle.cl_phase.proofs.ScannedStarts.{none_before_first, starts_at, starts_over}
-use Rattle.cl_phase.proofs.PhaseSteps.{first_arrives, first_after}
 
 pub same_longest : (length reduced length' reduced' : ℕ) → length ≡ length' → reduced ≡ reduced'
     → ◌≡◌ {A = Longest} (record { length = length; reduced = reduced }) (record { length = length'; reduced = reduced' })

@@ -49,13 +49,13 @@ module _ (system : System) (responses : ℕ → ℕ) (first : Group) (later : Li
   ahead_is : ahead stops (last_place stops) ≡ hops forward_hop (timing first) (map timing later)
   ahead_is =
       let sum = sum_of_hops forward_hop timing first later (ahead stops) (λ i h.
-      omega (arith, ints, of.delays i h, ap pos (steps.steps (suc i) h))) in
+      omega (arith, ints, of.lags i h, ap pos (steps.steps (suc i) h))) in
       omega (arith, ints, ap (ahead stops) same_last, sum)
 
   behind_is : behind stops (last_place stops) ≡ hops backward_hop (timing first) (map timing later)
   behind_is =
       let sum = sum_of_hops backward_hop timing first later (behind stops) (λ i h.
-      omega (arith, ints, of.delays i h, ap pos (steps.steps i (omega (arith, h))))) in
+      omega (arith, ints, of.lags i h, ap pos (steps.steps i (omega (arith, h))))) in
       omega (arith, ints, ap (behind stops) same_last, sum)
 
   module _ (stepped : (place : ℕ) → place < length stops → IsStepped (pace_at stops place)) (place : ℕ) (is : place < length stops) (arrival : ℤ) where

@@ -7,7 +7,7 @@ use Rattle.std.proofs.lemmas.Int.{ints}
 use Rattle.cl_phase.specs.declared.pace.Pace.{Pace}
 use Rattle.cl_phase.specs.declared.stop.Stop.{Stop}
 use Rattle.cl_phase.specs.Pace.{first_from, last_by, previous}
-use Rattle.cl_phase.specs.Walks.{pace_at, delay_at, onward, back, last_place, arrival_at_last, arrival_at_first}
+use Rattle.cl_phase.specs.Walks.{pace_at, lag_at, onward, back, last_place, arrival_at_last, arrival_at_first}
 use Rattle.cl_phase.specs.TightBounds.{length_from, reduced_from}
 use Rattle.cl_phase.proofs.Stepped.{IsStepped}
 use Rattle.cl_phase.proofs.WalksBothWays.{last_rises, onward_on, back_on, onward_rises, back_rises, walks_both_ways}
@@ -55,15 +55,15 @@ module _ (stops : List Stop) (stepped : (place : ℕ) → place < length stops �
 
     pub ahead_arrives : (arrival : ℤ) → Ends (ahead arrival)
     unfolding ahead onward
-    ahead_arrives arrival = ends.first_arrives (onward stops from arrival hops +ℤ delay_at stops (from + hops))
+    ahead_arrives arrival = ends.first_arrives (onward stops from arrival hops +ℤ lag_at stops (from + hops))
 
     -- the walk back ends with a step to the last arrival by this moment
     before_step : ℤ → ℤ
-    before_step arrival = back stops to arrival hops -ℤ delay_at stops from
+    before_step arrival = back stops to arrival hops -ℤ lag_at stops from
 
     behind_is : (arrival : ℤ) → behind arrival ≡ last_by (pace_at stops from) (before_step arrival)
     unfolding behind before_step back
-    behind_is arrival = ap (λ n. last_by (pace_at stops n) (back stops to arrival hops -ℤ delay_at stops n)) (omega arith)
+    behind_is arrival = ap (λ n. last_by (pace_at stops n) (back stops to arrival hops -ℤ lag_at stops n)) (omega arith)
 
     behind_arrives : (arrival : ℤ) → Starts (behind arrival)
     behind_arrives arrival = subst Starts (sym (behind_is arrival)) (starts.last_arrives (before_step arrival))

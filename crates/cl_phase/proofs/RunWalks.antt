@@ -1,5 +1,5 @@
 -- In a legal run, the bounds by walks are at least as long as from the first group's earlier job to the last group's
--- later one, for any two jobs of each group, one after the other, that are linked by delays.
+-- later one, for any two jobs of each group, one after the other, that are linked by lags.
 use Rattle.std.proofs.Common.{◌≡◌, ℕ, ℤ, pos, suc, ◌-◌, ◌<◌, inl, inr, List, [], ◌∷◌, length, ap, ◌∙◌, arith}
 use Rattle.std.specs.Prelude.{◌+ℤ◌, ◌-ℤ◌, ◌≤ℤ◌, ◌⊎◌}
 use Rattle.std.proofs.lemmas.Int.{ints}
@@ -10,12 +10,12 @@ use Rattle.cl_runs.specs.Table.{job_at}
 use Rattle.cl_runs.specs.Run.{Run, jobs_of}
 use Rattle.cl_runs.specs.Legal.{IsLegal}
 use Rattle.cl_runs.specs.Chains.{first_group, last_group}
-use Rattle.cl_bound.specs.Hops.{group_timing, delay}
+use Rattle.cl_bound.specs.Hops.{group_timing, lag}
 use Rattle.cl_bound.specs.declared.group_timing.GroupTiming.{GroupTiming}
 use Rattle.cl_bound.proofs.AlongChains.{last_timing}
 use Rattle.cl_phase.specs.declared.stop.Stop.{Stop}
 use Rattle.cl_phase.specs.Pace.{AreNeighbours}
-use Rattle.cl_phase.specs.Walks.{pace_at, delay_at, last_place}
+use Rattle.cl_phase.specs.Walks.{pace_at, lag_at, last_place}
 use Rattle.cl_phase.specs.TightBounds.{span_of, length_from, reduced_from, bounds_from}
 use Rattle.cl_phase.proofs.Walking.{KeepsPhase, AreLinkedJobs, length_covers, reduced_covers}
 use Rattle.cl_phase.proofs.WalkStarts.{AreStops, IsArrivalAt, after_arrives, length_bounded, age_bounded, reduced_bounded}
@@ -24,16 +24,16 @@ use Rattle.cl_phase.proofs.WalkStarts.{AreStops, IsArrivalAt, after_arrives, len
 abbrev pub arrival_in : Run → List Group → (place job : ℕ) → ℕ
 arrival_in run groups place job = (job_at (jobs_of run (group_at groups place).task) job).arrival
 
--- the delay of the hop from the group of a place to the next
-abbrev pub delay_from : System → (responses : ℕ → ℕ) → List Group → (place : ℕ) → ℤ
-delay_from system responses groups place =
-    delay (group_timing system responses (group_at groups place)) (group_timing system responses (group_at groups (suc place)))
+-- the lag of the hop from the group of a place to the next
+abbrev pub lag_from : System → (responses : ℕ → ℕ) → List Group → (place : ℕ) → ℤ
+lag_from system responses groups place =
+    lag (group_timing system responses (group_at groups place)) (group_timing system responses (group_at groups (suc place)))
 
--- stops are those of groups of a system: one a group, with the delays of their hops, and in each legal run neighbouring
+-- stops are those of groups of a system: one a group, with the lags of their hops, and in each legal run neighbouring
 -- jobs of a group arrive as its pace says
 pub record AreStopsOf (system : System) (responses : ℕ → ℕ) (groups : List Group) (stops : List Stop) : Type 0 where
   pub as_many : length stops ≡ length groups
-  pub delays : (place : ℕ) → suc place < length groups → delay_at stops place ≡ delay_from system responses groups place
+  pub lags : (place : ℕ) → suc place < length groups → lag_at stops place ≡ lag_from system responses groups place
   pub neighbours : (run : Run) → IsLegal system run → (place job : ℕ) → place < length groups
       → suc job < length (jobs_of run (group_at groups place).task)
       → AreNeighbours (pace_at stops place) (pos (arrival_in run groups place job)) (pos (arrival_in run groups place (suc job)))
@@ -52,15 +52,15 @@ span_is system responses (first ∷ later) some =
 through : (a b c : ℤ) → a ≤ℤ b → b ≤ℤ c → a ≤ℤ c
 through a b c h k = omega (arith, ints, h, k)
 
-follows : (before after delay other : ℤ) → other ≡ delay → (before +ℤ pos 1) ≤ℤ (after +ℤ delay) → (before +ℤ pos 1) ≤ℤ (after +ℤ other)
-follows before after delay other same h = omega (arith, ints, same, h)
+follows : (before after lag other : ℤ) → other ≡ lag → (before +ℤ pos 1) ≤ℤ (after +ℤ lag) → (before +ℤ pos 1) ≤ℤ (after +ℤ other)
+follows before after lag other same h = omega (arith, ints, same, h)
 
--- of each group a job of the run that isn't the last one, with its next job less than the delay before the next group's
+-- of each group a job of the run that isn't the last one, with its next job less than the lag before the next group's
 pub record AreMissedJobs (system : System) (responses : ℕ → ℕ) (groups : List Group) (run : Run) (jobs : ℕ → ℕ) : Type 0 where
   pub in_table : (place : ℕ) → place < length groups → suc (jobs place) < length (jobs_of run (group_at groups place).task)
   pub missed : (place : ℕ) → suc place < length groups
       → (pos (arrival_in run groups (suc place) (jobs (suc place))) +ℤ pos 1)
-      ≤ℤ (pos (arrival_in run groups place (suc (jobs place))) +ℤ delay_from system responses groups place)
+      ≤ℤ (pos (arrival_in run groups place (suc (jobs place))) +ℤ lag_from system responses groups place)
 
 module _ (system : System) (responses : ℕ → ℕ) (groups : List Group) (stops : List Stop) (of : AreStopsOf system responses groups stops)
     (place : ℕ) (are : AreStops stops place) (span : ℤ) (run : Run) (legal : IsLegal system run) (jobs : ℕ → ℕ)
@@ -78,7 +78,7 @@ module _ (system : System) (responses : ℕ → ℕ) (groups : List Group) (stop
         of.neighbours run legal other (jobs other) within (missed.in_table other within);
     linked = λ other h.
         let within : suc other < length groups = omega (arith, h, of.as_many) in
-        follows (before (suc other)) (after other) _ (delay_at stops other) (of.delays other within) (missed.missed other within);
+        follows (before (suc other)) (after other) _ (lag_at stops other) (of.lags other within) (missed.missed other within);
   }
 
   keeps_or_first : (KeepsPhase stops place) ⊎ (place ≡ 0)

@@ -15,7 +15,7 @@ use Rattle.cl_comm.proofs.AccessTimes.{reads_come_late}
 use Rattle.cl_bound.specs.Hops.{group_timing}
 use Rattle.cl_bound.specs.Promises.{AreAtLeast}
 use Rattle.cl_bound.proofs.LaterRuns.{writes_in_time}
-use Rattle.cl_bound.proofs.DelayBounds.{forward_delay, backward_delay}
+use Rattle.cl_bound.proofs.LagBounds.{forward_lag, backward_lag}
 use Rattle.cl_bound.proofs.ChainBounds.{AreTimely}
 use Rattle.cl_phase.specs.declared.stop.Stop.{Stop}
 use Rattle.cl_phase.specs.Walks.{last_place}
@@ -59,9 +59,8 @@ module _ (system : System) (sound : IsSound system) (responses : ℕ → ℕ) (g
     in_table = λ place h. subst (λ n. n < length (jobs_of run (group_at groups place).task)) (next_is place h) (complete.written place h).writes.in_table;
     missed = λ place h.
         let here : place < length groups = omega (arith, h) in
-        let late = forward_delay system sound responses (group_at groups place) (group_at groups (suc place)) (timely place here) (timely (suc place) h)
-        run legal (slice_index chain.jobs place) (slice_index chain.jobs (suc place)) (complete.not_first (suc place) h) (complete.linked place h)
-        (complete.written (suc place) h) in
+        let late = forward_lag system sound responses (group_at groups place) (group_at groups (suc place)) (timely place here) (timely (suc place) h)
+        run legal (slice_index chain.jobs place) (slice_index chain.jobs (suc place)) (complete.not_first (suc place) h) (complete.linked place h) in
         omega (arith, ints, late, ap (λ n. pos (arrival_in run groups place n)) (next_is place here));
   }
 
@@ -73,7 +72,7 @@ module _ (system : System) (sound : IsSound system) (responses : ℕ → ℕ) (g
     in_table = next.in_table;
     missed = λ place h.
         let here : place < length groups = omega (arith, h) in
-        let late = backward_delay system sound responses (group_at groups place) (group_at groups (suc place)) (timely place here) (timely (suc place) h)
+        let late = backward_lag system sound responses (group_at groups place) (group_at groups (suc place)) (timely place here) (timely (suc place) h)
         next.longer next.legal (slice_index jobs place) (slice_index jobs (suc place)) (links.linked place h) (next.written place here) in
         let one : slice_index jobs place + 1 ≡ suc (slice_index jobs place) = omega arith in
         omega (arith, ints, late, ap (λ n. pos (arrival_in next.longer groups place n)) one);

@@ -2,12 +2,13 @@
 use Rattle.std.proofs.Common.{◌≡◌, ℕ, zero, suc, ◌+◌, ◌-◌, ◌^◌, ◌<◌, ◌≤◌, Bool, true, false, cond, nat_le, ◌&&◌, List, [], ◌∷◌, map, min, length, Option, Some, None, find, unwrap_or, refl, ap, sym, ◌∙◌, arith}
 use Rattle.std.specs.List.{list_all, range_with_len}
 use Rattle.std.proofs.lemmas.Bool.Decides.{nat_tests}
-use Rattle.cl_phase.specs.declared.pace.Phase.{Phase}
+use Rattle.cl_stim.specs.declared.phase.Phase.{Phase}
+use Rattle.cl_stim.specs.Phase.{arrivals_in}
 use Rattle.cl_phase.specs.declared.pace.Pace.{Pace}
 use Rattle.cl_phase.specs.declared.pace.Pace.TheVariants.{Kept, Free}
 use Rattle.cl_phase.specs.declared.stop.Stop.{Stop}
 use Rattle.cl_phase.specs.declared.keeping.Keeping.{Keeping}
-use Rattle.cl_phase.specs.Kept.{arrivals_in, phases_in}
+use Rattle.cl_phase.specs.Kept.{phases_in}
 use Rattle.cl_phase.specs.Walks.{pace_at}
 use Rattle.cl_phase.specs.TightBounds.{has_no_fewer, is_slowest, slowest, hyperperiod_in}
 use Rattle.cl_phase.specs.Inner.Ranges.{MOST_HYPERPERIOD, IsPaceInRange}

@@ -8,11 +8,11 @@ use Rattle.std.proofs.lemmas.List.FromFn.{length-range_with_len, get_or-range_wi
 use Rattle.std.proofs.lemmas.List.Elements.{All-head, All-tail, All-cons, All-nil, All-from_get_or, All-weaker}
 use Rattle.cl_model.specs.Holds.{greatest_by}
 use Rattle.cl_model.proofs.Greatest.{greatest_filtered, greatest_within}
-use Rattle.cl_phase.specs.declared.pace.Phase.{Phase}
+use Rattle.cl_stim.specs.declared.phase.Phase.{Phase}
+use Rattle.cl_stim.specs.Phase.{IsPhase, IsArrivalOf, since_turn, last_in_turn}
+use Rattle.cl_stim.proofs.PhaseSteps.{last_arrives, last_before, last_after}
 use Rattle.cl_phase.specs.declared.pace.Pace.TheVariants.{Kept, Free}
-use Rattle.cl_phase.specs.Phase.{IsPhase, IsArrivalOf, since_turn, last_in_turn}
 use Rattle.cl_phase.specs.TightBounds.{arrives_at, starts}
-use Rattle.cl_phase.proofs.PhaseSteps.{last_arrives, last_before, last_after}
 
 -- the test whether a job arrives at a moment says so
 module _ (phase : Phase) (is : IsPhase phase) (moment : ℤ) where

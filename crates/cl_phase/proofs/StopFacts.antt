@@ -1,4 +1,4 @@
--- The groups of a chain on its walks, by their places: their paces, their delays, and where walks start.
+-- The groups of a chain on its walks, by their places: their paces, their lags, and where walks start.
 use Rattle.std.proofs.Common.{◌≡◌, ℕ, zero, suc, ◌<◌, ◌≤◌, Option, Some, None, List, [], ◌∷◌, All, length, refl, ap, arith}
 use Rattle.std.proofs.lemmas.Bool.{cond_both}
 use Rattle.cl_model.specs.declared.group.Group.{Group}
@@ -6,14 +6,14 @@ use Rattle.cl_model.specs.declared.stimulus.StimulusKind.{StimulusKind}
 use Rattle.cl_model.specs.Groups.{group_at}
 use Rattle.cl_model.specs.Timing.{greatest_distance}
 use Rattle.cl_runs.specs.TaskTiming.{System, timing_at, IsSound}
-use Rattle.cl_bound.specs.Hops.{group_timing, delay}
+use Rattle.cl_stim.specs.declared.phase.Phase.{Phase}
+use Rattle.cl_stim.specs.Phase.{phase_of}
+use Rattle.cl_bound.specs.Hops.{group_timing, lag}
 use Rattle.cl_bound.specs.SettledChains.{IsGroupOfTask}
-use Rattle.cl_phase.specs.declared.pace.Phase.{Phase}
 use Rattle.cl_phase.specs.declared.stop.Stop.{Stop}
-use Rattle.cl_phase.specs.Phase.{phase_of}
 use Rattle.cl_phase.specs.Pace.{IsPace, ComesRound, greatest_step}
 use Rattle.cl_phase.specs.Kept.{phase_beside, kept_with, pace_with, come_round_soon}
-use Rattle.cl_phase.specs.Walks.{pace_at, delay_at}
+use Rattle.cl_phase.specs.Walks.{pace_at, lag_at}
 use Rattle.cl_phase.specs.TightBounds.{stops_beside, hyperperiod_in, slowest}
 use Rattle.cl_phase.proofs.PatternPaces.{IsPaceOf, pace_is, pace_step}
 use Rattle.cl_phase.proofs.Stepped.{IsStepped}
@@ -44,16 +44,16 @@ module _ (system : System) (responses : ℕ → ℕ) where
   stop_pace (group ∷ later) kept (suc place) within =
       stop_pace later (kept_with kept (phase_beside kept (phase_of (timing_at system group.task).pattern))) place (omega (arith, within))
 
-  -- the delay there is that of the hop to the next group
-  pub stop_delay : (groups : List Group) (kept : List Phase) (place : ℕ) → suc place < length groups
-      → delay_at (stops_beside system responses kept groups) place
-      ≡ delay (group_timing system responses (group_at groups place)) (group_timing system responses (group_at groups (suc place)))
+  -- the lag there is that of the hop to the next group
+  pub stop_lag : (groups : List Group) (kept : List Phase) (place : ℕ) → suc place < length groups
+      → lag_at (stops_beside system responses kept groups) place
+      ≡ lag (group_timing system responses (group_at groups place)) (group_timing system responses (group_at groups (suc place)))
   unfolding stops_beside
-  stop_delay [] kept place within = absurd (omega (arith, within))
-  stop_delay (group ∷ []) kept place within = absurd (omega (arith, within))
-  stop_delay (group ∷ next ∷ later) kept zero within = refl
-  stop_delay (group ∷ next ∷ later) kept (suc place) within =
-      stop_delay (next ∷ later) (kept_with kept (phase_beside kept (phase_of (timing_at system group.task).pattern))) place (omega (arith, within))
+  stop_lag [] kept place within = absurd (omega (arith, within))
+  stop_lag (group ∷ []) kept place within = absurd (omega (arith, within))
+  stop_lag (group ∷ next ∷ later) kept zero within = refl
+  stop_lag (group ∷ next ∷ later) kept (suc place) within =
+      stop_lag (next ∷ later) (kept_with kept (phase_beside kept (phase_of (timing_at system group.task).pattern))) place (omega (arith, within))
 
   module _ (sound : IsSound system) (groups : List Group) (all : All (IsGroupOfTask system) groups) (kept : List Phase) where
     abbrev stops : List Stop

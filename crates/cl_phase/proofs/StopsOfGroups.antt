@@ -14,7 +14,7 @@ use Rattle.cl_phase.proofs.RunPaces.{run_neighbours}
 use Rattle.cl_phase.proofs.SlowestFacts.{ArePaced, hyperperiod_comes_round, hyperperiod_is_some, slowest_within, slowest_keeps}
 use Rattle.cl_phase.specs.Pace.{IsPace}
 use Rattle.cl_phase.proofs.StartFacts.{start_within}
-use Rattle.cl_phase.proofs.StopFacts.{length_stops, stop_pace, stop_delay, stop_is_pace, stop_step}
+use Rattle.cl_phase.proofs.StopFacts.{length_stops, stop_pace, stop_lag, stop_is_pace, stop_step}
 use Rattle.cl_phase.proofs.Walking.{KeepsPhase, IsFreeAt}
 use Rattle.cl_phase.proofs.WalkStarts.{AreStops}
 use Rattle.cl_phase.proofs.RunWalks.{AreStopsOf}
@@ -59,7 +59,7 @@ module _ (system : System) (sound : IsSound system) (responses : ℕ → ℕ) (g
   are_stops_of : AreStopsOf system responses groups stops
   are_stops_of = record {
     as_many = as_many;
-    delays = stop_delay system responses groups [];
+    lags = stop_lag system responses groups [];
     neighbours = λ run legal place job h below. run_neighbours system sound run legal (group_at groups place).task (all place no_group h).is_task
         (pace_at stops place) (stop_pace system responses groups [] place h) job below;
   }

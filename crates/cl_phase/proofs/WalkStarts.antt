@@ -6,11 +6,11 @@ use Rattle.std.proofs.Math.Nat.{dvd-mul_left}
 use Rattle.std.proofs.lemmas.Nat.Gcd.{dvd_trans}
 use Rattle.std.proofs.lemmas.Int.{ints}
 use Rattle.cl_model.specs.Holds.{greatest_by}
-use Rattle.cl_phase.specs.declared.pace.Phase.{Phase}
+use Rattle.cl_stim.specs.declared.phase.Phase.{Phase}
+use Rattle.cl_stim.specs.Phase.{IsArrivalOf}
 use Rattle.cl_phase.specs.declared.pace.Pace.{Pace}
 use Rattle.cl_phase.specs.declared.pace.Pace.TheVariants.{Kept, Free}
 use Rattle.cl_phase.specs.declared.stop.Stop.{Stop}
-use Rattle.cl_phase.specs.Phase.{IsArrivalOf}
 use Rattle.cl_phase.specs.Pace.{ComesRound, AreNeighbours}
 use Rattle.cl_phase.specs.Walks.{pace_at}
 use Rattle.cl_phase.specs.TightBounds.{hyperperiod_in, starts, ticks_of, length_from, reduced_from, bounds_from}

@@ -1,5 +1,5 @@
 -- Walks go no further than sums over the groups on their way: of the greatest distance of each, less one tick, and of
--- the delays between them.
+-- the lags between them.
 use Rattle.std.proofs.Common.{◌≡◌, ℕ, ℤ, pos, zero, suc, ◌+◌, ◌-◌, ◌<◌, ◌≤◌, inl, inr, List, length, refl, sym, ap, ◌∙◌, subst, arith}
 use Rattle.std.specs.Prelude.{◌+ℤ◌, ◌-ℤ◌, ◌≤ℤ◌}
 use Rattle.std.proofs.lemmas.Bool.{cases_lt}
@@ -7,7 +7,7 @@ use Rattle.std.proofs.lemmas.Int.{ints, by_lt_z}
 use Rattle.cl_phase.specs.declared.pace.Pace.{Pace}
 use Rattle.cl_phase.specs.declared.stop.Stop.{Stop}
 use Rattle.cl_phase.specs.Pace.{first_from, previous, greatest_step}
-use Rattle.cl_phase.specs.Walks.{pace_at, delay_at, onward, back, last_place, arrival_at_last, arrival_at_first}
+use Rattle.cl_phase.specs.Walks.{pace_at, lag_at, onward, back, last_place, arrival_at_last, arrival_at_first}
 use Rattle.cl_phase.specs.TightBounds.{length_from, reduced_from}
 use Rattle.cl_phase.proofs.Stepped.{IsStepped}
 
@@ -18,11 +18,11 @@ step_at stops place = pos (greatest_step (pace_at stops place))
 -- the sum of the hops over the distances of their readers, to the group of a place, and over those of their writers
 abbrev pub ahead : List Stop → (place : ℕ) → ℤ
 ahead stops zero = pos 0
-ahead stops (suc place) = ahead stops place +ℤ ((step_at stops (suc place) -ℤ pos 1) +ℤ delay_at stops place)
+ahead stops (suc place) = ahead stops place +ℤ ((step_at stops (suc place) -ℤ pos 1) +ℤ lag_at stops place)
 
 abbrev pub behind : List Stop → (place : ℕ) → ℤ
 behind stops zero = pos 0
-behind stops (suc place) = behind stops place +ℤ ((step_at stops place -ℤ pos 1) +ℤ delay_at stops place)
+behind stops (suc place) = behind stops place +ℤ ((step_at stops place -ℤ pos 1) +ℤ lag_at stops place)
 
 -- they differ by the distances of the two ends
 pub ends_differ : (stops : List Stop) (place : ℕ) → (ahead stops place +ℤ step_at stops 0) ≡ (behind stops place +ℤ step_at stops place)
@@ -57,7 +57,7 @@ module _ (stops : List Stop) (stepped : (place : ℕ) → place < length stops �
         ap (ahead stops) next,
         ap (step_at stops) next,
         onward_near arrival hops (omega (arith, h)),
-        (stepped (place + suc hops) h).first_near (onward stops place arrival hops +ℤ delay_at stops (place + hops)),
+        (stepped (place + suc hops) h).first_near (onward stops place arrival hops +ℤ lag_at stops (place + hops)),
       )
 
   -- to the arrival before the one to which a walk leads
@@ -73,7 +73,7 @@ module _ (stops : List Stop) (stepped : (place : ℕ) → place < length stops �
         ap (ahead stops) next,
         ap (step_at stops) next,
         onward_near arrival hops (omega (arith, h)),
-        previous_of_first (pace_at stops (place + suc hops)) (stepped (place + suc hops) h) (onward stops place arrival hops +ℤ delay_at stops (place + hops)),
+        previous_of_first (pace_at stops (place + suc hops)) (stepped (place + suc hops) h) (onward stops place arrival hops +ℤ lag_at stops (place + hops)),
       )
 
   back_near : (arrival : ℤ) (hops : ℕ) → place < length stops → hops ≤ place
@@ -90,7 +90,7 @@ module _ (stops : List Stop) (stepped : (place : ℕ) → place < length stops �
         ints,
         ap (behind stops) next,
         back_near arrival hops h (omega (arith, few)),
-        (stepped (place - suc hops) there).last_near (back stops place arrival hops -ℤ delay_at stops (place - suc hops)),
+        (stepped (place - suc hops) there).last_near (back stops place arrival hops -ℤ lag_at stops (place - suc hops)),
       )
 
   module _ (is : place < length stops) (arrival : ℤ) where

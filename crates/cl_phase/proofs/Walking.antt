@@ -4,12 +4,12 @@ use Rattle.std.proofs.Common.{◌≡◌, ℕ, ℤ, pos, zero, suc, ◌+◌, ◌-
 use Rattle.std.specs.Prelude.{◌+ℤ◌, ◌-ℤ◌, ◌≤ℤ◌, ◌⊎◌}
 use Rattle.std.proofs.lemmas.Bool.{cases_lt}
 use Rattle.std.proofs.lemmas.Int.{ints}
-use Rattle.cl_phase.specs.declared.pace.Phase.{Phase}
+use Rattle.cl_stim.specs.declared.phase.Phase.{Phase}
 use Rattle.cl_phase.specs.declared.pace.Pace.{Pace}
 use Rattle.cl_phase.specs.declared.pace.Pace.TheVariants.{Kept, Free}
 use Rattle.cl_phase.specs.declared.stop.Stop.{Stop}
 use Rattle.cl_phase.specs.Pace.{last_by, previous, AreNeighbours}
-use Rattle.cl_phase.specs.Walks.{pace_at, delay_at, onward, back, last_place, arrival_at_last, arrival_at_first}
+use Rattle.cl_phase.specs.Walks.{pace_at, lag_at, onward, back, last_place, arrival_at_last, arrival_at_first}
 use Rattle.cl_phase.specs.TightBounds.{length_from, reduced_from}
 use Rattle.cl_phase.proofs.Stepped.{IsStepped}
 
@@ -21,11 +21,11 @@ KeepsPhase stops place = (phase : Phase) × (pace_at stops place ≡ Kept phase)
 abbrev pub IsFreeAt : List Stop → (place : ℕ) → Type 0
 IsFreeAt stops place = (greatest : ℕ) × (pace_at stops place ≡ Free greatest)
 
--- two jobs of each group of a chain, one after the other, so that each before arrives less than the delay after the
+-- two jobs of each group of a chain, one after the other, so that each before arrives less than the lag after the
 -- later one of the group before it
 pub record AreLinkedJobs (stops : List Stop) (before after : ℕ → ℤ) : Type 0 where
   pub neighbours : (place : ℕ) → place < length stops → AreNeighbours (pace_at stops place) (before place) (after place)
-  pub linked : (place : ℕ) → suc place < length stops → (before (suc place) +ℤ pos 1) ≤ℤ (after place +ℤ delay_at stops place)
+  pub linked : (place : ℕ) → suc place < length stops → (before (suc place) +ℤ pos 1) ≤ℤ (after place +ℤ lag_at stops place)
 
 -- a kept arrival's previous one is the job's before it
 kept_previous : (pace : Pace) (phase : Phase) (before after : ℤ) → pace ≡ Kept phase → AreNeighbours pace before after → before ≤ℤ previous pace after
@@ -37,7 +37,7 @@ module _ (stops : List Stop) (stepped : (place : ℕ) → place < length stops �
     (before after : ℕ → ℤ) (jobs : AreLinkedJobs stops before after) where
   -- the job before the next one arrives before the moment from which the walk steps
   before_step : (place hops : ℕ) → place + suc hops < length stops → after (place + hops) ≤ℤ onward stops place (after place) hops
-      → (before (place + suc hops) +ℤ pos 1) ≤ℤ (onward stops place (after place) hops +ℤ delay_at stops (place + hops))
+      → (before (place + suc hops) +ℤ pos 1) ≤ℤ (onward stops place (after place) hops +ℤ lag_at stops (place + hops))
   before_step place hops h come =
       let next : place + suc hops ≡ suc (place + hops) = omega arith in
       omega (arith, ints, ap before next, jobs.linked (place + hops) (omega (arith, h)), come)
@@ -49,7 +49,7 @@ module _ (stops : List Stop) (stepped : (place : ℕ) → place < length stops �
       let here : place + 0 ≡ place = omega arith in
       omega (arith, ints, ap after here)
   comes_by place (suc hops) h = (stepped (place + suc hops) h).after_by (before (place + suc hops)) (after (place + suc hops))
-      (onward stops place (after place) hops +ℤ delay_at stops (place + hops)) (jobs.neighbours (place + suc hops) h)
+      (onward stops place (after place) hops +ℤ lag_at stops (place + hops)) (jobs.neighbours (place + suc hops) h)
       (before_step place hops h (comes_by place hops (omega (arith, h))))
 
   -- to the job before the one that the walk comes to
@@ -57,13 +57,13 @@ module _ (stops : List Stop) (stepped : (place : ℕ) → place < length stops �
       → before (place + suc hops) ≤ℤ previous (pace_at stops (place + suc hops)) (onward stops place (after place) (suc hops))
   unfolding onward
   comes_after place hops h = (stepped (place + suc hops) h).before_by (before (place + suc hops)) (after (place + suc hops))
-      (onward stops place (after place) hops +ℤ delay_at stops (place + hops)) (jobs.neighbours (place + suc hops) h)
+      (onward stops place (after place) hops +ℤ lag_at stops (place + hops)) (jobs.neighbours (place + suc hops) h)
       (before_step place hops h (comes_by place hops (omega (arith, h))))
 
   -- back
   before_earlier : (place hops : ℕ) → place < length stops → hops < place
       → back stops place (previous (pace_at stops place) (after place)) hops ≤ℤ before (place - hops)
-      → ((back stops place (previous (pace_at stops place) (after place)) hops -ℤ delay_at stops (place - suc hops)) +ℤ pos 1)
+      → ((back stops place (previous (pace_at stops place) (after place)) hops -ℤ lag_at stops (place - suc hops)) +ℤ pos 1)
       ≤ℤ after (place - suc hops)
   before_earlier place hops h few come =
       let next : suc (place - suc hops) ≡ place - hops = omega (arith, few) in
@@ -78,7 +78,7 @@ module _ (stops : List Stop) (stepped : (place : ℕ) → place < length stops �
   leaves_from place (suc hops) h few =
       let there : place - suc hops < length stops = omega (arith, h) in
       (stepped (place - suc hops) there).before_from (before (place - suc hops)) (after (place - suc hops))
-      (back stops place (previous (pace_at stops place) (after place)) hops -ℤ delay_at stops (place - suc hops))
+      (back stops place (previous (pace_at stops place) (after place)) hops -ℤ lag_at stops (place - suc hops))
       (jobs.neighbours (place - suc hops) there)
       (before_earlier place hops h (omega (arith, few)) (leaves_from place hops h (omega (arith, few))))
 

@@ -5,16 +5,16 @@ use Rattle.std.proofs.lemmas.Int.{ints}
 use Rattle.cl_phase.specs.declared.pace.Pace.{Pace}
 use Rattle.cl_phase.specs.declared.stop.Stop.{Stop}
 use Rattle.cl_phase.specs.Pace.{first_from, last_by, previous, ComesRound}
-use Rattle.cl_phase.specs.Walks.{pace_at, delay_at, onward, back, last_place, arrival_at_last, arrival_at_first}
+use Rattle.cl_phase.specs.Walks.{pace_at, lag_at, onward, back, last_place, arrival_at_last, arrival_at_first}
 use Rattle.cl_phase.specs.TightBounds.{length_from, reduced_from}
 use Rattle.cl_phase.proofs.Stepped.{IsStepped}
 
 -- sums whose terms stand in another order
-with_more : (moved moment more delay : ℤ) → moved ≡ (moment +ℤ more) → (moved +ℤ delay) ≡ ((moment +ℤ delay) +ℤ more)
-with_more moved moment more delay is = omega (arith, ints, is)
+with_more : (moved moment more lag : ℤ) → moved ≡ (moment +ℤ more) → (moved +ℤ lag) ≡ ((moment +ℤ lag) +ℤ more)
+with_more moved moment more lag is = omega (arith, ints, is)
 
-with_less : (moved moment more delay : ℤ) → moved ≡ (moment +ℤ more) → (moved -ℤ delay) ≡ ((moment -ℤ delay) +ℤ more)
-with_less moved moment more delay is = omega (arith, ints, is)
+with_less : (moved moment more lag : ℤ) → moved ≡ (moment +ℤ more) → (moved -ℤ lag) ≡ ((moment -ℤ lag) +ℤ more)
+with_less moved moment more lag is = omega (arith, ints, is)
 
 same_length : (last moved_last first moved_first more span : ℤ) → moved_last ≡ (last +ℤ more) → moved_first ≡ (first +ℤ more)
     → ((moved_last -ℤ moved_first) +ℤ span) ≡ ((last -ℤ first) +ℤ span)
@@ -33,8 +33,8 @@ module _ (stops : List Stop) (stepped : (place : ℕ) → place < length stops �
   onward_moves moved arrival is zero h = is
   onward_moves moved arrival is (suc hops) h =
       ap (first_from (pace_at stops (place + suc hops)))
-      (with_more _ _ (pos ticks) (delay_at stops (place + hops)) (onward_moves moved arrival is hops (omega (arith, h))))
-      ∙ (stepped (place + suc hops) h).first_moves ticks (round (place + suc hops) h) (onward stops place arrival hops +ℤ delay_at stops (place + hops))
+      (with_more _ _ (pos ticks) (lag_at stops (place + hops)) (onward_moves moved arrival is hops (omega (arith, h))))
+      ∙ (stepped (place + suc hops) h).first_moves ticks (round (place + suc hops) h) (onward stops place arrival hops +ℤ lag_at stops (place + hops))
 
   back_moves : (moved arrival : ℤ) → moved ≡ (arrival +ℤ pos ticks) → place < length stops → (hops : ℕ)
       → back stops place moved hops ≡ (back stops place arrival hops +ℤ pos ticks)
@@ -43,9 +43,9 @@ module _ (stops : List Stop) (stepped : (place : ℕ) → place < length stops �
   back_moves moved arrival is h (suc hops) =
       let there : place - suc hops < length stops = omega (arith, h) in
       ap (last_by (pace_at stops (place - suc hops)))
-      (with_less _ _ (pos ticks) (delay_at stops (place - suc hops)) (back_moves moved arrival is h hops))
+      (with_less _ _ (pos ticks) (lag_at stops (place - suc hops)) (back_moves moved arrival is h hops))
       ∙ (stepped (place - suc hops) there).last_moves ticks (round (place - suc hops) there)
-      (back stops place arrival hops -ℤ delay_at stops (place - suc hops))
+      (back stops place arrival hops -ℤ lag_at stops (place - suc hops))
 
   module _ (h : place < length stops) (span moved arrival : ℤ) (is : moved ≡ (arrival +ℤ pos ticks)) where
     last_moves : arrival_at_last stops place moved ≡ (arrival_at_last stops place arrival +ℤ pos ticks)

@@ -1,24 +1,18 @@
 -- Which groups of a chain keep their phase: along the chain, those beside which the phases that are kept come round
 -- soon. Times are in ticks.
-use Rattle.std.specs.Prelude.{ℕ, Bool, ◌/◌, ◌*◌, ◌%◌, ◌==◌, ◌&&◌, nat_le, if◌then◌else◌, List, [], ◌∷◌, find, unwrap_or, Option, Some, None}
-use Rattle.std.specs.List.{list_any, range_with_len}
+use Rattle.std.specs.Prelude.{ℕ, Bool, nat_le, if◌then◌else◌, List, [], ◌∷◌, Option, Some, None}
+use Rattle.std.specs.List.{list_any}
+use Rattle.cl_stim.specs.declared.phase.Phase.{Phase}
+use Rattle.cl_stim.specs.Multiples.{common_multiple}
+use Rattle.cl_stim.specs.Phase.{arrivals_in}
 use Rattle.cl_phase.specs.declared.pace.TheConstants.{MOST_ARRIVALS}
-use Rattle.cl_phase.specs.declared.pace.Phase.{Phase}
 use Rattle.cl_phase.specs.declared.pace.Pace.{Pace}
 use Rattle.cl_phase.specs.declared.pace.Pace.TheVariants.{Kept, Free}
-
--- the least common multiple of two numbers: the first from 1 up that both divide, 0 where there is none
-unfoldable pub common_multiple : (m n : ℕ) → ℕ
-common_multiple m n = unwrap_or (find (λ ticks. (ticks % m == 0) && (ticks % n == 0)) (range_with_len 1 (m * n))) 0
 
 -- the hyperperiod of phases: the least common multiple of their periods
 unfoldable pub hyperperiod_of : List Phase → ℕ
 hyperperiod_of [] = 1
 hyperperiod_of (phase ∷ phases) = common_multiple phase.period (hyperperiod_of phases)
-
--- how many jobs of a phase arrive in so many ticks, where its period divides them
-abbrev pub arrivals_in : (ticks : ℕ) → Phase → ℕ
-arrivals_in ticks phase = ticks / phase.period * phase.count
 
 -- phases come round soon where in their hyperperiod one of them has few arrivals
 abbrev pub come_round_soon : List Phase → Bool

@@ -1,4 +1,3 @@
-pub mod Phase
 pub mod Pace
 pub mod Kept
 pub mod Walks

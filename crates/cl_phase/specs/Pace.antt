@@ -1,10 +1,10 @@
 -- The steps of a group: from a moment to the first arrival that isn't before it, and to the last that isn't after it, as
 -- far as the bounds know. Times are in ticks.
-use Rattle.std.specs.Prelude.{◌≡◌, ℕ, ℤ, pos, ◌+ℤ◌, ◌-ℤ◌, ◌≤ℤ◌, ◌≤◌, ◌-◌, ◌*◌}
+use Rattle.std.specs.Prelude.{ℕ, ℤ, pos, ◌+ℤ◌, ◌-ℤ◌, ◌≤ℤ◌, ◌≤◌, ◌-◌, ◌*◌}
 use Rattle.std.specs.Int.{◌∣◌}
+use Rattle.cl_stim.specs.Phase.{IsPhase, AreConsecutive, first_arrival, last_arrival}
 use Rattle.cl_phase.specs.declared.pace.Pace.{Pace}
 use Rattle.cl_phase.specs.declared.pace.Pace.TheVariants.{Kept, Free}
-use Rattle.cl_phase.specs.Phase.{IsPhase, IsArrivalOf, first_arrival, last_arrival}
 
 -- the first arrival at or after a moment; without a phase the latest moment at which it may come
 unfoldable pub first_from : Pace → (moment : ℤ) → ℤ
@@ -27,7 +27,7 @@ IsPace (Free greatest) = 1 ≤ greatest
 
 -- two arrivals of a group, one after the other
 abbrev pub AreNeighbours : Pace → (before after : ℤ) → Type 0
-AreNeighbours (Kept phase) before after = IsArrivalOf phase after × (before ≡ last_arrival phase (after -ℤ pos 1))
+AreNeighbours (Kept phase) before after = AreConsecutive phase before after
 AreNeighbours (Free greatest) before after = after ≤ℤ (before +ℤ pos greatest)
 
 -- after so many ticks the arrivals are the same again

@@ -5,31 +5,31 @@ use Rattle.cl_model.specs.Holds.{greatest_by}
 use Rattle.cl_model.specs.declared.group.Group.{Group}
 use Rattle.cl_model.specs.Timing.{greatest_distance}
 use Rattle.cl_runs.specs.TaskTiming.{System, timing_at}
+use Rattle.cl_stim.specs.declared.phase.Phase.{Phase}
+use Rattle.cl_stim.specs.Phase.{phase_of, since_turn, last_in_turn, arrivals_in}
 use Rattle.cl_bound.specs.Bounds.{Lengths, last_of}
-use Rattle.cl_bound.specs.Hops.{group_timing, delay}
-use Rattle.cl_phase.specs.declared.pace.Phase.{Phase}
+use Rattle.cl_bound.specs.Hops.{group_timing, lag}
 use Rattle.cl_phase.specs.declared.pace.Pace.{Pace}
 use Rattle.cl_phase.specs.declared.pace.Pace.TheVariants.{Kept, Free}
 use Rattle.cl_phase.specs.declared.stop.Stop.{Stop}
-use Rattle.cl_phase.specs.Phase.{phase_of, since_turn, last_in_turn}
 use Rattle.cl_phase.specs.Pace.{previous}
-use Rattle.cl_phase.specs.Kept.{hyperperiod_of, arrivals_in, phase_beside, kept_with, pace_with, phases_in}
+use Rattle.cl_phase.specs.Kept.{hyperperiod_of, phase_beside, kept_with, pace_with, phases_in}
 use Rattle.cl_phase.specs.Walks.{pace_at, last_place, arrival_at_last, arrival_at_first}
 
 -- ---- the groups of a chain
 
--- the delay of the hop from a group to the one after it, where these are the responses of the tasks
-abbrev pub delay_to_next : System → (responses : ℕ → ℕ) → Group → (later : List Group) → ℤ
-delay_to_next system responses group [] = pos 0
-delay_to_next system responses group (next ∷ later) = delay (group_timing system responses group) (group_timing system responses next)
+-- the lag of the hop from a group to the one after it, where these are the responses of the tasks
+abbrev pub lag_to_next : System → (responses : ℕ → ℕ) → Group → (later : List Group) → ℤ
+lag_to_next system responses group [] = pos 0
+lag_to_next system responses group (next ∷ later) = lag (group_timing system responses group) (group_timing system responses next)
 
--- groups with their paces, beside the phases that are kept so far, and the delays of their hops
+-- groups with their paces, beside the phases that are kept so far, and the lags of their hops
 unfoldable pub stops_beside : System → (responses : ℕ → ℕ) → (kept : List Phase) → List Group → List Stop
 stops_beside system responses kept [] = []
 stops_beside system responses kept (group ∷ later) =
     let kind = (timing_at system group.task).pattern in
     let phase = phase_beside kept (phase_of kind) in
-    record { pace = pace_with (greatest_distance kind) phase; delay = delay_to_next system responses group later }
+    record { pace = pace_with (greatest_distance kind) phase; lag = lag_to_next system responses group later }
     ∷ stops_beside system responses (kept_with kept phase) later
 
 -- the groups of a whole chain

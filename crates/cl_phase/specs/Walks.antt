@@ -8,7 +8,7 @@ use Rattle.cl_phase.specs.Pace.{first_from, last_by, previous}
 
 -- what stands past the last group
 unfoldable pub no_stop : Stop
-no_stop = record { pace = Free 0; delay = pos 0 }
+no_stop = record { pace = Free 0; lag = pos 0 }
 
 -- the group of a place
 abbrev pub stop_at : List Stop → (place : ℕ) → Stop
@@ -17,21 +17,21 @@ stop_at stops place = slice_index_or stops place no_stop
 abbrev pub pace_at : List Stop → (place : ℕ) → Pace
 pace_at stops place = (stop_at stops place).pace
 
--- the delay of the hop from the group of a place to the next
-abbrev pub delay_at : List Stop → (place : ℕ) → ℤ
-delay_at stops place = (stop_at stops place).delay
+-- the lag of the hop from the group of a place to the next
+abbrev pub lag_at : List Stop → (place : ℕ) → ℤ
+lag_at stops place = (stop_at stops place).lag
 
 -- where the walk onward from an arrival of the group of a place has come after so many hops
 unfoldable pub onward : List Stop → (place : ℕ) → (arrival : ℤ) → (hops : ℕ) → ℤ
 onward stops place arrival zero = arrival
 onward stops place arrival (suc hops) =
-    first_from (pace_at stops (place + suc hops)) (onward stops place arrival hops +ℤ delay_at stops (place + hops))
+    first_from (pace_at stops (place + suc hops)) (onward stops place arrival hops +ℤ lag_at stops (place + hops))
 
 -- where the walk back has come
 unfoldable pub back : List Stop → (place : ℕ) → (arrival : ℤ) → (hops : ℕ) → ℤ
 back stops place arrival zero = arrival
 back stops place arrival (suc hops) =
-    last_by (pace_at stops (place - suc hops)) (back stops place arrival hops -ℤ delay_at stops (place - suc hops))
+    last_by (pace_at stops (place - suc hops)) (back stops place arrival hops -ℤ lag_at stops (place - suc hops))
 
 abbrev pub last_place : List Stop → ℕ
 last_place stops = length stops - 1

@@ -13,13 +13,14 @@ use crate::scanning::longest;
 use cl_bound::{Bounds, TaskAnswer};
 use cl_model::{Group, List, ValidModel};
 
-/// The tight bounds of groups of a valid model that follow each other, a chain of it or a part of one, from the tight
-/// answer for each of its tasks, where none of the groups' tasks is late: the longest walks along the groups, by their
-/// phases as far as these are kept. They are at least the reaction, the age and the reduced age of each complete chain
-/// of these groups in each legal run, of any length.
+/// Finds the tight bounds of groups of a valid model that follow each other, a chain of it or a
+/// part of one, from the tight answer for each task of the model. None of the groups' tasks is
+/// late. The bounds are the longest walks along the groups, by their phases as far as these are
+/// kept. They are at least the reaction, the age and the reduced age of each complete chain of
+/// these groups in each legal run, of any length.
 ///
-/// It takes no memory, and is total. Its time grows with the arrivals of the slowest group in the hyperperiod, at most
-/// a million, times the number of groups.
+/// It takes no memory, counts no step, and never fails. Its time grows with the number of arrivals
+/// of the slowest group in the hyperperiod, at most a million, times the number of groups.
 pub fn tight_bounds_of_groups(
     model: &ValidModel,
     groups: &[Group],
@@ -40,7 +41,8 @@ pub fn tight_bounds_of_groups(
     Bounds::new(longest.length, longest.length, longest.reduced)
 }
 
-/// The tight bounds of a chain of a valid model, given by its number: `tight_bounds_of_groups` of its groups.
+/// Finds the tight bounds of a chain of a valid model, given by its number:
+/// `tight_bounds_of_groups` of its groups.
 pub fn tight_bounds(model: &ValidModel, chain: u32, settled: &List<TaskAnswer>) -> Bounds
     requires is_chain { chain < length model.now.chains }
     requires answers { settled.now ≡ tight_answers_of (system_of model.now) }

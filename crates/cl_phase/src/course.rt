@@ -4,10 +4,11 @@ ghost use Rattle.cl_model.specs.declared.limits.TheConstants.{MOST_TICKS, MOST_S
 ghost use Rattle.cl_model.specs.Groups.{IsGroupOf};
 ghost use Rattle.cl_model.specs.Validity.{IsValid};
 ghost use Rattle.cl_runs.specs.SystemOf.{system_of};
+ghost use Rattle.cl_stim.specs.Integers.{IsIntegerWithin};
 ghost use Rattle.cl_bound.specs.Answers.{answer_at, is_late, response_in, NoneIsLate};
-ghost use Rattle.cl_bound.specs.Hops.{IsNear, IsIntegerWithin};
+ghost use Rattle.cl_bound.specs.Hops.{IsNear};
 ghost use Rattle.cl_phase.specs.TightAnswers.{tight_answers_of};
-ghost use Rattle.cl_phase.specs.Inner.Course.{tight_timing, delay_from, next_from, IsCourseOf};
+ghost use Rattle.cl_phase.specs.Inner.Course.{tight_timing, lag_from, next_from, IsCourseOf};
 
 use crate::keeping::Keeping;
 use crate::stop::Stop;
@@ -15,8 +16,8 @@ use arrayvec::ArrayVec;
 use cl_bound::{GroupTiming, TaskAnswer};
 use cl_model::{Group, List, MOST_STEPS, ValidModel};
 
-/// The groups of a chain, which phases they keep, and how long it is from the earliest read of the first group to the
-/// latest write of the last, from their arrivals.
+/// The groups of a chain, the phases that they keep, and the span: the latest write of the last
+/// group less the earliest read of the first, each counted from the arrival of its job.
 #[derive(Drop)]
 pub(crate) struct Course {
     pub(crate) stops: ArrayVec<Stop, MOST_STEPS>,
@@ -24,7 +25,7 @@ pub(crate) struct Course {
     pub(crate) span: i64,
 }
 
-/// The response of a task in ticks, and 0 where it is late and has none.
+/// Returns the response of a settled task in ticks, and 0 for a late task, which has none.
 fn response_in(answer: &TaskAnswer) -> u64
     ensures { result ≡ response_in answer.now }
 {
@@ -34,8 +35,8 @@ fn response_in(answer: &TaskAnswer) -> u64
     }
 }
 
-/// What the bounds know of a group of a valid model whose tasks have these tight answers, where the group's task isn't
-/// late.
+/// Puts together what the bounds know of a group of a valid model, from the tight answers for all
+/// its tasks. The group's task isn't late.
 fn timing_of(model: &ValidModel, group: Group, settled: &List<TaskAnswer>) -> GroupTiming
     requires group { IsGroupOf model.now group }
     requires answers { settled.now ≡ tight_answers_of (system_of model.now) }
@@ -48,7 +49,8 @@ fn timing_of(model: &ValidModel, group: Group, settled: &List<TaskAnswer>) -> Gr
     GroupTiming::of(model, group, response)
 }
 
-/// The delay from a group to the first of those after it, and that one.
+/// Finds the lag from a group to the first of the groups after it, and what the bounds know of
+/// that one. Without a later group these are 0 and the group itself.
 fn hop_to_next(
     model: &ValidModel,
     timing: GroupTiming,
@@ -59,7 +61,7 @@ fn hop_to_next(
     requires of_tasks { All (IsGroupOf model.now) later.now }
     requires answers { settled.now ≡ tight_answers_of (system_of model.now) }
     requires not_late { NoneIsLate settled.now later.now }
-    ensures delay { result.0 ≡ delay_from (system_of model.now) timing later.now }
+    ensures lag { result.0 ≡ lag_from (system_of model.now) timing later.now }
     ensures small { IsIntegerWithin MOST_TICKS result.0 }
     ensures next { result.1 ≡ next_from (system_of model.now) timing later.now }
     ensures near { IsNear result.1 }
@@ -68,10 +70,11 @@ fn hop_to_next(
         return (0, timing);
     }
     let next = timing_of(model, later[0], settled);
-    (timing.delay(&next) as i64, next)
+    (timing.lag(&next) as i64, next)
 }
 
-/// Groups of a valid model that follow each other, from the tight answer for each of its tasks, put together for walks.
+/// Puts groups of a valid model that follow each other together for walks, from the tight answer
+/// for each task of the model.
 ///
 /// It looks at each group once, and takes no memory.
 pub(crate) fn course_of(model: &ValidModel, groups: &[Group], settled: &List<TaskAnswer>) -> Course
@@ -89,8 +92,8 @@ pub(crate) fn course_of(model: &ValidModel, groups: &[Group], settled: &List<Tas
     let read = timing.read();
     for i in 0..groups.len() {
         let (pace, with) = keeping.beside(model.stimulus_of(groups[i].task));
-        let (delay, next) = hop_to_next(model, timing, &groups[i + 1..], settled);
-        stops.push(Stop { pace, delay });
+        let (lag, next) = hop_to_next(model, timing, &groups[i + 1..], settled);
+        stops.push(Stop { pace, lag });
         keeping = with;
         timing = next;
     }

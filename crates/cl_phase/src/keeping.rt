@@ -2,69 +2,32 @@
 ghost use Rattle.std.specs.Prelude.{◌≡◌, ◌≤◌, ◌<◌, false, List, [], ◌∷◌, IfNone, IfSome, length};
 ghost use Rattle.cl_model.specs.Ranges.{IsKindInRange};
 ghost use Rattle.cl_model.specs.Timing.{IsKindOrdered};
-ghost use Rattle.cl_phase.specs.declared.pace.Phase.{Phase};
-ghost use Rattle.cl_phase.specs.Phase.{IsPhaseInRange, phase_of};
-ghost use Rattle.cl_phase.specs.Kept.{arrivals_in, come_round_soon};
+ghost use Rattle.cl_stim.specs.declared.phase.Phase.{Phase};
+ghost use Rattle.cl_stim.specs.Phase.{IsPhaseInRange};
+ghost use Rattle.cl_phase.specs.Kept.{come_round_soon};
 ghost use Rattle.cl_phase.specs.TightBounds.{slowest};
 ghost use Rattle.cl_phase.specs.Inner.Ranges.{IsPaceInRange, AreStopsInRange};
 ghost use Rattle.cl_phase.specs.Inner.Keeping.{AreKept, AreKeptWith, IsBeside, AreKeptIn, arrives_seldom};
 
-use crate::pace::{MOST_ARRIVALS, Pace, Phase};
+use crate::pace::{MOST_ARRIVALS, Pace};
 use crate::stop::Stop;
 use cl_model::{MOST_TICKS, StimulusKind};
+use cl_stim::Phase;
 use cl_time::lcm_upto;
 
-/// The phases that are kept so far, as far as the next one asks.
+/// What the next group needs to know of the phases that are kept so far.
 #[derive(Clone, Copy)]
 pub(crate) struct Keeping {
-    /// After how long they come round.
+    /// The hyperperiod of these phases: the least common multiple of their periods, 1 while there
+    /// is none.
     pub(crate) hyperperiod: u64,
-    /// How often the one that arrives most seldom does in it.
+    /// How many arrivals the slowest of these phases has in one hyperperiod. `u64::MAX` while there
+    /// is none.
     pub(crate) fewest: u64,
 }
 
-impl Phase {
-    /// The phase of a stimulus whose arrivals are fixed.
-    fn of(kind: StimulusKind) -> Option<Phase>
-        requires range { IsKindInRange kind }
-        requires ordered { IsKindOrdered kind }
-        ensures phase { result ≡ phase_of kind }
-        ensures in_range { IfSome result IsPhaseInRange }
-    {
-        match kind {
-            StimulusKind::Periodic { period, offset, .. } => Some(Phase {
-                period,
-                offset,
-                count: 1,
-                distance: period,
-            }),
-            StimulusKind::Sporadic { .. } => None,
-            StimulusKind::Burst {
-                period,
-                offset,
-                count,
-                distance,
-            } => Some(Phase {
-                period,
-                offset,
-                count,
-                distance,
-            }),
-        }
-    }
-
-    /// How many jobs arrive in so many ticks, which are whole periods.
-    fn arrivals_in(&self, ticks: u64) -> u64
-        requires phase { IsPhaseInRange self.now }
-        ensures arrivals { result ≡ arrivals_in ticks self.now }
-        ensures few { result ≤ ticks }
-    {
-        ticks / self.period * self.count
-    }
-}
-
 impl Keeping {
-    /// No phase so far.
+    /// Starts without a kept phase.
     pub(crate) fn new() -> Keeping
         ensures { AreKept [] result }
     {
@@ -74,14 +37,18 @@ impl Keeping {
         }
     }
 
-    /// With one more phase, if with it they come round soon. Where the hyperperiod passes its limit, each of them
-    /// arrives too often in it.
+    /// Keeps one more phase. `None` comes exactly where each of them would then have more than
+    /// `MOST_ARRIVALS` arrivals in the hyperperiod, as is so wherever the hyperperiod passes its
+    /// limit.
     fn with(self, phase: &Phase) -> Option<Keeping>
         requires hyperperiod { 1 ≤ self.hyperperiod }
         requires phase { IsPhaseInRange phase.now }
         ensures some { IfSome result (λ keeping. 1 ≤ keeping.hyperperiod) }
-        ensures too_long { IfNone result ((kept : List Phase) → AreKept kept self → come_round_soon (phase.now ∷ kept) ≡ false) }
-        ensures soon { IfSome result (λ keeping. (kept : List Phase) → AreKept kept self → AreKeptWith phase.now kept keeping) }
+        ensures too_long { IfNone result
+            ((kept : List Phase) → AreKept kept self → come_round_soon (phase.now ∷ kept) ≡ false) }
+        ensures soon { IfSome result
+            (λ keeping. (kept : List Phase) → AreKept kept self
+            → AreKeptWith phase.now kept keeping) }
     {
         let hyperperiod = lcm_upto(phase.period, self.hyperperiod, MOST_ARRIVALS * MOST_TICKS)?;
         let longer = hyperperiod / self.hyperperiod;
@@ -98,13 +65,15 @@ impl Keeping {
         })
     }
 
-    /// The pace of a group with this stimulus beside them, and they with its phase, if it keeps that.
+    /// Finds the pace of a group with this stimulus beside the phases that are kept so far. Returns
+    /// it with these phases, and with its own phase among them if the group keeps it.
     pub(crate) fn beside(self, kind: StimulusKind) -> (Pace, Keeping)
         requires hyperperiod { 1 ≤ self.hyperperiod }
         requires range { IsKindInRange kind }
         requires ordered { IsKindOrdered kind }
         ensures some { 1 ≤ result.1.hyperperiod }
-        ensures beside { (kept : List Phase) → AreKept kept self → IsBeside kind kept result.0 result.1 }
+        ensures beside { (kept : List Phase) → AreKept kept self
+            → IsBeside kind kept result.0 result.1 }
     {
         let free = Pace::Free {
             greatest: kind.greatest_distance(),
@@ -118,7 +87,8 @@ impl Keeping {
         }
     }
 
-    /// Whether a group keeps its phase, and no other that does arrives more seldom.
+    /// Checks whether a group keeps its phase, and no other group that keeps its own has fewer
+    /// arrivals.
     fn is_slowest(&self, pace: &Pace) -> bool
         requires { IsPaceInRange pace.now }
         ensures { result ≡ arrives_seldom self.now.hyperperiod self.now.fewest pace.now }
@@ -129,7 +99,8 @@ impl Keeping {
         }
     }
 
-    /// The first group with the fewest arrivals of those that keep their phase, or the first of all where none does.
+    /// Finds the place of the first group with the fewest arrivals, among those that keep their
+    /// phase. It is 0 where none does.
     pub(crate) fn slowest(&self, stops: &[Stop]) -> usize
         requires stops { AreStopsInRange stops.now }
         requires kept { AreKeptIn stops.now self.now }

@@ -1,5 +1,4 @@
 //! What holds of phases and of the tight bounds of groups of every sound system.
-pub mod phases;
 pub mod phases_agree;
 pub mod safety;
 pub mod sums;

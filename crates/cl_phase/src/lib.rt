@@ -1,7 +1,7 @@
-//! Tight bounds on the reaction, the age and the reduced age of a chain: bounds that know how the arrivals of its tasks
-//! stand to each other.
+//! Tight bounds on the reaction, the age and the reduced age of a chain: bounds that know how the
+//! arrivals of its tasks lie relative to each other.
 //!
-//! Only the walk that is shown takes memory. Times are in ticks.
+//! Only `walk_lasting` takes memory. Times are in ticks.
 #![tactic(auto)]
 
 mod bounding;
@@ -15,6 +15,6 @@ mod walk;
 mod walked;
 
 pub use bounding::{tight_bounds, tight_bounds_of_groups};
-pub use pace::{MOST_ARRIVALS, Pace, Phase};
+pub use pace::{MOST_ARRIVALS, Pace};
 pub use stop::Stop;
 pub use walked::{Walked, walk_lasting};

@@ -1,19 +1,20 @@
 //! The longest walks from the arrivals of a group. Times are in ticks.
 ghost use Rattle.std.specs.Prelude.{◌≡◌, ◌<◌, ◌≤◌, length};
 ghost use Rattle.cl_model.specs.declared.limits.TheConstants.{MOST_TICKS};
+ghost use Rattle.cl_stim.specs.Integers.{IsIntegerWithin};
 ghost use Rattle.cl_phase.specs.declared.pace.Pace.{Pace};
 ghost use Rattle.cl_phase.specs.Walks.{pace_at};
 ghost use Rattle.cl_phase.specs.TightBounds.{starts};
-ghost use Rattle.cl_bound.specs.Hops.{IsIntegerWithin};
 ghost use Rattle.cl_phase.specs.Inner.Ranges.{MOST_HYPERPERIOD, AreStopsInRange};
 ghost use Rattle.cl_phase.specs.Inner.Longest.{longer_of, longest_of};
 
-use crate::pace::{Pace, Phase};
+use crate::pace::Pace;
 use crate::stop::Stop;
 use crate::walk::{Longest, lengths_at};
+use cl_stim::Phase;
 
 impl Longest {
-    /// The longer ones of two.
+    /// Takes the longer walk of each kind from two.
     fn or(self, other: Longest) -> Longest
         ensures { result ≡ longer_of self other }
     {
@@ -24,7 +25,8 @@ impl Longest {
     }
 }
 
-/// The longest walks from the arrivals of the group of a place, which keeps this phase, in the first so many ticks.
+/// Finds the longest walks from the arrivals, within `ticks`, of the group at `place`, which keeps
+/// this phase.
 fn longest_of_phase(stops: &[Stop], span: i64, place: usize, phase: &Phase, ticks: u64) -> Longest
     requires stops { AreStopsInRange stops.now }
     requires span { IsIntegerWithin MOST_TICKS span }
@@ -45,8 +47,8 @@ fn longest_of_phase(stops: &[Stop], span: i64, place: usize, phase: &Phase, tick
     longest
 }
 
-/// The longest walks from where walks from the group of a place start in the first so many ticks: one from anywhere
-/// where it keeps no phase.
+/// Finds the longest walks from the starts, within `ticks`, of the group at `place`. If it keeps no
+/// phase, there is one start, at 0.
 pub(crate) fn longest(stops: &[Stop], span: i64, place: usize, ticks: u64) -> Longest
     requires stops { AreStopsInRange stops.now }
     requires span { IsIntegerWithin MOST_TICKS span }

@@ -1,23 +1,25 @@
 //! Walks along a chain from an arrival of one of its groups. Times are in ticks.
 ghost use Rattle.std.specs.Prelude.{◌≡◌, ◌<◌, ◌≤◌, ◌-◌, length};
 ghost use Rattle.cl_model.specs.declared.limits.TheConstants.{MOST_TICKS};
+ghost use Rattle.cl_stim.specs.Integers.{IsIntegerWithin};
 ghost use Rattle.cl_phase.specs.Pace.{previous};
 ghost use Rattle.cl_phase.specs.Walks.{pace_at, onward, back, arrival_at_last, arrival_at_first};
 ghost use Rattle.cl_phase.specs.TightBounds.{ticks_of};
-ghost use Rattle.cl_bound.specs.Hops.{IsIntegerWithin};
 ghost use Rattle.cl_phase.specs.Inner.Ranges.{FARTHEST_START, FARTHEST_WALKED, AreStopsInRange};
 ghost use Rattle.cl_phase.specs.Inner.Longest.{lengths_at};
 
 use crate::stop::Stop;
 
-/// How long walks last: to the write of the last group's job that takes, and to that of the job before.
+/// How long walks last: up to the write of the last group's job that takes, and up to the write of
+/// the job before it.
 #[derive(Clone, Copy)]
 pub(crate) struct Longest {
     pub(crate) length: u64,
     pub(crate) reduced: u64,
 }
 
-/// Where the walk onward from an arrival of the group of a place has come at another.
+/// Follows the walk onward from an arrival of the group at `place`, and returns the moment that it
+/// reaches at the group at `to`.
 pub(crate) fn arrival_onward(stops: &[Stop], place: usize, arrival: i64, to: usize) -> i64
     requires stops { AreStopsInRange stops.now }
     requires place { place ≤ to }
@@ -28,12 +30,13 @@ pub(crate) fn arrival_onward(stops: &[Stop], place: usize, arrival: i64, to: usi
 {
     let mut moment = arrival;
     for i in place + 1..to + 1 {
-        moment = stops[i].pace.first_from(moment + stops[i - 1].delay);
+        moment = stops[i].pace.first_from(moment + stops[i - 1].lag);
     }
     moment
 }
 
-/// Where the walk back from the arrival before one of the group of a place has come at another.
+/// Follows the walk back from the arrival before this one of the group at `place`, and returns the
+/// moment that it reaches at the group at `to`.
 pub(crate) fn arrival_back(stops: &[Stop], place: usize, arrival: i64, to: usize) -> i64
     requires stops { AreStopsInRange stops.now }
     requires to { to ≤ place }
@@ -46,12 +49,13 @@ pub(crate) fn arrival_back(stops: &[Stop], place: usize, arrival: i64, to: usize
     let mut here = place;
     while here > to {
         here -= 1;
-        moment = stops[here].pace.last_by(moment - stops[here].delay);
+        moment = stops[here].pace.last_by(moment - stops[here].lag);
     }
     moment
 }
 
-/// The arrival of the last group to which the walk from an arrival of the group of a place leads.
+/// Finds the arrival of the last group to which the walk onward from an arrival of the group at
+/// `place` leads.
 fn arrival_at_last(stops: &[Stop], place: usize, arrival: i64) -> i64
     requires stops { AreStopsInRange stops.now }
     requires place { place < length stops.now }
@@ -62,7 +66,8 @@ fn arrival_at_last(stops: &[Stop], place: usize, arrival: i64) -> i64
     arrival_onward(stops, place, arrival, stops.len() - 1)
 }
 
-/// The arrival of the first group from which the one before leads.
+/// Finds the arrival of the first group to which the walk back from the arrival before this one of
+/// the group at `place` leads.
 fn arrival_at_first(stops: &[Stop], place: usize, arrival: i64) -> i64
     requires stops { AreStopsInRange stops.now }
     requires place { place < length stops.now }
@@ -73,14 +78,14 @@ fn arrival_at_first(stops: &[Stop], place: usize, arrival: i64) -> i64
     arrival_back(stops, place, arrival, 0)
 }
 
-/// A number of ticks as it is, 0 where it would be below.
+/// Returns a number of ticks as it is, and 0 for a negative one.
 fn ticks_of(ticks: i64) -> u64
     ensures { result ≡ ticks_of ticks }
 {
     ticks.max(0) as u64
 }
 
-/// How long the walks from an arrival of the group of a place last.
+/// Computes how long the walks from an arrival of the group at `place` last.
 pub(crate) fn lengths_at(stops: &[Stop], span: i64, place: usize, arrival: i64) -> Longest
     requires stops { AreStopsInRange stops.now }
     requires span { IsIntegerWithin MOST_TICKS span }

@@ -1,10 +1,10 @@
 //! The walk of a chain that shows why its tight bound is what it is. Times are in ticks.
 ghost use Rattle.std.specs.Prelude.{◌≡◌, ◌<◌, ◌≤◌, pos, length, IfOk};
 ghost use Rattle.cl_bound.specs.Answers.{NoneIsLate};
-ghost use Rattle.cl_bound.specs.Hops.{IsIntegerWithin};
 ghost use Rattle.cl_model.specs.declared.limits.TheConstants.{MOST_TICKS};
 ghost use Rattle.cl_model.specs.Groups.{groups_at};
 ghost use Rattle.cl_runs.specs.SystemOf.{system_of};
+ghost use Rattle.cl_stim.specs.Integers.{IsIntegerWithin};
 ghost use Rattle.cl_phase.specs.declared.pace.Pace.{Pace};
 ghost use Rattle.cl_phase.specs.TightAnswers.{tight_answers_of};
 ghost use Rattle.cl_phase.specs.TightBounds.{starts};
@@ -13,27 +13,28 @@ ghost use Rattle.cl_phase.specs.Walked.{start_among, missed, taken, walked_of};
 ghost use Rattle.cl_phase.specs.Inner.Ranges.{FARTHEST_START, MOST_HYPERPERIOD, AreStopsInRange};
 
 use crate::course::course_of;
-use crate::pace::{Pace, Phase};
+use crate::pace::Pace;
 use crate::stop::Stop;
 use crate::walk::{arrival_back, arrival_onward, lengths_at};
 use cl_bound::TaskAnswer;
 use cl_model::{List, ValidModel};
+use cl_stim::Phase;
 use cl_time::NoMemory;
 use std::alloc::Global;
 
-/// The arrivals of a walk along the groups of a chain.
+/// The arrivals of a walk along the groups of a chain. They may lie before 0.
 #[derive(Debug, PartialEq, Eq, Drop)]
 pub struct Walked {
-    /// The group from which the walk starts.
+    /// The place of the group from which the walk starts.
     pub place: usize,
-    /// Those of the jobs that just miss, from the first group to that one.
+    /// The arrivals of the jobs that just miss, from the first group to the one at `place`.
     pub missed: List<i64>,
-    /// Those of the jobs that take, from that group to the last.
+    /// The arrivals of the jobs that take, from the group at `place` to the last.
     pub taken: List<i64>,
 }
 
-/// The first arrival of the group of a place, which keeps this phase, whose walks last this long, of those in the first
-/// so many ticks.
+/// Finds the first arrival within `ticks` of the group at `place`, which keeps this phase, with a
+/// walk as long as `reaction`. It is 0 where there is none.
 fn start_of_phase(
     stops: &[Stop],
     span: i64,
@@ -60,7 +61,7 @@ fn start_of_phase(
     0
 }
 
-/// The first of the starts from the group of a place in the first so many ticks whose walks last this long.
+/// The first start within `ticks` whose walk is as long as `reaction`. It is 0 where there is none.
 fn start_of(stops: &[Stop], span: i64, place: usize, ticks: u64, reaction: u64) -> i64
     requires stops { AreStopsInRange stops.now }
     requires span { IsIntegerWithin MOST_TICKS span }
@@ -75,7 +76,7 @@ fn start_of(stops: &[Stop], span: i64, place: usize, ticks: u64, reaction: u64) 
     }
 }
 
-/// The arrivals of the jobs that just miss, from the first group to that of a place.
+/// Lists the arrivals of the jobs that just miss, from the first group to the one at `place`.
 fn missed(alloc: Global, stops: &[Stop], place: usize, start: i64) -> Result<List<i64>, NoMemory>
     requires stops { AreStopsInRange stops.now }
     requires place { place < length stops.now }
@@ -89,7 +90,7 @@ fn missed(alloc: Global, stops: &[Stop], place: usize, start: i64) -> Result<Lis
     Ok(arrivals)
 }
 
-/// The arrivals of the jobs that take, from the group of a place to the last.
+/// Lists the arrivals of the jobs that take, from the group at `place` to the last.
 fn taken(alloc: Global, stops: &[Stop], place: usize, start: i64) -> Result<List<i64>, NoMemory>
     requires stops { AreStopsInRange stops.now }
     requires place { place < length stops.now }
@@ -103,8 +104,10 @@ fn taken(alloc: Global, stops: &[Stop], place: usize, start: i64) -> Result<List
     Ok(arrivals)
 }
 
-/// The walk of a chain of a valid model, given by its number, that lasts this long, from the tight answer for each task,
-/// where none of the chain's is late: the first one from the slowest group whose phase is kept.
+/// Finds a walk of a chain of a valid model, given by its number, that is as long as `reaction`,
+/// from the tight answer for each task of the model. None of the chain's tasks is late. It is the
+/// first such walk from the slowest group that keeps its phase, or from the first group where none
+/// keeps it. If no walk is as long, the walk starts at 0.
 ///
 /// `NoMemory` comes where there is no memory for the arrivals; it leaves nothing.
 pub fn walk_lasting(
@@ -117,7 +120,8 @@ pub fn walk_lasting(
     requires is_chain { chain < length model.now.chains }
     requires answers { settled.now ≡ tight_answers_of (system_of model.now) }
     requires not_late { NoneIsLate settled.now (groups_at model.now chain) }
-    ensures { IfOk result (λ walk. walk ≡ walked_of (system_of model.now) (groups_at model.now chain) reaction) }
+    ensures { IfOk result
+        (λ walk. walk ≡ walked_of (system_of model.now) (groups_at model.now chain) reaction) }
 {
     let course = course_of(model, model.groups(chain), settled);
     let stops = course.stops.as_slice();

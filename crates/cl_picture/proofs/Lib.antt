@@ -6,3 +6,5 @@ pub mod BarItems
 pub mod PlainPieces
 pub mod TextLengths
 pub mod FrameLengths
+pub mod Beginnings
+pub mod Rising

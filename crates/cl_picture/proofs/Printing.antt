@@ -78,7 +78,7 @@ more_elements t0 t1 t2 some more first second =
     ∙ ap (λ (t : List ℕ). t0 ++ t) (sym (print-append some more))
 
 -- a line that begins with pieces
-joined_line : (some more : List Piece) → spelled some ++ print (more ∷ []) ≡ print ((some ++ more) ∷ [])
+pub joined_line : (some more : List Piece) → spelled some ++ print (more ∷ []) ≡ print ((some ++ more) ∷ [])
 unfolding print
 joined_line some more =
     ap (λ (t : List ℕ). spelled some ++ t) (append-nil (spelled more ++ 0x0A ∷ []))

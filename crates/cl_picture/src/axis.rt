@@ -1,6 +1,7 @@
 //! The axis of a picture. Times are in ticks.
-ghost use Rattle.std.specs.Prelude.{◌≡◌, ◌*◌, ◌<◌, ◌≤◌, ◌++◌, [], ◌∷◌, OnOk, IsTrue, IfSome, nat_le};
+ghost use Rattle.std.specs.Prelude.{◌≡◌, ◌*◌, ◌<◌, ◌≤◌, ◌++◌, [], ◌∷◌, OnOk, OnErr, IsTrue, IfSome, nat_le};
 ghost use Rattle.std.specs.List.{find, list_all};
+ghost use Rattle.cl_text.specs.Beginnings.{PutsPart};
 ghost use Rattle.cl_picture.specs.Pieces.{spelled, print};
 ghost use Rattle.cl_picture.specs.Window.{IsPictureWindow};
 ghost use Rattle.cl_picture.specs.Axis.{is_step, axis_step, tick_at, axis_line, tick_pieces, tick_line, tick_lines, axis};
@@ -11,7 +12,7 @@ use crate::window::{MOST_WINDOW, Window};
 use cl_text::Text;
 use cl_time::NoMemory;
 
-/// The steps of an axis: 1, 2, 5, 10, 20, 50 and on.
+/// The steps that an axis may have, in ticks: 1, 2, 5, 10, 20, 50 and so on.
 const STEPS: [u64; 27] = [
     1,
     2,
@@ -42,17 +43,17 @@ const STEPS: [u64; 27] = [
     500_000_000,
 ];
 
-/// The ticks of an axis: multiples of a step.
+/// The ticks of an axis: consecutive multiples of a step.
 #[derive(Clone, Copy)]
 struct Axis {
     step: u64,
-    /// How many steps lie before the first tick.
+    /// The first tick, in steps.
     first: u64,
-    /// How many ticks there are.
+    /// The number of ticks.
     count: u64,
 }
 
-/// The first of the steps of which twelve reach over so many ticks.
+/// Finds the first of these steps twelve of which are at least `span` ticks.
 fn first_step(steps: &[u64], span: u64) -> Option<u64>
     requires { IsTrue (list_all is_step steps.now) }
     ensures first { result ≡ find (λ step. nat_le span (12 * step)) steps.now }
@@ -66,7 +67,8 @@ fn first_step(steps: &[u64], span: u64) -> Option<u64>
     None
 }
 
-/// The least step of which twelve reach over so many ticks.
+/// Returns the least step twelve of which are at least `span` ticks, or `MOST_WINDOW` where no step
+/// is long enough.
 fn axis_step(span: u64) -> u64
     ensures step { result ≡ axis_step span }
     ensures some { 0 < result }
@@ -75,7 +77,7 @@ fn axis_step(span: u64) -> u64
     first_step(&STEPS, span).unwrap_or(MOST_WINDOW)
 }
 
-/// The ticks of the axis of a window.
+/// Returns the ticks of the axis of a window: the multiples of its step that lie in it.
 fn axis_of(window: Window) -> Axis
     requires { IsPictureWindow window }
     ensures { IsAxis window result }
@@ -89,7 +91,7 @@ fn axis_of(window: Window) -> Axis
     }
 }
 
-/// A tick of the axis of a window.
+/// Returns the tick `k` of the axis of a window, counted from 0.
 fn tick_at(window: Window, axis: Axis, k: u64) -> u64
     requires window { IsPictureWindow window }
     requires axis { IsAxis window axis }
@@ -99,11 +101,16 @@ fn tick_at(window: Window, axis: Axis, k: u64) -> u64
     (axis.first + k) * axis.step
 }
 
-/// Puts the axis of a window: a line for each tick down to the bottom, and its words. `NoMemory` leaves the text with a
-/// beginning of it after it.
+/// Appends the axis of a window to a text: a line that draws a stroke for each tick of the axis
+/// down to the height `bottom`, a line with the word `ticks`, and a line with the number of each
+/// tick.
+///
+/// `NoMemory` comes where there is no memory for the longer text. After `NoMemory` the text ends
+/// with a prefix of the lines.
 pub fn put_axis(text: &mut Text, window: Window, bottom: u64) -> Result<(), NoMemory>
     requires { IsPictureWindow window }
-    ensures { OnOk result (text.new ≡ text.old ++ print (axis window bottom)) }
+    ensures ok { OnOk result (text.new ≡ text.old ++ print (axis window bottom)) }
+    ensures err { OnErr result (PutsPart text.old text.new (print (axis window bottom))) }
 {
     let axis = axis_of(window);
     put_lines(text, window, axis, bottom)?;
@@ -114,11 +121,12 @@ pub fn put_axis(text: &mut Text, window: Window, bottom: u64) -> Result<(), NoMe
     put_ticks(text, window, axis)
 }
 
-/// Puts the lines of the ticks of an axis.
+/// Puts the line of the strokes of all ticks of an axis.
 fn put_lines(text: &mut Text, window: Window, axis: Axis, bottom: u64) -> Result<(), NoMemory>
     requires window { IsPictureWindow window }
     requires axis { IsAxis window axis }
-    ensures { OnOk result (text.new ≡ text.old ++ print (axis_line window bottom ∷ [])) }
+    ensures ok { OnOk result (text.new ≡ text.old ++ print (axis_line window bottom ∷ [])) }
+    ensures err { OnErr result (PutsPart text.old text.new (print (axis_line window bottom ∷ []))) }
 {
     put_pieces(text, &[Piece::Fixed(b"<path class=\"g\" d=\"")])?;
     for k in 0..axis.count {
@@ -127,10 +135,12 @@ fn put_lines(text: &mut Text, window: Window, axis: Axis, bottom: u64) -> Result
     put_line(text, &[Piece::Fixed(b"\"/>")])
 }
 
-/// Puts the line of a tick.
+/// Puts the stroke of a tick.
 fn put_tick_line(text: &mut Text, window: Window, bottom: u64, tick: u64) -> Result<(), NoMemory>
     requires { IsPictureWindow window }
-    ensures { OnOk result (text.new ≡ text.old ++ spelled (tick_pieces window bottom tick)) }
+    ensures ok { OnOk result (text.new ≡ text.old ++ spelled (tick_pieces window bottom tick)) }
+    ensures err { OnErr result
+        (PutsPart text.old text.new (spelled (tick_pieces window bottom tick))) }
 {
     put_pieces(
         text,
@@ -143,11 +153,12 @@ fn put_tick_line(text: &mut Text, window: Window, bottom: u64, tick: u64) -> Res
     )
 }
 
-/// Puts the words of the ticks of an axis.
+/// Puts the lines of the numbers of all ticks of an axis.
 fn put_ticks(text: &mut Text, window: Window, axis: Axis) -> Result<(), NoMemory>
     requires window { IsPictureWindow window }
     requires axis { IsAxis window axis }
-    ensures { OnOk result (text.new ≡ text.old ++ print (tick_lines window)) }
+    ensures ok { OnOk result (text.new ≡ text.old ++ print (tick_lines window)) }
+    ensures err { OnErr result (PutsPart text.old text.new (print (tick_lines window))) }
 {
     for k in 0..axis.count {
         put_tick(text, window, tick_at(window, axis, k))?;
@@ -155,10 +166,11 @@ fn put_ticks(text: &mut Text, window: Window, axis: Axis) -> Result<(), NoMemory
     Ok(())
 }
 
-/// Puts the words of a tick.
+/// Puts the line of the number of a tick.
 fn put_tick(text: &mut Text, window: Window, tick: u64) -> Result<(), NoMemory>
     requires { IsPictureWindow window }
-    ensures { OnOk result (text.new ≡ text.old ++ print (tick_line window tick ∷ [])) }
+    ensures ok { OnOk result (text.new ≡ text.old ++ print (tick_line window tick ∷ [])) }
+    ensures err { OnErr result (PutsPart text.old text.new (print (tick_line window tick ∷ []))) }
 {
     put_line(
         text,

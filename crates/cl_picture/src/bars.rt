@@ -1,4 +1,4 @@
-//! The bars of a list of items. Times are in ticks, sides are lengths.
+//! The bars of a list of items. Times are in ticks, and the sides of bars are lengths.
 ghost use Rattle.std.specs.Prelude.{◌≡◌, None, IfOk};
 ghost use Rattle.cl_picture.specs.Window.{IsPictureWindow};
 ghost use Rattle.cl_picture.specs.Bars.{counts, bar_of, joined_bar, bars_from};
@@ -10,7 +10,7 @@ use cl_time::NoMemory;
 use std::alloc::Global;
 
 impl Window {
-    /// Whether an item shares a tick with the window.
+    /// Checks whether an item shares a tick with the window.
     pub fn counts(self, item: &Item) -> bool
         ensures { result ≡ counts self item.now }
     {
@@ -18,7 +18,7 @@ impl Window {
     }
 }
 
-/// The bar of an item alone, not to the left of a place.
+/// Returns the bar of a single item, which begins at the length `floor` or right of it.
 fn bar_of(window: Window, floor: u64, item: Item) -> Bar
     requires { IsPictureWindow window }
     ensures { result ≡ bar_of window floor item }
@@ -32,7 +32,7 @@ fn bar_of(window: Window, floor: u64, item: Item) -> Bar
     }
 }
 
-/// A bar with a further item.
+/// Adds a further item to a bar.
 fn joined(bar: Bar, item: Item) -> Bar
     ensures { result ≡ joined_bar bar item }
 {
@@ -46,8 +46,12 @@ fn joined(bar: Bar, item: Item) -> Bar
     }
 }
 
-/// The bars of items, each of which shares a tick with the window. `NoMemory` comes where there is no memory for them;
-/// it leaves nothing.
+/// Builds the bars of items in order. An item that ends in the same unit as the item before it
+/// joins the bar of that one. Any other item begins a bar, no further left than where the bar
+/// before ends. It is meant for items each of which shares a tick with the window
+/// (`Window::counts`).
+///
+/// `NoMemory` comes where there is no memory for the bars; it leaves nothing.
 pub fn bars_of(alloc: Global, window: Window, items: &[Item]) -> Result<List<Bar>, NoMemory>
     requires { IsPictureWindow window }
     ensures { IfOk result (λ bars. bars ≡ bars_from window None items.now) }

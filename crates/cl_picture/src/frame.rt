@@ -1,5 +1,6 @@
-//! What frames a picture: its first lines, and its last ones.
-ghost use Rattle.std.specs.Prelude.{◌≡◌, ◌++◌, [], ◌∷◌, OnOk};
+//! The frame of a picture: its first lines, and its last ones.
+ghost use Rattle.std.specs.Prelude.{◌≡◌, ◌++◌, [], ◌∷◌, OnOk, OnErr};
+ghost use Rattle.cl_text.specs.Beginnings.{PutsPart};
 ghost use Rattle.cl_picture.specs.Pieces.{print};
 ghost use Rattle.cl_picture.specs.Frame.{root_line, picture_title_line, style_lines, begin, shift_line, end};
 
@@ -8,7 +9,7 @@ use crate::window::Window;
 use cl_text::Text;
 use cl_time::NoMemory;
 
-/// The colours and the sizes of a picture, in light and in dark.
+/// The style sheet of a picture: its sizes, and its colours for light and for dark mode.
 pub const STYLE: &[u8] =
     b"text{font:120px system-ui,-apple-system,\"Segoe UI\",Roboto,\"DejaVu Sans\",sans-serif;fill:#24292f}\n\
 .n{font-size:135px}.k{font-size:100px}.x{text-anchor:middle}.z{text-anchor:end}\n\
@@ -26,7 +27,7 @@ text{fill:#e6edf3}.h,.m,.x,.k{fill:#9da7b1}.b,.i{fill:#0d1117}.s{fill:#161b22}.g
 .a{fill:#9da7b1}.j{stroke:#9da7b1}.c .o{stroke:#0d1117}.c text{stroke:#161b22}.c2{stroke:#fff}\n\
 }";
 
-/// What the marks of a picture mean.
+/// The legend of a picture, which shows what its bars and marks mean.
 pub const LEGEND: &[u8] =
     b"<rect class=\"e0\" x=\"2000\" y=\"170\" width=\"240\" height=\"140\"/><text x=\"2300\" y=\"282\">runs</text>\n\
 <rect class=\"e1\" x=\"2720\" y=\"170\" width=\"240\" height=\"140\"/><text x=\"3020\" y=\"282\">runs, uninterruptible</text>\n\
@@ -38,10 +39,15 @@ pub const LEGEND: &[u8] =
 <g class=\"c c0\"><circle class=\"i\" cx=\"9010\" cy=\"240\" r=\"45\"/><circle class=\"f\" cx=\"10860\" cy=\"240\" r=\"25\"/>\n\
 <rect class=\"q\" x=\"9600\" y=\"150\" width=\"240\" height=\"180\"/></g>";
 
-/// Puts the first lines of the picture of a window of a run of so many ticks, which has this height.
-/// `NoMemory` leaves the text with a beginning of them after it.
+/// Appends the first lines of a picture to a text: of a window of a run that has `ticks` ticks, in
+/// a picture of this height. They open the picture and hold its title, its style sheet and its
+/// background.
+///
+/// `NoMemory` comes where there is no memory for the longer text. After `NoMemory` the text ends
+/// with a prefix of the lines.
 pub fn put_begin(text: &mut Text, window: Window, ticks: u64, height: u64) -> Result<(), NoMemory>
-    ensures { OnOk result (text.new ≡ text.old ++ print (begin window ticks height)) }
+    ensures ok { OnOk result (text.new ≡ text.old ++ print (begin window ticks height)) }
+    ensures err { OnErr result (PutsPart text.old text.new (print (begin window ticks height))) }
 {
     put_root(text, height)?;
     put_title(text, window, ticks)?;
@@ -58,7 +64,8 @@ pub fn put_begin(text: &mut Text, window: Window, ticks: u64, height: u64) -> Re
 
 /// Puts the line that opens a picture.
 fn put_root(text: &mut Text, height: u64) -> Result<(), NoMemory>
-    ensures { OnOk result (text.new ≡ text.old ++ print (root_line height ∷ [])) }
+    ensures ok { OnOk result (text.new ≡ text.old ++ print (root_line height ∷ [])) }
+    ensures err { OnErr result (PutsPart text.old text.new (print (root_line height ∷ []))) }
 {
     put_line(
         text,
@@ -74,7 +81,9 @@ fn put_root(text: &mut Text, height: u64) -> Result<(), NoMemory>
 
 /// Puts the title of a picture.
 fn put_title(text: &mut Text, window: Window, ticks: u64) -> Result<(), NoMemory>
-    ensures { OnOk result (text.new ≡ text.old ++ print (picture_title_line window ticks ∷ [])) }
+    ensures ok { OnOk result (text.new ≡ text.old ++ print (picture_title_line window ticks ∷ [])) }
+    ensures err { OnErr result
+        (PutsPart text.old text.new (print (picture_title_line window ticks ∷ []))) }
 {
     put_line(
         text,
@@ -90,19 +99,24 @@ fn put_title(text: &mut Text, window: Window, ticks: u64) -> Result<(), NoMemory
     )
 }
 
-/// Puts the style of a picture.
+/// Puts the style sheet of a picture.
 fn put_style(text: &mut Text) -> Result<(), NoMemory>
-    ensures { OnOk result (text.new ≡ text.old ++ print style_lines) }
+    ensures ok { OnOk result (text.new ≡ text.old ++ print style_lines) }
+    ensures err { OnErr result (PutsPart text.old text.new (print style_lines)) }
 {
     put_line(text, &[Piece::Fixed(b"<style>")])?;
     put_line(text, &[Piece::Fixed(STYLE)])?;
     put_line(text, &[Piece::Fixed(b"</style>")])
 }
 
-/// Puts the last lines of a picture: what its marks mean, below the rows. `NoMemory` leaves the text with a beginning of
-/// them after it.
+/// Appends the last lines of a picture to a text: the legend, at the height `bottom`, and the end
+/// of the picture.
+///
+/// `NoMemory` comes where there is no memory for the longer text. After `NoMemory` the text ends
+/// with a prefix of the lines.
 pub fn put_end(text: &mut Text, bottom: u64) -> Result<(), NoMemory>
-    ensures { OnOk result (text.new ≡ text.old ++ print (end bottom)) }
+    ensures ok { OnOk result (text.new ≡ text.old ++ print (end bottom)) }
+    ensures err { OnErr result (PutsPart text.old text.new (print (end bottom))) }
 {
     put_shift(text, bottom)?;
     put_line(text, &[Piece::Fixed(LEGEND)])?;
@@ -110,9 +124,13 @@ pub fn put_end(text: &mut Text, bottom: u64) -> Result<(), NoMemory>
     put_line(text, &[Piece::Fixed(b"</svg>")])
 }
 
-/// Puts the line that opens what is drawn from a height on. `NoMemory` leaves the text with a beginning of it after it.
+/// Appends to a text the line that opens what is drawn from the height `y` on.
+///
+/// `NoMemory` comes where there is no memory for the longer text. After `NoMemory` the text ends
+/// with a prefix of the line.
 pub fn put_shift(text: &mut Text, y: u64) -> Result<(), NoMemory>
-    ensures { OnOk result (text.new ≡ text.old ++ print (shift_line y ∷ [])) }
+    ensures ok { OnOk result (text.new ≡ text.old ++ print (shift_line y ∷ [])) }
+    ensures err { OnErr result (PutsPart text.old text.new (print (shift_line y ∷ []))) }
 {
     put_line(
         text,

@@ -1,6 +1,7 @@
-//! What a row shows for some ticks, and the bars that are drawn for it. Times are in ticks.
+//! What a row shows for some ticks, and the bars that are drawn for it. Times are in ticks, and the
+//! sides of bars are lengths.
 
-/// What a row shows for some ticks: a part of a stretch, or the band of a job.
+/// What a row shows for the ticks `from..to`: a part of a stretch, or the band of a job.
 #[derive(Clone, Copy, Debug, PartialEq, Eq)]
 pub struct Item {
     /// The job, counted from 0.
@@ -12,14 +13,15 @@ pub struct Item {
     pub rest: Rest,
 }
 
-/// What is said of an item beside its job.
+/// What is known of an item besides its job and its ticks.
 #[derive(Clone, Copy, Debug, PartialEq, Eq)]
 pub enum Rest {
-    /// The runnable that a part executes, by its place in the task.
+    /// The runnable that a part executes, as its place in the task.
     Part {
         place: usize,
     },
-    /// When the job of a band arrives and is due, and whether the band ends with the job's finish.
+    /// When the job of a band arrives and when it is due, and whether the band ends at the finish
+    /// of the job.
     Band {
         arrival: u64,
         due: u64,
@@ -27,7 +29,7 @@ pub enum Rest {
     },
 }
 
-/// The end of an item.
+/// The end of the last item of a bar.
 #[derive(Clone, Copy, Debug, PartialEq, Eq)]
 pub struct End {
     /// The job, counted from 0.
@@ -35,7 +37,7 @@ pub struct End {
     pub to: u64,
 }
 
-/// A bar of one item or several. Its sides are lengths.
+/// A bar that shows one item or several. Its sides are lengths.
 #[derive(Clone, Copy, Debug, PartialEq, Eq)]
 pub struct Bar {
     pub left: u64,
@@ -44,6 +46,6 @@ pub struct Bar {
     pub kind: u8,
     /// The first item.
     pub first: Item,
-    /// The last item, where there are several.
+    /// The end of the last item, where there are several.
     pub last: Option<End>,
 }

@@ -1,4 +1,5 @@
-//! Pictures as SVG: lines of pieces, lengths of ticks, bars of what a row shows, the axis, and what frames a picture.
+//! Pictures as SVG: lines of pieces, the lengths at which ticks lie, the bars of a row, the axis,
+//! and the frame of a picture.
 #![tactic(auto)]
 
 mod axis;

@@ -1,5 +1,6 @@
 //! Lines of a picture, made of pieces: words of the format, numbers and names.
-ghost use Rattle.std.specs.Prelude.{◌≡◌, ◌++◌, [], ◌∷◌, map, OnOk};
+ghost use Rattle.std.specs.Prelude.{◌≡◌, ◌++◌, [], ◌∷◌, map, OnOk, OnErr};
+ghost use Rattle.cl_text.specs.Beginnings.{PutsPart};
 ghost use Rattle.cl_picture.specs.Pieces.{piece_of, piece_text, spelled, print};
 
 use cl_text::Text;
@@ -16,9 +17,10 @@ pub enum Piece<'a> {
     Name(&'a [u8]),
 }
 
-/// Puts a piece behind a text.
+/// Appends a piece to a text. `NoMemory` leaves the text as it was.
 fn put_piece(text: &mut Text, piece: &Piece<'_>) -> Result<(), NoMemory>
-    ensures { OnOk result (text.new ≡ text.old ++ piece_text (piece_of piece.now)) }
+    ensures ok { OnOk result (text.new ≡ text.old ++ piece_text (piece_of piece.now)) }
+    ensures err { OnErr result (PutsPart text.old text.new (piece_text (piece_of piece.now))) }
 {
     match piece {
         Piece::Fixed(words) => text.put(words),
@@ -27,9 +29,13 @@ fn put_piece(text: &mut Text, piece: &Piece<'_>) -> Result<(), NoMemory>
     }
 }
 
-/// Puts pieces behind a text. `NoMemory` leaves the text with a beginning of them after it.
+/// Appends pieces to a text, one after the other.
+///
+/// `NoMemory` comes where there is no memory for the longer text. After `NoMemory` the text ends
+/// with a prefix of the pieces.
 pub fn put_pieces(text: &mut Text, pieces: &[Piece<'_>]) -> Result<(), NoMemory>
-    ensures { OnOk result (text.new ≡ text.old ++ spelled (map piece_of pieces.now)) }
+    ensures ok { OnOk result (text.new ≡ text.old ++ spelled (map piece_of pieces.now)) }
+    ensures err { OnErr result (PutsPart text.old text.new (spelled (map piece_of pieces.now))) }
 {
     for piece in pieces {
         put_piece(text, piece)?;
@@ -37,9 +43,13 @@ pub fn put_pieces(text: &mut Text, pieces: &[Piece<'_>]) -> Result<(), NoMemory>
     Ok(())
 }
 
-/// Puts a line of pieces behind a text, with its end. `NoMemory` leaves the text with a beginning of it after it.
+/// Appends a line of pieces to a text, with its line break.
+///
+/// `NoMemory` comes where there is no memory for the longer text. After `NoMemory` the text ends
+/// with a prefix of the line.
 pub fn put_line(text: &mut Text, pieces: &[Piece<'_>]) -> Result<(), NoMemory>
-    ensures { OnOk result (text.new ≡ text.old ++ print (map piece_of pieces.now ∷ [])) }
+    ensures ok { OnOk result (text.new ≡ text.old ++ print (map piece_of pieces.now ∷ [])) }
+    ensures err { OnErr result (PutsPart text.old text.new (print (map piece_of pieces.now ∷ []))) }
 {
     put_pieces(text, pieces)?;
     text.put(b"\n")

@@ -1,11 +1,12 @@
-//! The window of a picture, and the lengths of its ticks: tenths of a unit, of which a picture is 12,000 wide.
+//! The window of a picture, and the lengths at which its ticks lie. A length is a tenth of a unit,
+//! and a picture is 12,000 lengths wide.
 ghost use Rattle.std.specs.Prelude.{◌≡◌, ◌≤◌};
 ghost use Rattle.cl_picture.specs.Window.{offset, x_of, low_of, high_of, is_inside, IsPictureWindow};
 
 /// The greatest tick of a window.
 pub const MOST_WINDOW: u64 = 1_000_000_000;
 
-/// The ticks that a picture shows, from one to another.
+/// The ticks that a picture shows: `from..to`.
 #[derive(Clone, Copy, Debug, PartialEq, Eq)]
 pub struct Window {
     pub from: u64,
@@ -13,14 +14,15 @@ pub struct Window {
 }
 
 impl Window {
-    /// Whether a tick is inside.
+    /// Checks whether a moment lies in the window. Its end `to` lies in it, too.
     pub fn contains(self, tick: u64) -> bool
         ensures { result ≡ is_inside self tick }
     {
         self.from <= tick && tick <= self.to
     }
 
-    /// How far a tick lies from the beginning: nothing before it, and no more than the end after that.
+    /// Returns how many ticks a tick lies behind the beginning of the window: 0 for a tick before
+    /// it, and those of the end for a tick after that.
     fn offset(self, tick: u64) -> u64
         requires { IsPictureWindow self }
         ensures { result ≡ offset self tick }
@@ -28,7 +30,8 @@ impl Window {
         tick.max(self.from).min(self.to) - self.from
     }
 
-    /// Where a tick lies.
+    /// Returns the length at which a tick lies. A tick before the window lies at its beginning, and
+    /// one after it at its end.
     pub fn x(self, tick: u64) -> u64
         requires { IsPictureWindow self }
         ensures x { result ≡ x_of self tick }
@@ -37,7 +40,8 @@ impl Window {
         2000 + self.offset(tick) * 9600 / (self.to - self.from)
     }
 
-    /// The whole unit at or before a tick.
+    /// Returns the last whole unit at or before a tick, as a length. A tick before the window lies
+    /// at its beginning, and one after it at its end.
     pub fn low(self, tick: u64) -> u64
         requires { IsPictureWindow self }
         ensures { result ≡ low_of self tick }
@@ -45,7 +49,8 @@ impl Window {
         2000 + 10 * (self.offset(tick) * 960 / (self.to - self.from))
     }
 
-    /// The whole unit at or after a tick.
+    /// Returns the first whole unit at or after a tick, as a length. A tick before the window lies
+    /// at its beginning, and one after it at its end.
     pub fn high(self, tick: u64) -> u64
         requires { IsPictureWindow self }
         ensures { result ≡ high_of self tick }

@@ -13,7 +13,7 @@ use cl_model::{Code, List, ModelFault, Place};
 use std::alloc::Global;
 use toml::Value;
 
-/// What an array of a document may hold.
+/// A type that the members of an array of a document may have.
 pub(crate) trait Member: Drop {
     /// The checks of a member at its place, by the version of the file.
     ghost checks: { ℕ → Spot → Data → Items Refusal };
@@ -21,18 +21,20 @@ pub(crate) trait Member: Drop {
     /// What a member means where nothing is refused, by the version of the file.
     ghost meaning: { ℕ → Data → Self };
 
-    /// The place of the member of a number in the array at a place.
+    /// The place of a member, by its number and the place of its array.
     ghost place_in: { ℕ → Spot → Spot };
 
+    /// Returns the place of member `number` of an array.
     fn place_in(array: Place, number: u32) -> Place
         ensures { result ≡ place_in number array };
 
+    /// Reads a member, or finds its first refusal.
     fn read(alloc: Global, version: u64, place: Place, value: &Value) -> Result<Self, ModelFault>
         ensures { let d = view value.now in
             Answers result (checks version place d) (meaning version d) };
 }
 
-/// The members of an array, numbered from 0.
+/// Reads the members of an array, numbered from 0.
 fn members<T: Member>(
     alloc: Global,
     version: u64,
@@ -51,7 +53,7 @@ fn members<T: Member>(
     Ok(members)
 }
 
-/// An array of at most `limit` members.
+/// Reads an array of at most `limit` members. M6 refuses what isn't an array, and M10 a longer one.
 pub(crate) fn array<T: Member>(
     alloc: Global,
     version: u64,
@@ -74,7 +76,7 @@ pub(crate) fn array<T: Member>(
     }
 }
 
-/// The array at a place, none where it is absent.
+/// Reads an array, or makes an empty list where it is absent.
 pub(crate) fn array_or_none<T: Member>(
     alloc: Global,
     version: u64,

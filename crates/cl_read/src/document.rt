@@ -25,8 +25,9 @@ use std::alloc::Global;
 use std::str;
 use toml::{Table, Value};
 
-/// Reads a model file: the model that its bytes write, or the first refusal of M1 to M10, or want of
-/// memory. A model that is given is in range, and each name in it is of the name grammar.
+/// Reads a model file: the model that its bytes describe, or the first refusal, of M1 to M10. Fails
+/// with `NoMemory` where memory runs out. A model that is read is in range, and each name in it is
+/// of the name grammar.
 pub fn read_model(alloc: Global, text: &[u8]) -> Result<SystemModel, ModelFault>
     ensures reads { Gives result (model_of text.now) }
     ensures in_range { IfOk result IsInRange }
@@ -36,7 +37,7 @@ pub fn read_model(alloc: Global, text: &[u8]) -> Result<SystemModel, ModelFault>
     model(alloc, &table)
 }
 
-/// The document that the bytes write.
+/// Reads the document that the bytes write. M1 refuses bytes that aren't UTF-8 or write none.
 fn document(alloc: Global, bytes: &[u8]) -> Result<Table, ModelFault>
     ensures { IsDocument result (document_of bytes.now) }
 {
@@ -46,7 +47,7 @@ fn document(alloc: Global, bytes: &[u8]) -> Result<Table, ModelFault>
     }
 }
 
-/// The document that a text writes.
+/// Reads the document that a text writes. M1 refuses a text that writes none.
 fn parsed(alloc: Global, text: &str) -> Result<Table, ModelFault>
     ensures { IsDocument result (parse_document text.now) }
 {
@@ -83,7 +84,7 @@ fn model(alloc: Global, table: &Table) -> Result<SystemModel, ModelFault>
     all_sections(alloc, version, &found)
 }
 
-/// The sections, where the keys are checked.
+/// Reads all sections, once the keys are checked.
 #[tactic(auto, using(cl_model::proofs::FirstRefusals::faults), unfolding(cl_model::specs::Reading::model_meaning))]
 fn all_sections(alloc: Global, version: u64, found: &Fields<'_>) -> Result<SystemModel, ModelFault>
     requires found { AreFieldsFound found.now }
@@ -115,7 +116,7 @@ fn all_sections(alloc: Global, version: u64, found: &Fields<'_>) -> Result<Syste
     })
 }
 
-/// Refuses a table whose format isn't `chainlat`.
+/// Checks M2: the format is `chainlat`.
 fn format(table: &Table) -> Result<(), ModelFault>
     ensures { let value = value_at key.Format (table_view table.now) in
         Answers result (unless (is_format value) M2 (at_key key.Format top)) tt }
@@ -126,7 +127,7 @@ fn format(table: &Table) -> Result<(), ModelFault>
     }
 }
 
-/// The version of the file, and refuses one that isn't 1 or 2.
+/// Checks M3 and returns the version of the file, 1 or 2.
 fn version(table: &Table) -> Result<u64, ModelFault>
     ensures { let ms = table_view table.now in
         Answers result (unless (is_version (value_at key.Version ms)) M3 (at_key key.Version top)) (version_in ms) }
@@ -138,7 +139,7 @@ fn version(table: &Table) -> Result<u64, ModelFault>
     }
 }
 
-/// The entries of a section, none where it is absent.
+/// Reads the entries of a section, none where it is absent.
 fn section<T: Member>(
     alloc: Global,
     version: u64,

@@ -191,7 +191,7 @@ fn label(place: Place, table: &Table) -> Result<LabelDef, ModelFault>
     })
 }
 
-/// The names in an array of at most `limit` members, none where it is absent.
+/// Reads the array of at most `limit` names at a key, empty where the key is absent.
 fn names(
     alloc: Global,
     version: u64,
@@ -243,7 +243,7 @@ fn runnable(
     })
 }
 
-/// The runnables of a task, none where they are absent.
+/// Reads the runnables of a task, none where the key is absent.
 fn runnables(
     alloc: Global,
     version: u64,

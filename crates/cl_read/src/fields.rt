@@ -1,4 +1,5 @@
-//! The fields of a table: the values at its keys.
+//! The fields of a table: the values at its keys. M5 refuses a table without a key that it must
+//! have.
 ghost use Rattle.toml.specs.View.{table_view};
 ghost use Rattle.cl_model.specs.declared.task.AccessKind.TheVariants.{Explicit};
 ghost use Rattle.cl_model.specs.declared.chain.LengthKind.TheVariants.{Reaction};
@@ -42,7 +43,7 @@ pub(crate) fn number(
     }
 }
 
-/// A number up to `high`, 0 where the key is absent.
+/// Reads the number at a key, at most `high`, or returns 0 where the key is absent.
 pub(crate) fn number_or_zero(
     place: Place,
     fields: &Fields<'_>,
@@ -59,7 +60,7 @@ pub(crate) fn number_or_zero(
     }
 }
 
-/// A number from `low` to `high`, or none where the key is absent.
+/// Reads the number at a key, from `low` to `high`, or returns `None` where the key is absent.
 pub(crate) fn number_if(
     place: Place,
     fields: &Fields<'_>,
@@ -77,7 +78,7 @@ pub(crate) fn number_if(
     }
 }
 
-/// Whether true stands at a key, false where the key is absent.
+/// Reads the boolean at a key, or returns `false` where the key is absent.
 pub(crate) fn is_set(place: Place, fields: &Fields<'_>, key: Key) -> Result<bool, ModelFault>
     requires { AreFieldsFound fields.now }
     ensures { let ms = table_view fields.now.table.now in

@@ -14,21 +14,21 @@ use toml::{Table, Value};
 /// The most keys that a table may have.
 const MOST_KEYS: usize = 8;
 
-/// The value at a key, if the key is there.
+/// Finds the value at a key, if the key is there.
 pub(crate) fn value_at(table: &Table, key: Key) -> Option<&Value>
     ensures { option_map (λ value. view value.now) result ≡ value_at key (table_view table.now) }
 {
     table.get(key.word())
 }
 
-/// The place of a word among these keys.
+/// Finds the index of the key that a word spells among these keys.
 fn place_of(keys: &[Key], word: &str) -> Option<usize>
     ensures { result ≡ position (is_word word.now) keys.now }
 {
     keys.iter().position(|key| key.word() == word)
 }
 
-/// The place of a key among these keys.
+/// Finds the index of a key among these keys.
 fn place_of_key(keys: &[Key], key: Key) -> Option<usize>
     ensures { IfSome result (λ place. slice_get keys.now place ≡ Some key) }
 {
@@ -40,7 +40,7 @@ fn place_of_key(keys: &[Key], key: Key) -> Option<usize>
     None
 }
 
-/// The value that came first.
+/// Returns the earlier value, if there is one, and else this one.
 fn first_of<'a>(earlier: Option<&'a Value>, value: &'a Value) -> Option<&'a Value>
     ensures { data_of result ≡ first_of (data_of earlier.entry) (view value.now) }
 {
@@ -50,7 +50,8 @@ fn first_of<'a>(earlier: Option<&'a Value>, value: &'a Value) -> Option<&'a Valu
     }
 }
 
-/// Finds the values at these keys, in one pass over the table. Tells whether the table has no other key.
+/// Finds the values at these keys, in one pass over the table. Returns whether the table has no
+/// other key; where it has one, some values may be missing.
 fn find<'a>(keys: &[Key], table: &'a Table, values: &mut [Option<&'a Value>]) -> bool
     requires few { length keys.now ≤ length values.old }
     requires apart { IsTrue (are_apart keys.now) }
@@ -67,7 +68,7 @@ fn find<'a>(keys: &[Key], table: &'a Table, values: &mut [Option<&'a Value>]) ->
     true
 }
 
-/// The fields of a table, where the values at some keys are found already.
+/// The fields of a table. The values at some keys are found already.
 #[derive(Clone, Copy)]
 pub(crate) struct Fields<'a> {
     table: &'a Table,
@@ -76,7 +77,7 @@ pub(crate) struct Fields<'a> {
 }
 
 impl<'a> Fields<'a> {
-    /// The fields of a table that may have any keys.
+    /// Takes a table that may have any keys. No value is found yet.
     pub fn of_any(table: &'a Table) -> Fields<'a>
         ensures table { result.table.now ≡ table.now }
         ensures found { AreFieldsFound result }
@@ -88,7 +89,7 @@ impl<'a> Fields<'a> {
         }
     }
 
-    /// The fields of a table at these keys. A table that has another key is refused.
+    /// Finds the values at these keys. M4 refuses a table that has another key.
     pub fn of_only(
         place: Place,
         table: &'a Table,
@@ -96,7 +97,8 @@ impl<'a> Fields<'a> {
     ) -> Result<Fields<'a>, ModelFault>
         requires few { length keys.now ≤ constants.MOST_KEYS }
         requires apart { IsTrue (are_apart keys.now) }
-        ensures checked { Passes result (unless (has_only keys.now (table_view table.now)) M4 place) }
+        ensures checked { Passes result
+            (unless (has_only keys.now (table_view table.now)) M4 place) }
         ensures table { IfOk result (λ fields. fields.table.now ≡ table.now) }
         ensures found { IfOk result AreFieldsFound }
     {
@@ -111,7 +113,8 @@ impl<'a> Fields<'a> {
         })
     }
 
-    /// The value at a key, if the key is there. Only a key that the table was not asked for is looked up now.
+    /// Returns the value at a key, if the key is there. Only a key that isn't one of those found
+    /// already is looked up now.
     pub fn value_at(&self, key: Key) -> Option<&'a Value>
         requires { AreFieldsFound self.now }
         ensures { data_of result ≡ value_at key (table_view self.now.table.now) }

@@ -1,4 +1,4 @@
-//! Reads a model file: the model that its bytes write, or the first refusal.
+//! Reads a model file: the model that its bytes describe, or the first refusal.
 #![tactic(auto)]
 
 use cl_model::ModelFault;
@@ -13,5 +13,5 @@ mod values;
 
 pub use document::read_model;
 
-/// Why a model file isn't read: its first refusal, or want of memory.
+/// Why a model file can't be read: its first refusal, or want of memory.
 pub type ReadFault = ModelFault;

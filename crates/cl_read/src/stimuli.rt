@@ -1,4 +1,4 @@
-//! Stimuli: what one is asked depends on its kind, and which kinds there are on the version of the file.
+//! Stimuli. The keys of one depend on its kind, and the kinds on the version of the file.
 ghost use Rattle.std.specs.Prelude.{Some, [], ◌∷◌, unwrap_or};
 ghost use Rattle.toml.specs.Data.{string};
 ghost use Rattle.toml.specs.View.{table_view};
@@ -53,7 +53,7 @@ fn stimulus(version: u64, place: Place, table: &Table) -> Result<StimulusDef, Mo
     })
 }
 
-/// The kind, with the keys that it asks for.
+/// Reads the kind of a stimulus and the keys of that kind.
 fn kind(version: u64, place: Place, table: &Table) -> Result<StimulusKind, ModelFault>
     ensures { let ms = table_view table.now in
         let forms = stimulus_forms version in
@@ -69,7 +69,7 @@ fn kind(version: u64, place: Place, table: &Table) -> Result<StimulusKind, Model
     }
 }
 
-/// The kind that a word stands for.
+/// Reads the keys of the kind that a word stands for. M9 refuses a word that stands for none.
 fn of_kind(
     version: u64,
     place: Place,

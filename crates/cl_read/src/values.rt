@@ -14,10 +14,13 @@ ghost use Rattle.cl_model.specs.Answers.{Answers, IsFaultOf};
 use cl_model::{AccessKind, Code, LengthKind, ModelFault, Name, Place};
 use toml::{Table, Value};
 
-/// The table that a value is. What isn't a table is refused, whatever is asked of the table.
+/// Returns the table that a value is. M6 refuses any other value, whatever the checks of the table
+/// are.
 pub(crate) fn table_in(place: Place, value: &Value) -> Result<&Table, ModelFault>
     ensures found { IfOk result (λ found. view value.now ≡ table (table_view found.now)) }
-    ensures refused { IfErr result (λ fault. (asked : Spot → Members → List Refusal) → IsFaultOf (a_table asked place (view value.now)) fault) }
+    ensures refused { IfErr result
+        (λ fault. (asked : Spot → Members → List Refusal)
+        → IsFaultOf (a_table asked place (view value.now)) fault) }
 {
     match value {
         Value::Table(table) => Ok(table),
@@ -38,7 +41,7 @@ pub(crate) fn name(place: Place, value: &Value) -> Result<Name, ModelFault>
     }
 }
 
-/// A whole number from `low` to `high`.
+/// Reads a whole number from `low` to `high`.
 pub(crate) fn number(place: Place, low: u64, high: u64, value: &Value) -> Result<u64, ModelFault>
     ensures { let d = view value.now in
         Answers result (a_number low high place d) (number_in d) }

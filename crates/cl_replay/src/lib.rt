@@ -1,4 +1,4 @@
-//! The replay of a run: what is measured of each chain, against its bounds.
+//! The replay of a run: what is measured of each chain, beside its bounds.
 #![tactic(auto)]
 
 pub mod laws;

@@ -15,7 +15,7 @@ use cl_report::{kind_word, put_chain_name, put_jobs};
 use cl_text::Text;
 use cl_time::NoMemory;
 
-/// Puts the lines of all chains.
+/// Puts the lines of all chains in file order.
 pub(crate) fn put_chains(
     text: &mut Text,
     model: &ValidModel,
@@ -35,7 +35,7 @@ pub(crate) fn put_chains(
     Ok(())
 }
 
-/// Puts the three lines of a chain.
+/// Puts the three lines of a chain, one for each kind of length.
 fn put_chain(
     text: &mut Text,
     model: &ValidModel,
@@ -45,14 +45,15 @@ fn put_chain(
 ) -> Result<(), NoMemory>
     requires within { chain < length model.now.chains }
     requires margins { ChainHasMargins (groups_at model.now chain) answer.now (measured_of measured.now) }
-    ensures { OnOk result (text.new ≡ text.old ++ measured_lines model.now chain answer.now (measured_of measured.now)) }
+    ensures { OnOk result
+        (text.new ≡ text.old ++ measured_lines model.now chain answer.now (measured_of measured.now)) }
 {
     put_kind(text, model, chain, LengthKind::Reaction, answer, measured)?;
     put_kind(text, model, chain, LengthKind::Age, answer, measured)?;
     put_kind(text, model, chain, LengthKind::Reduced, answer, measured)
 }
 
-/// Puts the line of a kind of a chain.
+/// Puts the line of a chain for one kind of length.
 fn put_kind(
     text: &mut Text,
     model: &ValidModel,
@@ -63,7 +64,8 @@ fn put_kind(
 ) -> Result<(), NoMemory>
     requires within { chain < length model.now.chains }
     requires margins { ChainHasMargins (groups_at model.now chain) answer.now (measured_of measured.now) }
-    ensures { OnOk result (text.new ≡ text.old ++ kind_line model.now chain answer.now (measured_of measured.now) kind) }
+    ensures { OnOk result
+        (text.new ≡ text.old ++ kind_line model.now chain answer.now (measured_of measured.now) kind) }
 {
     let count = count_of_kind(kind, measured);
     let longest = longest_of_kind(kind, measured);
@@ -75,7 +77,8 @@ fn put_kind(
     text.put(b"\n")
 }
 
-/// Puts what is said of the longest chain of a kind, where there may be none.
+/// Puts what a line says of the longest complete chain of a kind, or that there is none, and the
+/// bound.
 fn put_found(
     text: &mut Text,
     model: &ValidModel,
@@ -86,7 +89,8 @@ fn put_found(
 ) -> Result<(), NoMemory>
     requires within { chain < length model.now.chains }
     requires margin { LongestHasMargin (groups_at model.now chain) bound (option_of longest.now) }
-    ensures { OnOk result (text.new ≡ text.old ++ found_words model.now chain count bound (option_of longest.now)) }
+    ensures { OnOk result
+        (text.new ≡ text.old ++ found_words model.now chain count bound (option_of longest.now)) }
 {
     match longest {
         Some(longest) => put_longest(text, model, chain, count, bound, longest),
@@ -97,7 +101,8 @@ fn put_found(
     }
 }
 
-/// Puts what is said of the longest chain of a kind.
+/// Puts what a line says of the longest complete chain of a kind: its length, its ends, its jobs,
+/// how many complete chains there are, the bound and the margin.
 fn put_longest(
     text: &mut Text,
     model: &ValidModel,
@@ -108,7 +113,8 @@ fn put_longest(
 ) -> Result<(), NoMemory>
     requires within { chain < length model.now.chains }
     requires margin { HasMargin (groups_at model.now chain) bound (job_chain_of longest.now) }
-    ensures { OnOk result (text.new ≡ text.old ++ longest_words model.now chain count bound (job_chain_of longest.now)) }
+    ensures { OnOk result
+        (text.new ≡ text.old ++ longest_words model.now chain count bound (job_chain_of longest.now)) }
 {
     let length = longest.to - longest.from;
     text.put(b" ")?;
@@ -124,7 +130,8 @@ fn put_longest(
     put_margin(text, bound, length)
 }
 
-/// Puts a bound, and the margin that a length leaves to it.
+/// Puts a bound and the margin that a length leaves to it, or that the chain is late and has no
+/// bound.
 fn put_margin(text: &mut Text, bound: Option<u64>, length: u64) -> Result<(), NoMemory>
     requires { (most : ℕ) → bound ≡ Some most → length ≤ most }
     ensures { OnOk result (text.new ≡ text.old ++ margin_words bound length) }

@@ -15,16 +15,18 @@ use cl_run_data::RunData;
 use cl_time::NoMemory;
 use std::alloc::Global;
 
-/// What is measured of each chain in a run, in file order. No measured chain is longer than a bound that is found of
-/// it.
+/// Measures all chains of a model in a run, in file order. No measured chain is longer than the
+/// bound that is found of it, if there is one.
 pub(crate) fn measure_all(
     alloc: Global,
     model: &ValidModel,
     run: &RunData,
 ) -> Result<List<Measured>, NoMemory>
     requires { IsLegal (system_of model.now) run.now }
-    ensures measured { IfOk result (λ measured. AreMeasured model.now run.now (map measured_of measured)) }
-    ensures margins { IfOk result (λ measured. (findings : Findings) → AreFindings model.now findings
+    ensures measured { IfOk result
+        (λ measured. AreMeasured model.now run.now (map measured_of measured)) }
+    ensures margins { IfOk result
+        (λ measured. (findings : Findings) → AreFindings model.now findings
         → HaveMargins model.now findings (map measured_of measured)) }
 {
     let apart = tasks_apart(alloc, model, run)?;

@@ -6,7 +6,7 @@ ghost use Rattle.cl_replay.specs.Replay.{longest_of_kind, count_of_kind};
 use cl_chain::{JobChain, Measured};
 use cl_model::LengthKind;
 
-/// The longest chain of a kind.
+/// Returns the longest complete chain of a kind, if there is one.
 pub(crate) fn longest_of_kind(kind: LengthKind, measured: &Measured) -> &Option<JobChain>
     ensures { option_of result.now ≡ longest_of_kind kind (measured_of measured.now) }
 {
@@ -17,7 +17,8 @@ pub(crate) fn longest_of_kind(kind: LengthKind, measured: &Measured) -> &Option<
     }
 }
 
-/// How many complete chains of a kind there are.
+/// Returns the number of complete chains of a kind: of forward ones for the reaction, and of
+/// backward ones for the age and the reduced age.
 pub(crate) fn count_of_kind(kind: LengthKind, measured: &Measured) -> u64
     ensures { result ≡ count_of_kind kind (measured_of measured.now) }
 {

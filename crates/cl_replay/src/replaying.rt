@@ -17,13 +17,17 @@ use cl_text::Text;
 use cl_time::NoMemory;
 use std::alloc::Global;
 
-/// The replay of a run: a title, and for each chain in file order the longest complete chains that the run has of each
-/// kind, each with the bound that was found and the margin that it leaves. A margin is the bound minus what is
-/// measured, and never negative. Times are in ticks.
+/// Builds the replay of a run: a title, and for each chain in file order a line for each kind of
+/// length. The line has the longest complete chain of the kind in the run, the number of complete
+/// ones, the bound that was found, and the margin that the chain leaves to it. Where the run has no
+/// complete chain of the kind, the line says so and has the bound alone; where the chain is late,
+/// it says so in place of the bound and the margin. A margin is the bound minus the measured
+/// length, and never negative. Times are in ticks.
 ///
-/// The findings are those of the model, and the run is legal for it. `NoMemory` comes where there is no memory for what
-/// is measured or for the text; it leaves nothing. It takes a time proportional to the jobs of the chains' groups and
-/// the stretches of their cores, whatever the number of ticks.
+/// The findings are those of the model, and the run is legal for it. `NoMemory` comes where there
+/// is no memory for what is measured or for the text; it leaves nothing. It takes a time
+/// proportional to the stretches of the run and, for each chain, to the jobs of the tasks of its
+/// groups and the stretches of these tasks, whatever the number of ticks.
 pub fn replay(
     alloc: Global,
     model: &ValidModel,
@@ -39,7 +43,7 @@ pub fn replay(
     text_of(alloc, model, findings, measured.as_slice())
 }
 
-/// The replay, by what is measured of each chain.
+/// Builds the text of a replay from what is measured of each chain.
 fn text_of(
     alloc: Global,
     model: &ValidModel,
@@ -49,7 +53,8 @@ fn text_of(
     requires found { AreFindings model.now findings.now }
     requires one_a_chain { length measured.now ≡ length model.now.chains }
     requires margins { HaveMargins model.now findings.now (map measured_of measured.now) }
-    ensures { IfOk result (λ text. text ≡ replay_text model.now findings.now (map measured_of measured.now)) }
+    ensures { IfOk result
+        (λ text. text ≡ replay_text model.now findings.now (map measured_of measured.now)) }
 {
     let mut text = Text::new(alloc);
     text.put(b"chainlat replay 1\n")?;

@@ -1,7 +1,7 @@
-pub mod Beginnings
 pub mod ReportLines
 pub mod OneReport
 pub mod SmallSums
 pub mod SurveyPieces
 pub mod OneSurvey
 pub mod TightLines
+pub mod Pieces

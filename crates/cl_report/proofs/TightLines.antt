@@ -13,7 +13,7 @@ use Rattle.cl_model.specs.Validity.{IsValid}
 use Rattle.cl_model.proofs.StepFacts.{step_is_known}
 use Rattle.cl_model.proofs.NamesKnown.{steps_known}
 use Rattle.cl_runs.specs.SystemOf.{system_of, timing_of}
-use Rattle.cl_resp.proofs.FirstFound.{first_found}
+use Rattle.cl_runs.proofs.FirstFound.{first_found}
 use Rattle.cl_bound.specs.declared.answer.TaskAnswer.{TaskAnswer}
 use Rattle.cl_bound.specs.Answers.{answer_at, is_late}
 use Rattle.cl_phase.specs.TightAnswers.{tight_answer_to, tight_answers_of, tight_response}

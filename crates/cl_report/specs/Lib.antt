@@ -1,4 +1,3 @@
-pub mod Beginnings
 pub mod Report
 pub mod Survey
 pub mod Tight

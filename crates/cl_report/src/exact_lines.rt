@@ -1,11 +1,12 @@
-//! The lines of exact lengths.
-ghost use Rattle.std.specs.Prelude.{◌≡◌, ◌<◌, ◌++◌, length, slice_index, OnOk};
+//! The lines on the exact lengths of chains.
+ghost use Rattle.std.specs.Prelude.{◌≡◌, ◌<◌, ◌++◌, length, slice_index, OnOk, OnErr};
 ghost use Rattle.cl_model.specs.Groups.{groups_at};
 ghost use Rattle.cl_runs.specs.SystemOf.{system_of};
 ghost use Rattle.cl_exact.specs.ExactLengths.{AreExactLengths};
 ghost use Rattle.cl_analyse.specs.declared.findings.ExactAnswer.TheVariants.{Exact};
 ghost use Rattle.cl_analyse.specs.ChainAnswers.{exact_answer_at};
 ghost use Rattle.cl_analyse.specs.Findings.{AreFindings};
+ghost use Rattle.cl_text.specs.Beginnings.{PutsPart};
 ghost use Rattle.cl_report.specs.Report.{kind_word, job_words, jobs_words, witness_line, past_line, exact_lines};
 
 use crate::words::{kind_word, put_chain_name, put_jobs};
@@ -15,7 +16,8 @@ use cl_model::{LengthKind, ValidModel};
 use cl_text::Text;
 use cl_time::NoMemory;
 
-/// Puts the lines of the exact lengths of a chain.
+/// Puts the lines on the exact lengths of a chain: three where they were found, one where its
+/// hyperperiod exceeds the limit, and none otherwise.
 pub(crate) fn put_exact(
     text: &mut Text,
     model: &ValidModel,
@@ -24,8 +26,10 @@ pub(crate) fn put_exact(
 ) -> Result<(), NoMemory>
     requires found { AreFindings model.now findings.now }
     requires within { chain < length model.now.chains }
-    ensures { OnOk result
+    ensures ok { OnOk result
         (text.new ≡ text.old ++ exact_lines model.now chain (exact_answer_at findings.now.exacts chain)) }
+    ensures err { OnErr result
+        (PutsPart text.old text.new (exact_lines model.now chain (exact_answer_at findings.now.exacts chain))) }
 {
     match &findings.exacts.as_slice()[chain as usize] {
         ExactAnswer::Exact(lengths) => put_witnesses(text, model, chain, lengths),
@@ -43,14 +47,17 @@ fn put_witnesses(
 ) -> Result<(), NoMemory>
     requires within { chain < length model.now.chains }
     requires lengths { AreExactLengths (system_of model.now) (groups_at model.now chain) lengths.now }
-    ensures { OnOk result (text.new ≡ text.old ++ exact_lines model.now chain (Exact lengths.now)) }
+    ensures ok { OnOk result
+        (text.new ≡ text.old ++ exact_lines model.now chain (Exact lengths.now)) }
+    ensures err { OnErr result
+        (PutsPart text.old text.new (exact_lines model.now chain (Exact lengths.now))) }
 {
     put_witness(text, model, chain, LengthKind::Reaction, lengths.reaction())?;
     put_witness(text, model, chain, LengthKind::Age, lengths.age())?;
     put_witness(text, model, chain, LengthKind::Reduced, lengths.reduced())
 }
 
-/// Puts the line of an exact length of a chain.
+/// Puts the line of an exact length of a chain, with the job chain that attains it.
 fn put_witness(
     text: &mut Text,
     model: &ValidModel,
@@ -60,7 +67,10 @@ fn put_witness(
 ) -> Result<(), NoMemory>
     requires within { chain < length model.now.chains }
     requires jobs { length witness.now.jobs ≡ length (groups_at model.now chain) }
-    ensures { OnOk result (text.new ≡ text.old ++ witness_line model.now chain kind witness.now) }
+    ensures ok { OnOk result
+        (text.new ≡ text.old ++ witness_line model.now chain kind witness.now) }
+    ensures err { OnErr result
+        (PutsPart text.old text.new (witness_line model.now chain kind witness.now)) }
 {
     text.put(b"exact ")?;
     put_chain_name(text, model, chain)?;
@@ -80,7 +90,8 @@ fn put_witness(
 /// Puts the line of a chain whose hyperperiod exceeds a limit.
 fn put_past(text: &mut Text, model: &ValidModel, chain: u32, limit: u64) -> Result<(), NoMemory>
     requires { chain < length model.now.chains }
-    ensures { OnOk result (text.new ≡ text.old ++ past_line model.now chain limit) }
+    ensures ok { OnOk result (text.new ≡ text.old ++ past_line model.now chain limit) }
+    ensures err { OnErr result (PutsPart text.old text.new (past_line model.now chain limit)) }
 {
     text.put(b"exact ")?;
     put_chain_name(text, model, chain)?;

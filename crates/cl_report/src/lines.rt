@@ -3,7 +3,7 @@ ghost use Rattle.std.specs.Prelude.{◌≡◌, ℕ, ◌<◌, ◌++◌, length, O
 ghost use Rattle.std.specs.List.{flat_map, range_with_len};
 ghost use Rattle.cl_analyse.specs.declared.findings.ChainAnswer.TheVariants.{Late};
 ghost use Rattle.cl_analyse.specs.Findings.{AreFindings};
-ghost use Rattle.cl_report.specs.Beginnings.{PutsPart};
+ghost use Rattle.cl_text.specs.Beginnings.{PutsPart};
 ghost use Rattle.cl_report.specs.Report.{task_words, task_line, task_lines, bounds_words, chain_words, chain_line, chain_lines, report_text};
 
 use crate::exact_lines::put_exact;
@@ -16,8 +16,9 @@ use cl_text::Text;
 use cl_time::NoMemory;
 use std::alloc::Global;
 
-/// The report of a model: a title, a line for each task, a line for each chain with those of its exact lengths after
-/// it, and a line for each requirement, each in file order. Times are in ticks. The findings are those of the model.
+/// Builds the report of a model: a title, a line for each task, a line for each chain followed by
+/// the lines on its exact lengths, and a line for each requirement, each in file order. Times are
+/// in ticks. The findings are those of the model.
 ///
 /// `NoMemory` comes where there is no memory for the text; it leaves nothing.
 pub fn report(alloc: Global, model: &ValidModel, findings: &Findings) -> Result<Text, NoMemory>
@@ -29,12 +30,14 @@ pub fn report(alloc: Global, model: &ValidModel, findings: &Findings) -> Result<
     Ok(text)
 }
 
-/// Puts the report of a model behind a text. The findings are those of the model.
+/// Appends the report of a model to a text. The findings are those of the model.
 ///
-/// `NoMemory` comes where there is no memory for the longer text; it leaves the text as it was or longer.
+/// `NoMemory` comes where there is no memory for the longer text. After `NoMemory` the text ends
+/// with a prefix of the report.
 pub fn put_report(text: &mut Text, model: &ValidModel, findings: &Findings) -> Result<(), NoMemory>
     requires { AreFindings model.now findings.now }
-    ensures { OnOk result (text.new ≡ text.old ++ report_text model.now findings.now) }
+    ensures ok { OnOk result (text.new ≡ text.old ++ report_text model.now findings.now) }
+    ensures err { OnErr result (PutsPart text.old text.new (report_text model.now findings.now)) }
 {
     text.put(b"chainlat report 1\n")?;
     put_tasks(text, model, &findings.tasks)?;
@@ -43,14 +46,15 @@ pub fn put_report(text: &mut Text, model: &ValidModel, findings: &Findings) -> R
     Ok(())
 }
 
-/// Puts the lines of all tasks, one for each answer.
+/// Puts the lines of all tasks in file order. There is one answer for each task.
 pub(crate) fn put_tasks(
     text: &mut Text,
     model: &ValidModel,
     tasks: &List<TaskAnswer>,
 ) -> Result<(), NoMemory>
     requires { length tasks.now ≡ length model.now.tasks }
-    ensures { OnOk result (text.new ≡ text.old ++ task_lines model.now tasks.now) }
+    ensures ok { OnOk result (text.new ≡ text.old ++ task_lines model.now tasks.now) }
+    ensures err { OnErr result (PutsPart text.old text.new (task_lines model.now tasks.now)) }
 {
     for task in 0..model.tasks() {
         put_task(text, model, &tasks.as_slice()[task as usize], task)?;
@@ -58,8 +62,10 @@ pub(crate) fn put_tasks(
     Ok(())
 }
 
-/// Puts the line of a task that has this answer behind a text. `NoMemory` leaves the text with a beginning of the line
-/// after it.
+/// Appends the line of a task with this answer to a text.
+///
+/// `NoMemory` comes where there is no memory for the longer text. After `NoMemory` the text ends
+/// with a prefix of the line.
 pub fn put_task(
     text: &mut Text,
     model: &ValidModel,
@@ -78,7 +84,7 @@ pub fn put_task(
     text.put(b"\n")
 }
 
-/// Puts what is found of a task.
+/// Puts the response of a task, or that it is late.
 fn put_answer(text: &mut Text, answer: &TaskAnswer) -> Result<(), NoMemory>
     ensures ok { OnOk result (text.new ≡ text.old ++ task_words answer.now) }
     ensures err { OnErr result (PutsPart text.old text.new (task_words answer.now)) }
@@ -92,10 +98,14 @@ fn put_answer(text: &mut Text, answer: &TaskAnswer) -> Result<(), NoMemory>
     }
 }
 
-/// Puts the lines of all chains, each with those of its exact lengths after it.
+/// Puts the lines of all chains in file order, each followed by the lines on its exact lengths.
 fn put_chains(text: &mut Text, model: &ValidModel, findings: &Findings) -> Result<(), NoMemory>
     requires { AreFindings model.now findings.now }
-    ensures { OnOk result (text.new ≡ text.old ++ flat_map (chain_lines model.now findings.now) (range_with_len 0 (length model.now.chains))) }
+    ensures ok { OnOk result
+        (text.new ≡ text.old ++ flat_map (chain_lines model.now findings.now) (range_with_len 0 (length model.now.chains))) }
+    ensures err { OnErr result
+        (PutsPart text.old text.new (flat_map (chain_lines model.now findings.now)
+        (range_with_len 0 (length model.now.chains)))) }
 {
     for chain in 0..model.chains() {
         put_chain(
@@ -109,8 +119,11 @@ fn put_chains(text: &mut Text, model: &ValidModel, findings: &Findings) -> Resul
     Ok(())
 }
 
-/// Puts the line of a chain that has this answer behind a text. A late task that it names is a task of the model.
-/// `NoMemory` leaves the text with a beginning of the line after it.
+/// Appends the line of a chain with this answer to a text. A late task that the answer names is a
+/// task of the model.
+///
+/// `NoMemory` comes where there is no memory for the longer text. After `NoMemory` the text ends
+/// with a prefix of the line.
 pub fn put_chain(
     text: &mut Text,
     model: &ValidModel,
@@ -120,7 +133,8 @@ pub fn put_chain(
     requires within { chain < length model.now.chains }
     requires known { (late : ℕ) → answer.now ≡ Late late → late < length model.now.tasks }
     ensures ok { OnOk result (text.new ≡ text.old ++ chain_line model.now answer.now chain) }
-    ensures err { OnErr result (PutsPart text.old text.new (chain_line model.now answer.now chain)) }
+    ensures err { OnErr result
+        (PutsPart text.old text.new (chain_line model.now answer.now chain)) }
 {
     text.put(b"chain ")?;
     put_name(text, &model.chain(chain).name)?;
@@ -128,7 +142,7 @@ pub fn put_chain(
     text.put(b"\n")
 }
 
-/// Puts what is found of a chain.
+/// Puts the bounds of a chain, or the late task that leaves it without bounds.
 fn put_chain_answer(
     text: &mut Text,
     model: &ValidModel,
@@ -147,7 +161,10 @@ fn put_chain_answer(
     }
 }
 
-/// Puts the bounds of a chain behind a text. `NoMemory` leaves the text with a beginning of the words after it.
+/// Appends the bounds of a chain to a text, as the words that its line says of them.
+///
+/// `NoMemory` comes where there is no memory for the longer text. After `NoMemory` the text ends
+/// with a prefix of the words.
 pub fn put_bounds(text: &mut Text, bounds: &Bounds) -> Result<(), NoMemory>
     ensures ok { OnOk result (text.new ≡ text.old ++ bounds_words bounds.now) }
     ensures err { OnErr result (PutsPart text.old text.new (bounds_words bounds.now)) }

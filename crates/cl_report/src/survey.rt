@@ -13,9 +13,11 @@ use cl_text::Text;
 use cl_time::NoMemory;
 use std::alloc::Global;
 
-/// The survey of a model: a title, how many tasks settled and how many are late, how many chains have bounds and how
-/// many are late, how many have exact lengths and how many a hyperperiod past the limit, and the sums of the bounds of
-/// all chains that aren't late. Times are in ticks. The findings are those of the model.
+/// Builds the survey of a model: a title; how many tasks there are, how many of them settled and
+/// how many are late; how many chains there are, how many of them have bounds and how many are
+/// late; how many chains have exact lengths and how many have a hyperperiod past the limit; and,
+/// for each kind of length, the sum of the bounds of all chains that aren't late. Times are in
+/// ticks. The findings are those of the model.
 ///
 /// `NoMemory` comes where there is no memory for the text; it leaves nothing.
 pub fn survey_text(alloc: Global, model: &ValidModel, findings: &Findings) -> Result<Text, NoMemory>
@@ -41,21 +43,22 @@ fn put_count(text: &mut Text, word: &[u8], count: u64) -> Result<(), NoMemory>
     text.put_number(count)
 }
 
-/// How many tasks settled.
+/// Counts the tasks that settled.
 fn count_settled(answers: &[TaskAnswer]) -> usize
     ensures { result ≡ count_by is_settled answers.now }
 {
     answers.iter().filter(|answer| !answer.is_late()).count()
 }
 
-/// How many tasks are late.
+/// Counts the tasks that are late.
 fn count_late(answers: &[TaskAnswer]) -> usize
     ensures { result ≡ count_by is_late answers.now }
 {
     answers.iter().filter(|answer| answer.is_late()).count()
 }
 
-/// Puts how many tasks there are, and how many of them settled and are late.
+/// Puts the line that says how many tasks there are, how many of them settled, and how many are
+/// late.
 fn put_tasks(text: &mut Text, answers: &[TaskAnswer]) -> Result<(), NoMemory>
     ensures { OnOk result (text.new ≡ text.old ++ tasks_line answers.now) }
 {
@@ -65,28 +68,29 @@ fn put_tasks(text: &mut Text, answers: &[TaskAnswer]) -> Result<(), NoMemory>
     text.put(b"\n")
 }
 
-/// Whether a chain has bounds.
+/// Checks whether a chain has bounds.
 fn is_bounded(answer: &ChainAnswer) -> bool
     ensures { result ≡ is_bounded answer.now }
 {
     matches!(answer, ChainAnswer::Bounds(_))
 }
 
-/// How many chains have bounds.
+/// Counts the chains that have bounds.
 fn count_bounded(answers: &[ChainAnswer]) -> usize
     ensures { result ≡ count_by is_bounded answers.now }
 {
     answers.iter().filter(|answer| is_bounded(answer)).count()
 }
 
-/// How many chains have none, since a task of theirs is late.
+/// Counts the chains without bounds. Each has a late task.
 fn count_unbounded(answers: &[ChainAnswer]) -> usize
     ensures { result ≡ count_by is_unbounded answers.now }
 {
     answers.iter().filter(|answer| !is_bounded(answer)).count()
 }
 
-/// Puts how many chains there are, and how many of them have bounds and are late.
+/// Puts the line that says how many chains there are, how many of them have bounds, and how many
+/// are late.
 fn put_chains(text: &mut Text, answers: &[ChainAnswer]) -> Result<(), NoMemory>
     ensures { OnOk result (text.new ≡ text.old ++ chains_line answers.now) }
 {
@@ -96,35 +100,36 @@ fn put_chains(text: &mut Text, answers: &[ChainAnswer]) -> Result<(), NoMemory>
     text.put(b"\n")
 }
 
-/// Whether a chain has exact lengths.
+/// Checks whether a chain has exact lengths.
 fn is_exact(answer: &ExactAnswer) -> bool
     ensures { result ≡ is_exact answer.now }
 {
     matches!(answer, ExactAnswer::Exact(_))
 }
 
-/// How many chains have exact lengths.
+/// Counts the chains that have exact lengths.
 fn count_exact(answers: &[ExactAnswer]) -> usize
     ensures { result ≡ count_by is_exact answers.now }
 {
     answers.iter().filter(|answer| is_exact(answer)).count()
 }
 
-/// Whether the hyperperiod of a chain exceeds the limit.
+/// Checks whether the hyperperiod of a chain exceeds the limit.
 fn is_past(answer: &ExactAnswer) -> bool
     ensures { result ≡ is_past answer.now }
 {
     matches!(answer, ExactAnswer::Past { .. })
 }
 
-/// How many chains have a hyperperiod past the limit.
+/// Counts the chains whose hyperperiod exceeds the limit.
 fn count_past(answers: &[ExactAnswer]) -> usize
     ensures { result ≡ count_by is_past answers.now }
 {
     answers.iter().filter(|answer| is_past(answer)).count()
 }
 
-/// Puts how many chains have exact lengths, and how many a hyperperiod past the limit.
+/// Puts the line that says how many chains have exact lengths, and how many have a hyperperiod past
+/// the limit.
 fn put_exacts(text: &mut Text, answers: &[ExactAnswer]) -> Result<(), NoMemory>
     ensures { OnOk result (text.new ≡ text.old ++ exacts_line answers.now) }
 {
@@ -133,14 +138,14 @@ fn put_exacts(text: &mut Text, answers: &[ExactAnswer]) -> Result<(), NoMemory>
     text.put(b"\n")
 }
 
-/// The bound of a kind on the lengths of a chain, and 0 where the chain is late.
+/// Returns the bound on a kind of length of a chain, or 0 where the chain is late.
 fn bound_or_none(answer: &ChainAnswer, kind: LengthKind) -> u64
     ensures { result ≡ unwrap_or (bound_value kind answer.now) 0 }
 {
     answer.value(kind).unwrap_or(0)
 }
 
-/// The sum of the bounds of a kind.
+/// Adds up the bounds on a kind of length, over the chains that have bounds.
 fn bound_sum(answers: &[ChainAnswer], kind: LengthKind) -> u64
     requires { bound_sum kind answers.now < 2 ^ 64 }
     ensures { result ≡ bound_sum kind answers.now }
@@ -151,7 +156,7 @@ fn bound_sum(answers: &[ChainAnswer], kind: LengthKind) -> u64
         .sum()
 }
 
-/// Puts the sums of the bounds of each kind.
+/// Puts the line with the sum of the bounds on each kind of length.
 fn put_sums(text: &mut Text, answers: &[ChainAnswer]) -> Result<(), NoMemory>
     requires reaction { bound_sum Reaction answers.now < 2 ^ 64 }
     requires age { bound_sum Age answers.now < 2 ^ 64 }

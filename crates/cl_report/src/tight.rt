@@ -14,8 +14,9 @@ use cl_tight::TightFindings;
 use cl_time::NoMemory;
 use std::alloc::Global;
 
-/// The report of a model by tight responses and tight bounds: a title, a line for each task, a line for each chain, and
-/// a line for each requirement, each in file order. Times are in ticks. The findings are those of the model.
+/// Builds the report of a model by tight responses and tight bounds: a title, a line for each task,
+/// a line for each chain, and a line for each requirement, each in file order. Times are in ticks.
+/// The findings are those of the model.
 ///
 /// `NoMemory` comes where there is no memory for the text; it leaves nothing.
 pub fn tight_report(
@@ -34,8 +35,9 @@ pub fn tight_report(
     Ok(text)
 }
 
-/// What verifies a model or keeps it from that: a title, a line for each task that is late by tight responses, and a
-/// line for each requirement, each in file order. Times are in ticks. The findings are those of the model.
+/// Builds the text that shows whether a model is verified: a title, a line for each task that is
+/// late by tight responses, and a line with the verdict on each requirement, each in file order.
+/// Times are in ticks. The findings are those of the model.
 ///
 /// `NoMemory` comes where there is no memory for the text; it leaves nothing.
 pub fn verify_report(
@@ -53,7 +55,7 @@ pub fn verify_report(
     Ok(text)
 }
 
-/// Puts the lines of all chains. The answers are those of the model by tight bounds.
+/// Puts the lines of all chains in file order. The answers are those of the model by tight bounds.
 fn put_bounded(
     text: &mut Text,
     model: &ValidModel,
@@ -68,7 +70,7 @@ fn put_bounded(
     Ok(())
 }
 
-/// Puts the lines of the tasks that are late, of one answer for each task.
+/// Puts the lines of the late tasks in file order. There is one answer for each task.
 fn put_late(text: &mut Text, model: &ValidModel, tasks: &List<TaskAnswer>) -> Result<(), NoMemory>
     requires { length tasks.now ≡ length model.now.tasks }
     ensures { OnOk result (text.new ≡ text.old ++ late_lines model.now tasks.now) }

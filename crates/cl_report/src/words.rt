@@ -1,15 +1,18 @@
-//! The words that the lines of several texts share: names of a model, kinds of lengths, and the jobs of a chain.
+//! The words that the lines of several texts share: names of a model, kinds of lengths, and the
+//! jobs of a chain.
 ghost use Rattle.std.specs.Prelude.{◌≡◌, ◌<◌, ◌++◌, length, OnOk, OnErr};
 ghost use Rattle.cl_model.specs.ByNumber.{task_at, chain_at};
 ghost use Rattle.cl_model.specs.Groups.{groups_at};
-ghost use Rattle.cl_report.specs.Beginnings.{PutsPart};
+ghost use Rattle.cl_text.specs.Beginnings.{PutsPart};
 ghost use Rattle.cl_report.specs.Report.{kind_word, job_words, jobs_words};
 
 use cl_model::{LengthKind, Name, ValidModel};
 use cl_text::Text;
 use cl_time::NoMemory;
 
-/// Puts a name behind a text. `NoMemory` leaves the text as it was.
+/// Appends a name to a text.
+///
+/// `NoMemory` comes where there is no memory for the longer text; it leaves the text as it was.
 pub fn put_name(text: &mut Text, name: &Name) -> Result<(), NoMemory>
     ensures ok { OnOk result (text.new ≡ text.old ++ name.now) }
     ensures err { OnErr result (text.new ≡ text.old) }
@@ -17,7 +20,9 @@ pub fn put_name(text: &mut Text, name: &Name) -> Result<(), NoMemory>
     text.put(name.as_slice())
 }
 
-/// Puts the name of a task behind a text. `NoMemory` leaves the text as it was.
+/// Appends the name of a task to a text.
+///
+/// `NoMemory` comes where there is no memory for the longer text; it leaves the text as it was.
 pub fn put_task_name(text: &mut Text, model: &ValidModel, task: u32) -> Result<(), NoMemory>
     requires { task < length model.now.tasks }
     ensures ok { OnOk result (text.new ≡ text.old ++ (task_at model.now task).name) }
@@ -26,7 +31,9 @@ pub fn put_task_name(text: &mut Text, model: &ValidModel, task: u32) -> Result<(
     put_name(text, &model.task(task).name)
 }
 
-/// Puts the name of a chain behind a text. `NoMemory` leaves the text as it was.
+/// Appends the name of a chain to a text.
+///
+/// `NoMemory` comes where there is no memory for the longer text; it leaves the text as it was.
 pub fn put_chain_name(text: &mut Text, model: &ValidModel, chain: u32) -> Result<(), NoMemory>
     requires { chain < length model.now.chains }
     ensures ok { OnOk result (text.new ≡ text.old ++ (chain_at model.now chain).name) }
@@ -35,7 +42,8 @@ pub fn put_chain_name(text: &mut Text, model: &ValidModel, chain: u32) -> Result
     put_name(text, &model.chain(chain).name)
 }
 
-/// Puts the job of a group of a chain behind a text. `NoMemory` leaves the text with a beginning of the words after it.
+/// Appends the job of the group at a place of a chain to a text, as ` TASK:JOB`. After `NoMemory`
+/// the text ends with a prefix of the words.
 fn put_job(
     text: &mut Text,
     model: &ValidModel,
@@ -47,7 +55,8 @@ fn put_job(
     requires jobs { length jobs.now ≡ length (groups_at model.now chain) }
     requires place { place < length (groups_at model.now chain) }
     ensures ok { OnOk result (text.new ≡ text.old ++ job_words model.now chain jobs.now place) }
-    ensures err { OnErr result (PutsPart text.old text.new (job_words model.now chain jobs.now place)) }
+    ensures err { OnErr result
+        (PutsPart text.old text.new (job_words model.now chain jobs.now place)) }
 {
     text.put(b" ")?;
     put_task_name(text, model, model.group(chain, place).task)?;
@@ -55,8 +64,10 @@ fn put_job(
     text.put_number(jobs[place as usize])
 }
 
-/// Puts the jobs of a chain behind a text, one for each group. `NoMemory` leaves the text with a beginning of the words
-/// after it.
+/// Appends the jobs of a chain to a text, one for each group in order, each as ` TASK:JOB`.
+///
+/// `NoMemory` comes where there is no memory for the longer text. After `NoMemory` the text ends
+/// with a prefix of the words.
 pub fn put_jobs(
     text: &mut Text,
     model: &ValidModel,
@@ -74,7 +85,7 @@ pub fn put_jobs(
     Ok(())
 }
 
-/// The word of a kind of length.
+/// Returns the word for a kind of length: `reaction`, `age` or `reduced`.
 pub fn kind_word(kind: LengthKind) -> &'static [u8]
     ensures { result.now ≡ kind_word kind }
 {

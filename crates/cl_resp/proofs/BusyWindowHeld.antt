@@ -10,12 +10,13 @@ use Rattle.cl_runs.specs.Run.{Run, jobs_of, executed}
 use Rattle.cl_runs.specs.Held.{IsHeldIn}
 use Rattle.cl_runs.specs.Legal.{IsHighestPending, IsLegal}
 use Rattle.cl_runs.specs.Moments.{Starts, HasStartedBefore}
+use Rattle.cl_runs.specs.Priorities.{is_below}
 use Rattle.cl_runs.proofs.Holding.{whole_finishes, start_pending}
 use Rattle.cl_runs.proofs.LegalFacts.{place_of_task, job_times}
 use Rattle.cl_runs.proofs.MomentFacts.{has_started}
 use Rattle.cl_runs.proofs.StartsFinishes.{finish_reached}
 use Rattle.cl_runs.proofs.ZippedLists.{zip_at}
-use Rattle.cl_resp.specs.Question.{is_below, hold_of, longest_hold, lower_block_of}
+use Rattle.cl_resp.specs.Question.{hold_of, longest_hold, lower_block_of}
 use Rattle.cl_resp.proofs.BusyWindowTicks.{above_core, above_priority, RunsLower, IsWaiting}
 use Rattle.cl_resp.proofs.BusyWindowWork.{released_is}
 use Rattle.cl_model.proofs.Greatest.{greatest_least, greatest_filtered}

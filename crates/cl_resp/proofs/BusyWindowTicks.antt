@@ -5,10 +5,10 @@ use Rattle.cl_runs.specs.TaskTiming.{System, timing_at, IsSound}
 use Rattle.cl_runs.specs.Run.{Run, jobs_of, entry_at, executed}
 use Rattle.cl_runs.specs.Legal.{released, IsHighestPending, IsNonePending, IsLegal, IsScheduled}
 use Rattle.cl_runs.specs.Moments.{IsHeldAt}
+use Rattle.cl_runs.specs.Priorities.{is_above}
 use Rattle.cl_runs.proofs.Climbing.{climb_mono}
 use Rattle.cl_runs.proofs.Executed.{executed_zero, executed_climbs, executed_grew, executed_more}
 use Rattle.cl_runs.proofs.LegalFacts.{core_ticks, executed_released, running_pending}
-use Rattle.cl_resp.specs.Question.{is_above}
 use Rattle.cl_resp.proofs.BusyWindowTotals.{total, total_rises, total_grows}
 use Rattle.cl_resp.proofs.BusyWindowStart.{HasLess}
 use Rattle.cl_resp.proofs.BusyWindowWork.{released_before, released_is}

@@ -1,4 +1,3 @@
-pub mod FirstFound
 pub mod StimulusKinds
 pub mod Windows
 pub mod WhatIsKept

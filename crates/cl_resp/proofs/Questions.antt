@@ -20,13 +20,14 @@ use Rattle.cl_model.proofs.ValidTasks.{kind_in_range, early_enough, released_bef
 use Rattle.cl_model.proofs.CoreTasks.{below_known, few_tasks, few_distances}
 use Rattle.cl_runs.specs.TaskTiming.{TimeRange, Timing, System, timing_at}
 use Rattle.cl_runs.specs.SystemOf.{range_of, timing_of, system_of}
+use Rattle.cl_runs.specs.Priorities.{is_above}
 use Rattle.cl_runs.proofs.ModelSystem.{timing_is}
 use Rattle.cl_stim.specs.AnyStimulus.{as_stimulus}
 use Rattle.cl_resp.specs.declared.question.Block.{Block}
 use Rattle.cl_resp.specs.declared.question.Block.TheVariants.{OfLower, WithOwn}
 use Rattle.cl_resp.specs.declared.question.Above.{Above}
 use Rattle.cl_resp.specs.declared.question.Question.{Question}
-use Rattle.cl_resp.specs.Question.{greatest_execution, is_above, hold_of, longest_hold, block_of, lower_block_of, taken_by, question_of, tight_question_of, either_question, block_by, may_hold_beside, IsAboveInRange, IsQuestionInRange}
+use Rattle.cl_resp.specs.Question.{greatest_execution, hold_of, longest_hold, block_of, lower_block_of, taken_by, question_of, tight_question_of, either_question, block_by, may_hold_beside, IsAboveInRange, IsQuestionInRange}
 use Rattle.cl_resp.proofs.StimulusKinds.{kind_of-as_stimulus, least_few}
 use Rattle.cl_model.proofs.ListFacts.{maps_agree}
 use Rattle.cl_resp.proofs.Filters.{by_number, filter-map, filter-both, fewer}

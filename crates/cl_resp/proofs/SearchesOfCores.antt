@@ -7,9 +7,9 @@ use Rattle.cl_model.specs.declared.task.TaskDef.{TaskDef}
 use Rattle.cl_model.specs.ByNumber.{task_at, core_of}
 use Rattle.cl_runs.specs.SystemOf.{timing_of, system_of}
 use Rattle.cl_runs.specs.TaskTiming.{timing_at}
+use Rattle.cl_runs.specs.Priorities.{is_above}
 use Rattle.cl_runs.proofs.ModelSystem.{timing_is}
 use Rattle.cl_resp.specs.declared.question.Question.{Question}
-use Rattle.cl_resp.specs.Question.{is_above}
 use Rattle.cl_resp.specs.Response.{Response, demand, busy_window, response_to, NoneServesBelow}
 use Rattle.cl_resp.proofs.SettledTasks.{answer_of, answer_parts}
 use Rattle.cl_resp.proofs.Windows.{window_is_least, no_window_holds, demand_some}

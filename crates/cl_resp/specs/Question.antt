@@ -1,10 +1,11 @@
 -- The question of a task: what its response depends on.
 -- Source: Audsley et al. 1993, with release jitter, and with blocking by non-preemptive regions.
-use Rattle.std.specs.Prelude.{◌≡◌, ℕ, ◌<◌, ◌≤◌, ◌*◌, ◌+◌, ◌-◌, Bool, ◌==◌, ◌&&◌, cond, nat_le, nat_lt, map, filter, length, sum_by, All}
+use Rattle.std.specs.Prelude.{◌≡◌, ℕ, ◌<◌, ◌≤◌, ◌*◌, ◌+◌, ◌-◌, Bool, cond, nat_le, nat_lt, map, filter, length, sum_by, All}
 use Rattle.cl_model.specs.declared.limits.TheConstants.{MOST_TICKS, MOST_RUNNABLES, MOST_DISTANCES, MOST_TASKS_OF_CORE}
 use Rattle.cl_model.specs.Timing.{least_distance, greatest_jitter}
 use Rattle.cl_model.specs.Holds.{greatest_by}
 use Rattle.cl_runs.specs.TaskTiming.{TimeRange, Timing, System}
+use Rattle.cl_runs.specs.Priorities.{is_above, may_block, is_below}
 use Rattle.cl_stim.specs.AnyStimulus.{kind_of, as_stimulus}
 use Rattle.cl_resp.specs.declared.question.Above.{Above}
 use Rattle.cl_resp.specs.declared.question.Block.{Block}
@@ -14,15 +15,6 @@ use Rattle.cl_resp.specs.declared.question.Question.{Question}
 -- the greatest execution time of a job of a task
 unfoldable pub greatest_execution : Timing → ℕ
 greatest_execution task = sum_by (λ (range : TimeRange). range.greatest) task.ranges
-
--- whether the other task has a higher priority on the core of the task
-abbrev pub is_above : Timing → (other : Timing) → Bool
-is_above task other = (other.core == task.core) && nat_lt task.priority other.priority
-
--- whether the other task may hold the core of the task while that waits: it is the task itself, or one of lower
--- priority
-abbrev pub may_block : Timing → (other : Timing) → Bool
-may_block task other = (other.core == task.core) && nat_le other.priority task.priority
 
 -- how long a runnable that has begun may hold its core: its greatest time without its first tick, where it is whole
 abbrev pub hold_of : TimeRange → ℕ
@@ -35,10 +27,6 @@ longest_hold task = greatest_by hold_of task.ranges
 -- how long a runnable of the task itself, or of one of lower priority on its core, may
 unfoldable pub block_of : System → Timing → ℕ
 block_of system task = greatest_by longest_hold (filter (may_block task) system.tasks)
-
--- whether the other task has a lower priority on the core of the task
-abbrev pub is_below : Timing → (other : Timing) → Bool
-is_below task other = (other.core == task.core) && nat_lt other.priority task.priority
 
 -- how long a runnable of a task of lower priority on its core may
 unfoldable pub lower_block_of : System → Timing → ℕ

@@ -14,7 +14,7 @@ use cl_stim::{Arrivals, MOST_WIDTH};
 use cl_time::Steps;
 use std::sync::ledger::Ledger;
 
-/// What a task of higher priority takes of a window of `width` ticks at most.
+/// Computes how many ticks a task of higher priority takes at most of a window of `width` ticks.
 pub(crate) fn taken(above: &Above, width: u64) -> u128
     requires width { width ≤ MOST_WIDTH }
     requires time { above.now.time ≤ MOST_RUNNABLES * MOST_TICKS }
@@ -24,7 +24,9 @@ pub(crate) fn taken(above: &Above, width: u64) -> u128
     u128::from(above.stimulus.most(width)) * u128::from(above.time)
 }
 
-/// The most ticks that a job of the task and what goes before it need of a window of `width` ticks.
+/// Computes the most ticks that a job of the task and what goes before it need in a window of
+/// `width` ticks: the block, the execution time of the task, and what the tasks above take. Takes
+/// no memory.
 pub fn demand(question: &Question, width: u64) -> u128
     requires in_range { IsQuestionInRange question.now }
     requires width { width ≤ MOST_WIDTH }
@@ -37,8 +39,8 @@ pub fn demand(question: &Question, width: u64) -> u128
     needed
 }
 
-/// The least window that holds its own demand, where there is one up to the end. It starts at a width below which none
-/// does, and goes on to what is needed, as long as that is more.
+/// Finds the least window that holds its own demand, up to the deadline less the jitter. The search
+/// starts at a width below which none does, and goes on to the demand as long as that is greater.
 fn window(question: &Question, start: u64) -> Option<u64>
     requires in_range { IsQuestionInRange question.now }
     requires start { NoneServesBelow question.now start }
@@ -57,9 +59,12 @@ fn window(question: &Question, start: u64) -> Option<u64>
     None
 }
 
-/// The window and the response of a task, or that it is late: that no window up to its deadline holds its own demand.
-/// Each job of a task of which the question asks enough that arrives a response or more before the end of a legal run
-/// finishes within the response of its arrival. It takes no memory, and counts one analysing step, whatever it answers.
+/// Finds the window and the response of a task. `Late` comes exactly where no window, from 1 tick
+/// up to the deadline less the jitter, holds its own demand.
+///
+/// Each job of a task of a sound system of which the question asks enough finishes at most the
+/// response after its arrival, in every legal run that lasts until then. It takes no memory, and
+/// counts one analysing step, whatever it answers.
 pub fn respond<L: Ledger>(question: &Question, steps: &mut Steps<L>) -> Result<Settled, Late>
     requires { IsQuestionInRange question.now }
     ensures response { MatchResult result
@@ -72,8 +77,9 @@ pub fn respond<L: Ledger>(question: &Question, steps: &mut Steps<L>) -> Result<S
     respond_from(question, anew, steps)
 }
 
-/// What `respond` answers, by a search that starts at a width, where no lesser one holds its own demand. It takes no
-/// memory, and counts one analysing step.
+/// Answers as `respond`, by a search that starts at the width `start`, below which none holds its
+/// own demand. `Late` comes exactly where it does there. It takes no memory, and counts one
+/// analysing step, whatever it answers.
 pub fn respond_from<L: Ledger>(
     question: &Question,
     start: u64,
@@ -91,7 +97,7 @@ pub fn respond_from<L: Ledger>(
     settle_from(question, start)
 }
 
-/// What `respond` answers, without a step: for one who asks another question of a task whose step is counted.
+/// As `respond`, but counts no step: for a second question about a task.
 pub fn settle(question: &Question) -> Result<Settled, Late>
     requires { IsQuestionInRange question.now }
     ensures response { MatchResult result
@@ -103,7 +109,8 @@ pub fn settle(question: &Question) -> Result<Settled, Late>
     settle_from(question, anew)
 }
 
-/// The answer to a question, by a search that starts at a width, where no lesser one holds its own demand.
+/// Answers a question, by a search that starts at the width `start`, below which none holds its own
+/// demand.
 fn settle_from(question: &Question, start: u64) -> Result<Settled, Late>
     requires in_range { IsQuestionInRange question.now }
     requires start { NoneServesBelow question.now start }

@@ -4,7 +4,8 @@ ghost use Rattle.cl_model.specs.ByNumber.{task_at};
 ghost use Rattle.cl_model.specs.Validity.{IsValid};
 ghost use Rattle.cl_runs.specs.SystemOf.{timing_of, system_of};
 ghost use Rattle.cl_runs.specs.TaskTiming.{timing_at};
-ghost use Rattle.cl_resp.specs.Question.{is_above, may_hold_beside, block_by, taken_by, question_of, tight_question_of, either_question, IsQuestionInRange};
+ghost use Rattle.cl_runs.specs.Priorities.{is_above};
+ghost use Rattle.cl_resp.specs.Question.{may_hold_beside, block_by, taken_by, question_of, tight_question_of, either_question, IsQuestionInRange};
 
 use crate::question::{Above, Block, Question};
 use cl_model::{List, ValidModel};
@@ -12,7 +13,7 @@ use cl_stim::AnyStimulus;
 use cl_time::NoMemory;
 use std::alloc::Global;
 
-/// Whether a task has a higher priority than this.
+/// Checks whether a task has a higher priority than this one.
 fn is_higher(model: &ValidModel, task: u32, priority: u64) -> bool
     requires { task < length model.now.tasks }
     ensures { IsTrue result ↔ priority < (task_at model.now task).priority }
@@ -20,7 +21,8 @@ fn is_higher(model: &ValidModel, task: u32, priority: u64) -> bool
     model.task(task).priority > priority
 }
 
-/// What the tasks of higher priority on the core of a task of this priority take, in file order.
+/// Stimulus and execution time of each task above this one on its core, in file order. `priority`
+/// is the priority of this task.
 fn all_above(
     alloc: Global,
     model: &ValidModel,
@@ -45,8 +47,9 @@ fn all_above(
     Ok(above)
 }
 
-/// Whether a task may hold its core while one of this priority waits there: it has a lower priority, or, where the
-/// waiting task counts too, it is that one.
+/// Checks whether a task may hold its core while a task of this priority waits there: if it has a
+/// lower priority or, where the block counts a task's own runnables, the same priority, so that it
+/// is the waiting task itself.
 fn may_hold(model: &ValidModel, other: u32, priority: u64, blocking: Block) -> bool
     requires { other < length model.now.tasks }
     ensures { result ≡ may_hold_beside blocking (task_at model.now other).priority priority }
@@ -58,8 +61,9 @@ fn may_hold(model: &ValidModel, other: u32, priority: u64, blocking: Block) -> b
     }
 }
 
-/// How long a whole runnable that has begun may hold the core of a task: one of a task of lower priority there, or,
-/// where its own count, of the task itself, which has this priority.
+/// Finds how long a whole runnable that has begun may hold the core of a task: a runnable of a task
+/// of lower priority there or, where the block counts a task's own runnables, of the task itself.
+/// `priority` is the priority of the task. The result is 0 where there is no such runnable.
 #[tactic(auto, using(cl_model::proofs::Greatest::greatest_more))]
 fn block_of(model: &ValidModel, task: u32, priority: u64, blocking: Block) -> u64
     requires task { task < length model.now.tasks }
@@ -75,8 +79,10 @@ fn block_of(model: &ValidModel, task: u32, priority: u64, blocking: Block) -> u6
     block
 }
 
-/// The question of a task, given by its number: that of `ask`, whose block counts the task's own whole runnables, or the
-/// tight one, by which whole runnables block it. The only error is that there is no memory for the tasks above.
+/// Puts together a question of a task, given by its number: for `Block::WithOwn` the question of
+/// `ask`, whose block counts the task's own whole runnables too, and for `Block::OfLower` the tight
+/// question of `ask_tight`, whose block doesn't. `NoMemory` comes where there is no memory for the
+/// list of the tasks above; it leaves nothing.
 pub fn ask_either(
     alloc: Global,
     model: &ValidModel,
@@ -98,9 +104,10 @@ pub fn ask_either(
     })
 }
 
-/// The question of a task, given by its number. Whole runnables of its core block it, but for those of higher priority,
-/// and above it stand the tasks of higher priority on its core, in file order. The only error is that there is no
-/// memory for those.
+/// Puts together the question of a task, given by its number. Whole runnables of the task and of
+/// tasks of lower priority on its core block it, and above it stand the tasks of higher priority on
+/// its core, in file order. `NoMemory` comes where there is no memory for the list of these; it
+/// leaves nothing.
 pub fn ask(alloc: Global, model: &ValidModel, task: u32) -> Result<Question, NoMemory>
     requires { task < length model.now.tasks }
     ensures question { IfOk result (λ question. question
@@ -110,9 +117,11 @@ pub fn ask(alloc: Global, model: &ValidModel, task: u32) -> Result<Question, NoM
     ask_either(alloc, model, task, Block::WithOwn)
 }
 
-/// The tight question of a task, given by its number: that of `ask`, but that its block leaves out the task's own whole
-/// runnables. Its response holds as well, and is no later: the earlier jobs of a settled task have finished by the
-/// moment from which the window of a job counts. The only error is that there is no memory for the tasks above.
+/// Puts together the tight question of a task, given by its number: that of `ask`, but for the
+/// block, which leaves out the task's own whole runnables. Its response holds as well and is no
+/// later: the earlier jobs of a settled task have finished by the moment from which the window of a
+/// job counts. `NoMemory` comes where there is no memory for the list of the tasks above; it leaves
+/// nothing.
 pub fn ask_tight(alloc: Global, model: &ValidModel, task: u32) -> Result<Question, NoMemory>
     requires { task < length model.now.tasks }
     ensures question { IfOk result (λ question. question

@@ -1,4 +1,4 @@
-//! Responses: how long after its arrival a job of a task has finished at the latest.
+//! Responses: how long after its arrival a job of a task finishes at the latest.
 #![tactic(auto)]
 
 mod answering;

@@ -2,21 +2,22 @@
 use cl_model::List;
 use cl_stim::AnyStimulus;
 
-/// What a task of higher priority takes of their core.
+/// A task of higher priority on the same core, as far as the response of a task depends on it.
 #[derive(Debug, PartialEq, Eq, Drop)]
 pub struct Above {
-    /// When its jobs arrive.
+    /// The pattern of its arrivals.
     pub stimulus: AnyStimulus,
     /// The greatest execution time of a job.
     pub time: u64,
 }
 
-/// Which whole runnables that have begun block a task in its question, besides none of higher priority.
+/// Which whole runnables, once begun, block a task in its question. Those of higher priority never
+/// do.
 #[derive(Clone, Copy, Debug, PartialEq, Eq)]
 pub enum Block {
-    /// Those of tasks of lower priority on its core: the tight question.
+    /// Those of tasks of lower priority on its core, as in the tight question.
     OfLower,
-    /// These, and those of the task itself.
+    /// Those of tasks of lower priority on its core, and those of the task itself.
     WithOwn,
 }
 
@@ -25,8 +26,8 @@ pub enum Block {
 pub struct Question {
     /// The greatest execution time of a job of the task.
     pub time: u64,
-    /// How long a whole runnable that has begun may hold the core: one of a task of lower priority, and in a question
-    /// that isn't tight one of the task itself, too.
+    /// How long a whole runnable that has begun may hold the core: one of a task of lower priority
+    /// or, in a question that isn't tight, one of the task itself. 0 where there is none.
     pub block: u64,
     /// How long after its arrival a job is released at most.
     pub jitter: u64,

@@ -4,8 +4,9 @@ ghost use Rattle.std.specs.List.{range_with_len};
 ghost use Rattle.cl_model.specs.Validity.{IsValid};
 ghost use Rattle.cl_runs.specs.SystemOf.{system_of};
 ghost use Rattle.cl_runs.specs.TaskTiming.{timing_at};
+ghost use Rattle.cl_runs.specs.Priorities.{is_above};
 ghost use Rattle.cl_resp.specs.Promises.{AnswersFor};
-ghost use Rattle.cl_resp.specs.Question.{is_above, either_question, IsQuestionInRange};
+ghost use Rattle.cl_resp.specs.Question.{either_question, IsQuestionInRange};
 ghost use Rattle.cl_resp.specs.Reached.{HasReached};
 ghost use Rattle.cl_resp.specs.Response.{response_to, NoneServesBelow};
 
@@ -17,8 +18,9 @@ use cl_time::{NoMemory, Steps};
 use std::alloc::Global;
 use std::sync::ledger::Ledger;
 
-/// How far the search for the window of a task came: no lesser width holds its demand, nor that of a task below it on
-/// its core that is blocked long enough.
+/// How far the search for the window of a task came: no lesser width holds its demand, nor the
+/// demand of a task below it on its core whose block and execution time add up to at least the
+/// block of this task.
 #[derive(Clone, Copy, Debug, PartialEq, Eq)]
 pub struct Reached {
     task: u32,
@@ -26,9 +28,12 @@ pub struct Reached {
     width: u64,
 }
 
-/// What `respond` answers to a question of a task of a model, which is tight or has its own runnables in its block. It
-/// begins where the last search came to, where that was for a task above it on its core, and leaves how far this one
-/// came. So the tasks of a core are best asked from the top down. It takes no memory, and counts one analysing step.
+/// Answers as `respond`, to the question or the tight question of a task of a model. The search
+/// begins at the width that the last one reached, if that was for a task above this one on its
+/// core, with a block of at most the block and the execution time of this one, and else anew.
+/// `last` then says how far this search came. So the tasks of a core are best asked from the top
+/// down. `Late` comes exactly where no window up to the deadline less the jitter holds its own
+/// demand. It takes no memory, and counts one analysing step, whatever it answers.
 pub fn respond_below<L: Ledger>(
     model: &ValidModel,
     task: u32,
@@ -61,10 +66,12 @@ pub fn respond_below<L: Ledger>(
     answer
 }
 
-/// The numbers of all tasks by their cores, and from the top down on each. The only error is that there is no memory
-/// for them.
+/// Lists the numbers of all tasks, core by core, and on each core from the highest priority to the
+/// lowest. `NoMemory` comes where there is no memory for the numbers or for the keys by which they
+/// are sorted; it leaves nothing.
 pub fn from_the_top(alloc: Global, model: &ValidModel) -> Result<Vec<u32>, NoMemory>
-    ensures { IfOk result (λ order. IsPermutation (range_with_len 0 (length model.now.tasks)) order.items) }
+    ensures { IfOk result
+        (λ order. IsPermutation (range_with_len 0 (length model.now.tasks)) order.items) }
 {
     let mut keyed = Vec::new(alloc);
     for task in 0..model.tasks() {
@@ -75,7 +82,7 @@ pub fn from_the_top(alloc: Global, model: &ValidModel) -> Result<Vec<u32>, NoMem
     tasks_of(alloc, keyed.as_slice())
 }
 
-/// The tasks that are keyed, in order.
+/// Takes the task numbers from keyed tasks, in order.
 fn tasks_of(alloc: Global, keyed: &[(u32, u64, u32)]) -> Result<Vec<u32>, NoMemory>
     ensures { IfOk result (λ tasks. tasks.items ≡ map (λ keyed. keyed.2) keyed.now) }
 {
@@ -83,7 +90,8 @@ fn tasks_of(alloc: Global, keyed: &[(u32, u64, u32)]) -> Result<Vec<u32>, NoMemo
     Ok(tasks)
 }
 
-/// Where the search for the window of a task may begin.
+/// Finds the width at which the search for the window of a task may begin: the one that the last
+/// search reached, where that serves this task too, and else 0.
 fn start_of(
     model: &ValidModel,
     task: u32,
@@ -107,7 +115,7 @@ fn start_of(
     last.width
 }
 
-/// Whether another task has a higher priority on the core of a task.
+/// Checks whether another task has a higher priority than a task, on the same core.
 fn is_above(model: &ValidModel, task: u32, other: u32) -> bool
     requires task { task < length model.now.tasks }
     requires other { other < length model.now.tasks }
@@ -119,7 +127,8 @@ fn is_above(model: &ValidModel, task: u32, other: u32) -> bool
     model.core_of(other) == model.core_of(task) && priority < model.task(other).priority
 }
 
-/// The least width that may hold the demand of a question, by its answer.
+/// Finds the width below which none holds the demand of a question, by its answer: the window, or
+/// for a late task the first width past the deadline less the jitter.
 fn width_reached(question: &Question, answer: &Result<Settled, Late>) -> u64
     requires in_range { IsQuestionInRange question.now }
     requires response { MatchResult answer.now

@@ -1,4 +1,5 @@
-//! What the tasks above take of a window that only rises. Times are in ticks.
+//! The demand of windows that only grow, without counting anew what stays the same. Times are in
+//! ticks.
 ghost use Rattle.std.specs.Prelude.{◌≡◌, ℕ, ◌<◌, ◌≤◌, List, MatchOption};
 ghost use Rattle.cl_resp.specs.declared.question.Above.{Above};
 ghost use Rattle.cl_resp.specs.Question.{IsQuestionInRange};
@@ -10,8 +11,8 @@ use crate::question::Question;
 use cl_model::{MOST_TASKS_OF_CORE, MOST_TICKS};
 use cl_stim::Arrivals;
 
-/// What each task above takes of a window, and the widest window of which it is known to take just that: none is known
-/// at first, since each window has a tick or more.
+/// How many ticks each task above takes of a window, and the widest window of which it is known to
+/// take just as many. At first this is 0 for each, since each window has a tick or more.
 #[derive(Drop)]
 pub(crate) struct Rising {
     ticks: [u64; MOST_TASKS_OF_CORE],
@@ -20,7 +21,8 @@ pub(crate) struct Rising {
 
 impl Rising {
     pub(crate) fn new() -> Rising
-        ensures { (above : List Above) (from : ℕ) → 1 ≤ from → AreTaken above result.ticks result.until from }
+        ensures { (above : List Above) (from : ℕ) → 1 ≤ from
+            → AreTaken above result.ticks result.until from }
     {
         Rising {
             ticks: [0; MOST_TASKS_OF_CORE],
@@ -28,8 +30,9 @@ impl Rising {
         }
     }
 
-    /// The most ticks that a job of the task and what goes before it need of a window, or that they are more than the
-    /// end. Only what more is released in it is counted anew.
+    /// Computes the most ticks that a job of the task and what goes before it need in a window of
+    /// `width` ticks. `None` comes only where they are more than `end`. A task above is counted
+    /// anew only where the window has outgrown the one up to which its ticks are known.
     pub(crate) fn demand(&mut self, question: &Question, width: u64, end: u64) -> Option<u64>
         requires in_range { IsQuestionInRange question.now }
         requires width { width ≤ end }

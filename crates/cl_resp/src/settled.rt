@@ -3,7 +3,8 @@ ghost use Rattle.std.specs.Prelude.{◌≡◌};
 
 use std::marker::Model;
 
-/// The window and the response of a task that always finishes by its deadline. Only `respond` makes one.
+/// The window and the response of a settled task, whose jobs always finish by its deadline. Only
+/// `respond`, `respond_from`, `respond_below` and `settle` make one.
 #[derive(Clone, Copy, Debug, PartialEq, Eq)]
 pub struct Settled {
     pub(crate) window: u64,
@@ -21,14 +22,14 @@ impl Model for Settled {
 }
 
 impl Settled {
-    /// The least window of ticks that holds its own demand.
+    /// Returns the least window that holds its own demand, in ticks.
     pub fn window(&self) -> u64
         ensures { result ≡ self.now.window }
     {
         self.window
     }
 
-    /// How long after its arrival a job has finished at the latest.
+    /// Returns how long after its arrival a job finishes at the latest, in ticks.
     pub fn response(&self) -> u64
         ensures { result ≡ self.now.response }
     {
@@ -36,6 +37,7 @@ impl Settled {
     }
 }
 
-/// No window up to the deadline holds its own demand.
+/// The answer for a late task: no window, from 1 tick up to the deadline less the jitter, holds its
+/// own demand.
 #[derive(Clone, Copy, Debug, PartialEq, Eq)]
 pub struct Late;

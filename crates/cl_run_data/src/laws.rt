@@ -3,20 +3,25 @@ ghost use Rattle.std.specs.Prelude.{◌≡◌, ℕ, suc, Option, None, ◌<◌, 
 ghost use Rattle.cl_run_data.specs.declared.stretches.Stretch.{Stretch};
 ghost use Rattle.cl_run_data.specs.Stretches.{AreStretchesOf, LastsFrom};
 
-/// A list of entries has one list of longest stretches.
+/// The longest stretches of a list of entries are unique.
 pub fn stretches_are_unique()
     ensures { (entries : List (Option ℕ)) (one other : List Stretch)
         → AreStretchesOf entries one → AreStretchesOf entries other → one ≡ other }
 {}
 
-/// In each tick from the start of a stretch to its end the entry is that of the stretch, it lasts a tick at least, and
-/// the last stretch ends with the entries.
+/// In each tick from the start of a longest stretch to its end the entry is that of the stretch.
+/// Each stretch lasts at least one tick, and the last one ends where the entries end.
 pub fn stretches_hold_their_entries()
-    ensures entry { (entries : List (Option ℕ)) (stretches : List Stretch) → AreStretchesOf entries stretches
-        → (place start end : ℕ) → LastsFrom stretches place start end → (tick : ℕ) (d : Stretch) → start ≤ tick → tick < end
+    ensures entry { (entries : List (Option ℕ)) (stretches : List Stretch)
+        → AreStretchesOf entries stretches
+        → (place start end : ℕ) → LastsFrom stretches place start end → (tick : ℕ) (d : Stretch)
+        → start ≤ tick → tick < end
         → slice_index_or entries tick None ≡ (slice_index_or stretches place d).who }
-    ensures some { (entries : List (Option ℕ)) (stretches : List Stretch) → AreStretchesOf entries stretches
+    ensures some { (entries : List (Option ℕ)) (stretches : List Stretch)
+        → AreStretchesOf entries stretches
         → (place start end : ℕ) → LastsFrom stretches place start end → start < end }
-    ensures last { (entries : List (Option ℕ)) (stretches : List Stretch) → AreStretchesOf entries stretches
-        → (place start end : ℕ) → LastsFrom stretches place start end → suc place ≡ length stretches → end ≡ length entries }
+    ensures last { (entries : List (Option ℕ)) (stretches : List Stretch)
+        → AreStretchesOf entries stretches
+        → (place start end : ℕ) → LastsFrom stretches place start end → suc place ≡ length stretches
+        → end ≡ length entries }
 {}

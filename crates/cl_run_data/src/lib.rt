@@ -1,4 +1,4 @@
-//! Runs as data: a job table, and the entries of each core kept as longest stretches.
+//! Runs as data: a job table, and the entries of each core, kept as longest stretches.
 #![tactic(auto)]
 
 pub mod laws;

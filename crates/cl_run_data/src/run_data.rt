@@ -9,8 +9,8 @@ use cl_time::NoMemory;
 use std::alloc::Global;
 use std::marker::Model;
 
-/// A job table and, for each core, a list of entries: in each tick the task that runs, or none where the core idles.
-/// A long time of one entry costs no more than a short one.
+/// A job table and, for each core, a list of entries: for each tick the task that runs, or none
+/// where the core idles. A long stretch of one entry takes no more time or memory than a short one.
 #[derive(Drop)]
 pub struct RunData {
     table: JobTable,
@@ -26,9 +26,11 @@ impl Model for RunData {
 }
 
 impl RunData {
-    /// A run of a table with an empty list of entries for each core.
+    /// Creates a run with a job table and an empty list of entries for each core. `NoMemory` comes
+    /// where there is no memory for the lists; then the table is dropped.
     pub fn start(alloc: Global, table: JobTable, cores: u32) -> Result<RunData, NoMemory>
-        ensures { IfOk result (λ run. run ≡ record { table = table; entries = replicate cores [] }) }
+        ensures { IfOk result
+            (λ run. run ≡ record { table = table; entries = replicate cores [] }) }
     {
         let mut lists = Vec::new(alloc);
         for _ in 0..cores {
@@ -40,7 +42,7 @@ impl RunData {
         })
     }
 
-    /// Appends an entry for so many ticks to the list of a core. Where there is no memory for it, the run stays as it
+    /// Appends an entry for `ticks` ticks to the list of a core. After `NoMemory` the run is as it
     /// was.
     #[inline(always)]
     pub fn push(&mut self, core: u32, who: Option<u32>, ticks: u64) -> Result<(), NoMemory>
@@ -60,14 +62,14 @@ impl RunData {
         Ok(())
     }
 
-    /// The job table.
+    /// Returns the job table.
     pub fn table(&self) -> &JobTable
         ensures { result.now ≡ self.now.table }
     {
         &self.table
     }
 
-    /// The number of entries of a core.
+    /// Returns the number of entries of a core.
     pub fn filled(&self, core: u32) -> u64
         requires { core < length self.now.entries }
         ensures { result ≡ length (core_entries self.now core) }
@@ -75,7 +77,7 @@ impl RunData {
         self.cores[core as usize].filled()
     }
 
-    /// The entry of a core at a tick. It takes a time logarithmic in the number of stretches.
+    /// Returns the entry of a core at a tick. Takes time logarithmic in the number of stretches.
     pub fn entry(&self, core: u32, tick: u64) -> Option<u32>
         requires is_core { core < length self.now.entries }
         requires is_tick { tick < length (core_entries self.now core) }
@@ -84,7 +86,7 @@ impl RunData {
         self.cores[core as usize].entry(tick)
     }
 
-    /// The last entry of a core. It takes a constant time.
+    /// Returns the last entry of a core. Takes constant time.
     pub fn last_entry(&self, core: u32) -> Option<u32>
         requires is_core { core < length self.now.entries }
         requires some { 0 < length (core_entries self.now core) }
@@ -93,8 +95,9 @@ impl RunData {
         self.cores[core as usize].last()
     }
 
-    /// The end of the longest stretch of one entry of a core that begins at a tick. It takes a time logarithmic in
-    /// the number of stretches.
+    /// Returns the tick up to which a core keeps the entry that it has at `tick`: the first later
+    /// tick with another entry, or the number of its entries. Takes time logarithmic in the number
+    /// of stretches.
     pub fn stretch_end(&self, core: u32, tick: u64) -> u64
         requires is_core { core < length self.now.entries }
         requires is_tick { tick < length (core_entries self.now core) }
@@ -103,8 +106,8 @@ impl RunData {
         self.cores[core as usize].stretch_end(tick)
     }
 
-    /// The longest stretches of one entry of a core, in order: each ends where the next begins. Going over them takes a
-    /// constant time for each.
+    /// Returns the longest stretches of a core, in order: the first begins at tick 0, and each
+    /// other one where the one before it ends. Going over them takes constant time for each.
     pub fn stretches(&self, core: u32) -> &[Stretch]
         requires { core < length self.now.entries }
         ensures { AreStretchesOf (core_entries self.now core) result.now }

@@ -1,4 +1,5 @@
-//! The entries of one core, kept as longest stretches of one entry. A long time of one entry costs one stretch.
+//! The entries of one core, kept as longest stretches of one entry. A long stretch takes no more
+//! memory than a short one.
 ghost use Rattle.std.specs.Prelude.{◌≡◌, ◌+◌, ◌-◌, ◌^◌, ◌<◌, [], ◌++◌, length, replicate, slice_index_or, OnOk, OnErr};
 ghost use Rattle.cl_run_data.specs.Stretches.{entries_from, AreLongest, AreStretchesOf, IsStretchEnd};
 ghost use Rattle.cl_run_data.specs.Inner.StretchPlaces.{end_from, IsStretchOf};
@@ -7,14 +8,17 @@ use cl_time::NoMemory;
 use std::alloc::Global;
 use std::marker::Model;
 
-/// A time of one entry, in ticks: it ends at `end` and begins where the stretch before it ends.
+/// A stretch of ticks with one entry. It begins where the stretch before it ends, and the first one
+/// at tick 0.
 #[derive(Clone, Copy, Debug, PartialEq, Eq)]
 pub struct Stretch {
+    /// The task that runs, or none where the core idles.
     pub who: Option<u32>,
+    /// The tick after its last one.
     pub end: u64,
 }
 
-/// A list of entries: in each tick a task, or none.
+/// A list of entries: for each tick a task, or none.
 #[derive(Drop)]
 pub struct Stretches {
     stretches: Vec<Stretch>,
@@ -32,7 +36,7 @@ impl Model for Stretches {
     ghost invariant = { λ s. AreLongest 0 s.stretches.items };
 }
 
-/// Where the stretches end.
+/// Returns where the last stretch ends, 0 where there is none.
 fn end_of(stretches: &[Stretch]) -> u64
     ensures { result ≡ end_from 0 stretches.now }
 {
@@ -44,7 +48,7 @@ fn end_of(stretches: &[Stretch]) -> u64
     }
 }
 
-/// The place of the stretch that a tick lies in.
+/// Finds the index of the stretch in which a tick lies.
 fn stretch_of(stretches: &[Stretch], tick: u64) -> usize
     requires longest { AreLongest 0 stretches.now }
     requires within { tick < end_from 0 stretches.now }
@@ -53,7 +57,8 @@ fn stretch_of(stretches: &[Stretch], tick: u64) -> usize
     stretches.partition_point(|stretch| stretch.end <= tick)
 }
 
-/// Appends entries up to `end`: a longer last stretch where it has that entry, and a further stretch otherwise.
+/// Appends entries up to `end`: extends the last stretch where it has the same entry, and appends a
+/// stretch otherwise. After `NoMemory` the stretches are as they were.
 #[inline(always)]
 fn append(stretches: &mut Vec<Stretch>, who: Option<u32>, end: u64) -> Result<(), NoMemory>
     requires longest { AreLongest 0 stretches.old.items }
@@ -61,7 +66,8 @@ fn append(stretches: &mut Vec<Stretch>, who: Option<u32>, end: u64) -> Result<()
     ensures longest { AreLongest 0 stretches.new.items }
     ensures ok { OnOk result
         (entries_from 0 stretches.new.items
-        ≡ entries_from 0 stretches.old.items ++ replicate (end - end_from 0 stretches.old.items) who) }
+        ≡ entries_from 0 stretches.old.items
+        ++ replicate (end - end_from 0 stretches.old.items) who) }
     ensures err { OnErr result (stretches.new.items ≡ stretches.old.items) }
 {
     let count = stretches.len();
@@ -74,7 +80,7 @@ fn append(stretches: &mut Vec<Stretch>, who: Option<u32>, end: u64) -> Result<()
 }
 
 impl Stretches {
-    /// No entries.
+    /// Creates an empty list. Takes no memory.
     pub fn new(alloc: Global) -> Stretches
         ensures { result ≡ [] }
     {
@@ -83,14 +89,14 @@ impl Stretches {
         }
     }
 
-    /// The number of entries.
+    /// Returns the number of entries.
     pub fn filled(&self) -> u64
         ensures { result ≡ length self.now }
     {
         end_of(self.stretches.as_slice())
     }
 
-    /// Appends so many entries. Where there is no memory for them, the list stays as it was.
+    /// Appends an entry for `ticks` ticks. After `NoMemory` the list is as it was.
     #[inline(always)]
     pub fn push(&mut self, who: Option<u32>, ticks: u64) -> Result<(), NoMemory>
         requires { length self.old + ticks < 2 ^ 64 }
@@ -104,7 +110,7 @@ impl Stretches {
         append(&mut self.stretches, who, end)
     }
 
-    /// The entry of a tick.
+    /// Returns the entry of a tick.
     pub fn entry(&self, tick: u64) -> Option<u32>
         requires { tick < length self.now }
         ensures { result ≡ slice_index_or self.now tick None }
@@ -113,7 +119,7 @@ impl Stretches {
         stretches[stretch_of(stretches, tick)].who
     }
 
-    /// The last entry.
+    /// Returns the last entry.
     pub fn last(&self) -> Option<u32>
         requires { 0 < length self.now }
         ensures { result ≡ slice_index_or self.now (length self.now - 1) None }
@@ -122,7 +128,8 @@ impl Stretches {
         stretches[stretches.len() - 1].who
     }
 
-    /// The end of the longest stretch of one entry that begins at a tick.
+    /// Returns the tick up to which the entry of `tick` stays: the first later tick with another
+    /// entry, or the number of entries.
     pub fn stretch_end(&self, tick: u64) -> u64
         requires { tick < length self.now }
         ensures { IsStretchEnd self.now tick result }
@@ -131,7 +138,7 @@ impl Stretches {
         stretches[stretch_of(stretches, tick)].end
     }
 
-    /// The stretches, in order.
+    /// Returns the longest stretches, in order.
     pub fn as_slice(&self) -> &[Stretch]
         ensures { AreStretchesOf self.now result.now }
     {

@@ -2,6 +2,7 @@ pub mod Climbing
 pub mod Executed
 pub mod Work
 pub mod FirstBelow
+pub mod FirstFound
 pub mod HeldTasks
 pub mod Scheduling
 pub mod OneRun
@@ -35,3 +36,4 @@ pub mod PatternLaws
 pub mod BurstPlaces
 pub mod BurstLaws
 pub mod ModelSystem
+pub mod TimelyTasks

@@ -59,11 +59,15 @@ pub record IsBroken (model : SystemModel) (requirement : RequirementDef) : Type 
 
 -- ---- in time
 
--- A model is in time: in every legal run, of any length, every job whose deadline lies within the run has finished by
--- then, and each requirement is kept.
+-- The deadlines of a model are met: in every legal run, of any length, every job whose deadline lies within the run has
+-- finished by then.
+abbrev pub MeetsDeadlines : SystemModel → Type 0
+MeetsDeadlines model = (run : Run) → IsLegal (system_of model) run → (task job : ℕ) → task < length model.tasks → job < length (jobs_of run task)
+    → (job_at (jobs_of run task) job).arrival + (timing_at (system_of model) task).deadline ≤ run.table.ticks
+    → (finish : ℕ) × JobFinishes (system_of model) run task job finish
+    × (finish ≤ (job_at (jobs_of run task) job).arrival + (timing_at (system_of model) task).deadline)
+
+-- A model is in time: its deadlines are met, and each requirement is kept.
 pub record IsInTime (model : SystemModel) : Type 0 where
-  pub deadlines : (run : Run) → IsLegal (system_of model) run → (task job : ℕ) → task < length model.tasks → job < length (jobs_of run task)
-      → (job_at (jobs_of run task) job).arrival + (timing_at (system_of model) task).deadline ≤ run.table.ticks
-      → (finish : ℕ) × JobFinishes (system_of model) run task job finish
-      × (finish ≤ (job_at (jobs_of run task) job).arrival + (timing_at (system_of model) task).deadline)
+  pub deadlines : MeetsDeadlines model
   pub requirements : (i : ℕ) → i < length model.requirements → IsKept model (requirement_at model i)

@@ -5,19 +5,20 @@ use cl_model::List;
 /// One job of a task.
 #[derive(Debug, Drop)]
 pub struct Job {
-    /// When it arrives.
+    /// The tick at which it arrives.
     pub arrival: u64,
-    /// When it is released, at or after its arrival.
+    /// The tick at which it is released: in a lawful table at or after its arrival.
     pub release: u64,
-    /// Its execution time of each runnable of its task, in order.
+    /// The execution time of each runnable of its task, in order.
     pub times: Times,
 }
 
 /// The jobs of each task that arrive in the first `ticks` ticks.
 #[derive(Debug, Drop)]
 pub struct JobTable {
+    /// The number of ticks.
     pub ticks: u64,
-    /// For each task, in file order, its jobs in the order of their arrivals.
+    /// For each task, in file order, its jobs: in a lawful table in the order of their arrivals.
     pub jobs: List<List<Job>>,
 }
 
@@ -25,7 +26,7 @@ impl JobTable {
     ghost use Rattle.std.specs.Prelude.{◌≡◌, ◌<◌, length};
     ghost use Rattle.cl_runs.specs.Table.{table_jobs};
 
-    /// The jobs of a task.
+    /// Returns the jobs of a task.
     pub fn jobs_of(&self, task: u32) -> &[Job]
         requires { task < length self.now.jobs }
         ensures { result.now ≡ table_jobs self.now task }

@@ -1,6 +1,8 @@
-//! What holds of every legal run of every sound system, and that valid models are sound.
+//! What holds of the legal runs of sound systems and of their job chains, and that valid models are
+//! sound.
 pub mod arrivals;
 pub mod chains;
+pub mod deadlines;
 pub mod extension;
 pub mod held;
 pub mod jobs;

@@ -1,4 +1,4 @@
-//! Runs and job chains: definitions and their laws.
+//! Runs and job chains: their definitions and laws.
 #![tactic(auto)]
 
 mod job;

@@ -6,11 +6,11 @@ use smallvec::SmallVec;
 use std::alloc::Global;
 use std::marker::Model;
 
-/// So many times are kept in the job itself, and more in a list of their own: most tasks have few runnables, and a run
-/// has many jobs.
+/// How many times are kept in the job itself. More are kept in a list of their own: most tasks have
+/// few runnables, and a run has many jobs.
 const FEW_TIMES: usize = 3;
 
-/// The execution time of each runnable of a job, in order.
+/// The execution time of each runnable of a job, in order, in ticks.
 #[derive(Debug, Drop)]
 pub struct Times {
     times: SmallVec<u64, FEW_TIMES>,
@@ -25,7 +25,7 @@ impl Model for Times {
 }
 
 impl Times {
-    /// No times. They take no memory.
+    /// Creates an empty list of times. Takes no memory.
     pub fn new(alloc: Global) -> Times
         ensures { result ≡ [] }
     {
@@ -34,7 +34,7 @@ impl Times {
         }
     }
 
-    /// Appends a time. Where there is no memory for it, the times stay as they were.
+    /// Appends a time. After `NoMemory` the times are as they were.
     #[inline(always)]
     pub fn push(&mut self, time: u64) -> Result<(), NoMemory>
         ensures ok { OnOk result (self.new ≡ self.old ++ time ∷ []) }
@@ -44,7 +44,7 @@ impl Times {
         Ok(())
     }
 
-    /// The times in order.
+    /// Returns the times in order.
     pub fn as_slice(&self) -> &[u64]
         ensures { result.now ≡ self.now }
     {

@@ -17,37 +17,45 @@ use cl_runs::{Job, JobTable};
 use cl_time::NoMemory;
 use std::alloc::Global;
 
-/// The first tasks of a core, so many, of which none is released before a tick.
+/// The first tasks of a core that are known to wait: the next job of each is released at `until` or
+/// later.
 #[derive(Clone, Copy, Debug, PartialEq, Eq)]
 pub struct Waiting {
+    /// How many tasks of the core wait, from the first one on.
     pub count: usize,
+    /// A tick before which none of these tasks is released.
     pub until: u64,
 }
 
 /// How far the tasks of a core have come at a tick.
 #[derive(Drop)]
 pub struct CoreProgress {
+    /// The tick: all entries of the core before it are known.
     pub tick: u64,
-    /// Where the task stands that has begun a whole runnable and not finished it.
+    /// The index in `tasks` of the held task, which has begun a whole runnable and not finished it.
     pub held: Option<usize>,
-    /// The tasks of the core, by falling priority.
+    /// How far each task of the core has come, by falling priority.
     pub tasks: Vec<Progress>,
-    /// The first of them need not be asked again before a tick.
+    /// The first of these tasks, which need not be looked at before the tick `waiting.until`.
     pub waiting: Waiting,
 }
 
 /// What a core does next: a task of it runs, or none where the core idles, until a tick.
 #[derive(Clone, Copy, Debug, PartialEq, Eq)]
 pub struct Next {
+    /// The number of the task that runs, or none where the core idles.
     pub who: Option<u32>,
+    /// The tick up to which it does so.
     pub until: u64,
-    /// Where the task stands among those of the core.
+    /// The index of that task among those of the core.
     pub chosen: Option<usize>,
-    /// Which of the tasks in front of it need not be asked again.
+    /// The first tasks, all in front of the chosen one, which need not be looked at before the tick
+    /// `waiting.until`.
     pub waiting: Waiting,
 }
 
-/// Which task goes on, and the next event that may change that.
+/// The index of the task that goes on, if one does, the next event that may change that, and the
+/// first tasks that wait.
 #[derive(Clone, Copy)]
 struct Choice {
     chosen: Option<usize>,
@@ -55,7 +63,7 @@ struct Choice {
     waiting: Waiting,
 }
 
-/// How far a task has come at tick 0.
+/// Returns how far a task has come at tick 0.
 fn unbegun(model: &ValidModel, table: &JobTable, task: u32) -> Progress
     requires lawful { IsLawful (system_of model.now) table.now }
     requires task { task < length model.now.tasks }
@@ -65,7 +73,7 @@ fn unbegun(model: &ValidModel, table: &JobTable, task: u32) -> Progress
     Progress::before(table.jobs_of(task), task, priority, 0)
 }
 
-/// Puts tasks in order by falling priority.
+/// Sorts tasks by falling priority.
 fn put_from_the_top(tasks: &mut Vec<Progress>)
     ensures same { IsPermutation tasks.old.items tasks.new.items }
     ensures falling { AreFalling tasks.new.items }
@@ -73,7 +81,7 @@ fn put_from_the_top(tasks: &mut Vec<Progress>)
     tasks.sort_unstable_by(|one, other| other.priority.cmp(&one.priority));
 }
 
-/// How far each task of a core has come at tick 0, by falling priority.
+/// Lists how far each task of a core has come at tick 0, by falling priority.
 fn all_unbegun(
     alloc: Global,
     model: &ValidModel,
@@ -82,7 +90,8 @@ fn all_unbegun(
 ) -> Result<Vec<Progress>, NoMemory>
     requires lawful { IsLawful (system_of model.now) table.now }
     requires core { core < length model.now.cores }
-    ensures of_core { IfOk result (λ tasks. AreOfCore (system_of model.now) table.now core [] tasks.items) }
+    ensures of_core { IfOk result
+        (λ tasks. AreOfCore (system_of model.now) table.now core [] tasks.items) }
     ensures falling { IfOk result (λ tasks. AreFalling tasks.items) }
 {
     let mut tasks = Vec::new(alloc);
@@ -93,7 +102,8 @@ fn all_unbegun(
     Ok(tasks)
 }
 
-/// Whether a task with these runnables and jobs has begun a whole runnable and not finished it.
+/// Checks whether a task with these runnables and jobs has begun a whole runnable and not finished
+/// it.
 fn is_holding(runnables: &[RunnableDef], jobs: &[Job], progress: Progress) -> bool
     requires { IsInLists runnables.now jobs.now progress }
     ensures { (task : Timing) → task.ranges ≡ map range_of runnables.now
@@ -107,14 +117,14 @@ fn is_holding(runnables: &[RunnableDef], jobs: &[Job], progress: Progress) -> bo
     }
 }
 
-/// The index, where it holds.
+/// Returns the index where the condition holds, and `None` otherwise.
 fn index_if(index: usize, holds: bool) -> Option<usize>
     ensures { (other : ℕ) → (result ≡ Some other) ↔ ((other ≡ index) × IsTrue holds) }
 {
     if holds { Some(index) } else { None }
 }
 
-/// No task at all.
+/// Returns that no task is known to wait.
 fn none_waiting() -> Waiting
     ensures { result ≡ record { count = 0; until = 2 ^ 64 - 1 } }
 {
@@ -124,7 +134,8 @@ fn none_waiting() -> Waiting
     }
 }
 
-/// Which of the first tasks still wait at a tick: all of them, or none where one of them may be released.
+/// Returns which of the first tasks are still known to wait at a tick: all of them before their
+/// `until`, and none from then on.
 fn waiting_at(waiting: Waiting, tick: u64) -> Waiting
     requires { tick < 2 ^ 64 - 1 }
     ensures still { tick < result.until }
@@ -137,8 +148,8 @@ fn waiting_at(waiting: Waiting, tick: u64) -> Waiting
     }
 }
 
-/// The released task of highest priority, and when one of a higher priority is released, at most until `end`. The tasks
-/// stand by falling priority.
+/// Finds the released task of highest priority, and when one of higher priority is released next,
+/// at most `end`. The tasks are sorted by falling priority.
 fn highest(tasks: &[Progress], waiting: Waiting, tick: u64, end: u64) -> Choice
     requires before { tick < end }
     requires falling { AreFalling tasks.now }
@@ -174,7 +185,8 @@ fn highest(tasks: &[Progress], waiting: Waiting, tick: u64, end: u64) -> Choice
 }
 
 impl CoreProgress {
-    /// How far the tasks of a core have come at tick 0. The only error is that there is no memory for it.
+    /// Creates the progress of a core at tick 0, before any job has executed. `NoMemory` comes
+    /// where there is no memory for the list of tasks; it leaves nothing.
     pub fn begin(
         alloc: Global,
         model: &ValidModel,
@@ -193,7 +205,7 @@ impl CoreProgress {
         })
     }
 
-    /// Which task goes on, and the next event that may change that, at most until `end`.
+    /// Chooses the task that goes on, and finds the next event that may change that, at most `end`.
     fn choose(&self, end: u64) -> Choice
         requires before { self.now.tick < end }
         requires falling { AreFalling self.now.tasks.items }
@@ -217,7 +229,7 @@ impl CoreProgress {
         }
     }
 
-    /// What the core does next, and until when.
+    /// Finds what the core does next, and up to which tick, at most `end`.
     fn following(&self, end: u64) -> Next
         requires before { self.now.tick < end }
         requires underway { IsUnderway self.now }
@@ -242,8 +254,9 @@ impl CoreProgress {
         }
     }
 
-    /// What the core does next, and until when at least, at most until `end`: after any entries that lead here, it is
-    /// what is scheduled in each tick until then.
+    /// Finds what the core does next, and up to which tick at least, at most `end`. After any
+    /// entries that lead to this progress, it is what is scheduled in each tick until then. Takes
+    /// no memory.
     pub fn next(&self, end: u64) -> Next
         requires before { self.now.tick < end }
         requires underway { IsUnderway self.now }
@@ -256,7 +269,8 @@ impl CoreProgress {
         self.following(end)
     }
 
-    /// The task at an index executes its runnable for so many ticks.
+    /// Executes the runnable of the task at an index for `ticks` ticks, and notes whether the task
+    /// is held after that.
     fn execute(&mut self, model: &ValidModel, table: &JobTable, index: usize, ticks: u64)
         requires lawful { IsLawful (system_of model.now) table.now }
         requires index { index < length self.old.tasks.items }
@@ -273,7 +287,8 @@ impl CoreProgress {
         self.tasks[index] = moved;
     }
 
-    /// Goes on to a tick, with what the core does until then.
+    /// Goes on to tick `until`, which may lie before `next.until`, with what the core does next.
+    /// Takes no memory.
     #[inline(always)]
     pub fn advance(&mut self, model: &ValidModel, table: &JobTable, next: Next, until: u64)
         requires lawful { IsLawful (system_of model.now) table.now }

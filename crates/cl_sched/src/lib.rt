@@ -1,4 +1,4 @@
-//! The simulator: the legal run of a job table, from event to event.
+//! The simulator: computes the legal run of a job table, from event to event.
 #![tactic(auto)]
 
 mod core_progress;

@@ -7,23 +7,26 @@ ghost use Rattle.cl_sched.specs.Inner.TakingTime.{TakeTime};
 
 use cl_runs::Job;
 
-/// How far a task has come: the runnable of its first unfinished job that it executes next, and what is left of that.
+/// How far a task has come: the runnable of its first unfinished job that it executes next, and how
+/// much of it is left.
 #[derive(Clone, Copy, Debug, PartialEq, Eq)]
 pub struct Progress {
+    /// The number of the task.
     pub task: u32,
+    /// The priority of the task; a greater number is a higher priority.
     pub priority: u64,
     /// The number of the first unfinished job, or the number of jobs where all have finished.
     pub job: usize,
-    /// The place of the first unfinished runnable of that job.
+    /// The index of the first unfinished runnable of that job, 0 where all jobs have finished.
     pub place: usize,
-    /// How many ticks of that runnable are left.
+    /// How many ticks of that runnable are left, 0 where all jobs have finished.
     pub left: u64,
-    /// When that job is released, and the greatest number where all jobs have finished.
+    /// The tick at which that job is released, or the greatest `u64` where all jobs have finished.
     pub release: u64,
 }
 
 impl Progress {
-    /// Where a task stands before a job.
+    /// Returns how far a task has come that has finished exactly the jobs before a job.
     pub(crate) fn before(jobs: &[Job], task: u32, priority: u64, job: usize) -> Progress
         requires take_time { TakeTime jobs.now }
         requires job { job ≤ length jobs.now }
@@ -51,7 +54,7 @@ impl Progress {
         }
     }
 
-    /// Where it stands where the runnable has finished.
+    /// Returns how far the task has come once the runnable has finished.
     fn after_runnable(self, jobs: &[Job]) -> Progress
         requires take_time { TakeTime jobs.now }
         requires at { (done : ℕ) × IsAtRunnable jobs.now done self }
@@ -71,14 +74,16 @@ impl Progress {
         Progress::before(jobs, self.task, self.priority, self.job + 1)
     }
 
-    /// Where it stands after so many further ticks of the runnable.
+    /// Returns how far the task has come after `ticks` further ticks of the runnable, at most those
+    /// that are left.
     pub(crate) fn after(self, jobs: &[Job], ticks: u64) -> Progress
         requires take_time { TakeTime jobs.now }
         requires at { (done : ℕ) × IsAtRunnable jobs.now done self }
         requires ticks { ticks ≤ self.left }
         ensures task { result.task ≡ self.task }
         ensures priority { result.priority ≡ self.priority }
-        ensures further { (done : ℕ) → IsAtRunnable jobs.now done self → HasComeTo jobs.now (done + ticks) result }
+        ensures further { (done : ℕ) → IsAtRunnable jobs.now done self
+            → HasComeTo jobs.now (done + ticks) result }
     {
         if ticks < self.left {
             return Progress {

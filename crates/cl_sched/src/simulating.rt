@@ -1,4 +1,4 @@
-//! The legal run of a job table. Times are in ticks.
+//! Computing the legal run of a job table. Times are in ticks.
 ghost use Rattle.std.specs.Prelude.{◌≡◌, ◌<◌, ◌≤◌, [], length, replicate, IfOk, OnOk};
 ghost use Rattle.cl_runs.specs.TaskTiming.{IsSound};
 ghost use Rattle.cl_runs.specs.SystemOf.{system_of};
@@ -16,7 +16,7 @@ use cl_runs::JobTable;
 use cl_time::NoMemory;
 use std::alloc::Global;
 
-/// Fills the entries of a core to the end of the run, from event to event.
+/// Fills the entries of a core from where it has come to the end of the run, from event to event.
 fn fill_from(
     model: &ValidModel,
     run: &mut RunData,
@@ -40,7 +40,7 @@ fn fill_from(
     Ok(())
 }
 
-/// Fills the entries of a core.
+/// Fills the entries of a core, which are empty before.
 fn fill_core(
     alloc: Global,
     model: &ValidModel,
@@ -58,7 +58,7 @@ fn fill_core(
     fill_from(model, run, core, &mut reached)
 }
 
-/// Fills the entries of all cores.
+/// Fills the entries of all cores, which are empty before.
 fn fill(alloc: Global, model: &ValidModel, run: &mut RunData) -> Result<(), NoMemory>
     requires lawful { IsLawful (system_of model.now) run.old.table }
     requires empty { run.old.entries ≡ replicate (length model.now.cores) [] }
@@ -71,9 +71,10 @@ fn fill(alloc: Global, model: &ValidModel, run: &mut RunData) -> Result<(), NoMe
     Ok(())
 }
 
-/// The legal run of a lawful table, which is the only one. It goes from event to event: a release, the finish of a job
-/// or of a runnable, or the end; so a long time in which nothing happens costs no more than a short one. The only error
-/// is that there is no memory for the run; then the table is dropped.
+/// Computes the legal run of a lawful job table. There is exactly one, and it goes on to a legal
+/// run of every greater length. Goes from event to event: a release, the finish of a job or of a
+/// runnable, or the end, so a long time in which nothing happens costs no more than a short one.
+/// `NoMemory` comes where there is no memory for the run; then the table is dropped.
 pub fn simulate(alloc: Global, model: &ValidModel, table: JobTable) -> Result<RunData, NoMemory>
     requires { IsLawful (system_of model.now) table }
     ensures table { IfOk result (λ run. run.table ≡ table) }

@@ -1,3 +1,10 @@
 pub use Rattle.cl_stim.specs.Inner.Releases
 pub mod ValidStimuli
 pub mod Widest
+pub mod Ranges
+pub mod Multiples
+pub mod TurnFacts
+pub mod PhaseSteps
+pub mod Neighbours
+pub mod PatternPhases
+pub mod RunPhases

@@ -1,3 +1,6 @@
+pub mod Integers
+pub mod Multiples
+pub mod Phase
 pub mod Stimulus
 pub mod Releases
 pub mod AnyStimulus

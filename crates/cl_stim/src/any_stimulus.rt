@@ -22,7 +22,7 @@ pub enum AnyStimulus {
 }
 
 impl AnyStimulus {
-    /// The stimulus of a kind.
+    /// Makes the stimulus of this kind.
     pub fn of(kind: StimulusKind) -> AnyStimulus
         requires { IsStimulus kind }
         ensures { result ≡ as_stimulus kind }

@@ -10,7 +10,7 @@ use crate::arrivals::Arrivals;
 use cl_model::StimulusKind;
 use std::marker::Model;
 
-/// Jobs arrive in bursts of `count`: job `q * count + r`, where `r < count`, arrives at
+/// A pattern of bursts of `count` jobs: job `q * count + r`, where `r < count`, arrives at
 /// `offset + q * period + r * distance`, and each is released as it arrives.
 #[derive(Clone, Copy, Debug, PartialEq, Eq)]
 pub struct Burst {
@@ -39,7 +39,7 @@ impl Model for Burst {
 }
 
 impl Burst {
-    /// Its kind.
+    /// Returns its kind.
     fn kind(&self) -> StimulusKind
         ensures kind { result ≡ self.now }
         ensures known { IsStimulus self.now }

@@ -1,4 +1,5 @@
-//! The laws of `Arrivals` over the kinds of stimuli, and that valid models have such stimuli.
+//! Stimuli are well-formed patterns with few releases in each window, and the tasks of valid models
+//! have such stimuli.
 ghost use Rattle.std.specs.Prelude.{ℕ, ◌<◌, ◌≤◌, List, length};
 ghost use Rattle.cl_model.specs.declared.model.SystemModel.{SystemModel};
 ghost use Rattle.cl_model.specs.declared.stimulus.StimulusKind.{StimulusKind};
@@ -10,23 +11,30 @@ ghost use Rattle.cl_runs.specs.Arrivals.{FollowPattern};
 ghost use Rattle.cl_stim.specs.Releases.{releases_in, most_releases};
 ghost use Rattle.cl_stim.specs.Stimulus.{IsStimulus};
 
-/// The pattern of each stimulus of a valid model is well formed.
+pub mod phases;
+
+/// A stimulus whose numbers are in range and in order, as in a valid model, is a well-formed
+/// pattern.
 pub fn stimuli_are_well_formed()
     ensures { (kind : StimulusKind) → IsStimulus kind → IsPattern kind }
 {}
 
-/// Of jobs that follow a stimulus, at most `most_releases` are released in any window.
+/// Of jobs that follow a well-formed pattern, at most `most_releases` are released in any window of
+/// that width.
 pub fn releases_are_few()
-    ensures { (kind : StimulusKind) → IsPattern kind → (ticks : ℕ) (jobs : List Job) → FollowPattern kind ticks jobs
+    ensures { (kind : StimulusKind) → IsPattern kind → (ticks : ℕ) (jobs : List Job)
+        → FollowPattern kind ticks jobs
         → (start width : ℕ) → releases_in jobs start width ≤ most_releases kind width }
 {}
 
-/// The most releases never fall as the window grows.
+/// The most releases in a window never fall as the window grows.
 pub fn most_releases_never_falls()
-    ensures { (kind : StimulusKind) (narrow wide : ℕ) → narrow ≤ wide → most_releases kind narrow ≤ most_releases kind wide }
+    ensures { (kind : StimulusKind) (narrow wide : ℕ) → narrow ≤ wide
+        → most_releases kind narrow ≤ most_releases kind wide }
 {}
 
 /// Each task of a valid model has a stimulus whose numbers are in range and in order.
 pub fn valid_models_have_stimuli()
-    ensures { (model : SystemModel) → IsValid model → (i : ℕ) → i < length model.tasks → IsStimulus (stimulus_of model i) }
+    ensures { (model : SystemModel) → IsValid model → (i : ℕ) → i < length model.tasks
+        → IsStimulus (stimulus_of model i) }
 {}

@@ -8,7 +8,8 @@ ghost use Rattle.cl_stim.specs.Inner.Laws as laws;
 use crate::arrivals::Arrivals;
 use std::marker::Model;
 
-/// Job `k` arrives at `offset + k * period`, and is released at most `jitter` later.
+/// A periodic pattern: job `k` arrives at `offset + k * period`, and is released at most `jitter`
+/// later.
 #[derive(Clone, Copy, Debug, PartialEq, Eq)]
 pub struct Periodic {
     pub(crate) period: u64,

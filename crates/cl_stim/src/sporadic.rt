@@ -10,7 +10,8 @@ use crate::arrivals::Arrivals;
 use cl_model::StimulusKind;
 use std::marker::Model;
 
-/// Jobs arrive at distances from `least` to `greatest`, and each is released as it arrives.
+/// A sporadic pattern: jobs arrive at distances from `least` to `greatest`, and each is released as
+/// it arrives.
 #[derive(Clone, Copy, Debug, PartialEq, Eq)]
 pub struct Sporadic {
     pub(crate) least: u64,
@@ -36,7 +37,7 @@ impl Model for Sporadic {
 }
 
 impl Sporadic {
-    /// Its kind.
+    /// Returns its kind.
     fn kind(&self) -> StimulusKind
         ensures kind { result ≡ self.now }
         ensures known { IsStimulus self.now }

@@ -2,3 +2,4 @@ pub mod Decimal
 pub mod Line
 pub mod Standing
 pub mod LinesFault
+pub mod Beginnings

@@ -4,8 +4,8 @@ ghost use Rattle.std.specs.Str.Parse.{IsNumeral, digits_value};
 ghost use Rattle.cl_text.specs.Decimal.{IsDecimal};
 ghost use Rattle.cl_text.specs.Line.{first_word, is_graphic};
 
-/// The number that a word writes in decimal: digits without a leading zero, except `0` itself, of
-/// a value at most `most`. `None` exactly where the word isn't that.
+/// Reads a word as a decimal number of at most `most`: digits without a leading zero, except `0`
+/// itself. Returns `None` exactly where the word isn't such a number.
 #[tactic(auto, using(crate::proofs::DecimalLemmas::printed_decimals))]
 pub fn read_decimal(word: &[u8], most: u64) -> Option<u64>
     ensures some { IfSome result (λ n. (word.now ≡ decimal n) × (n ≤ most)) }
@@ -19,7 +19,8 @@ pub fn read_decimal(word: &[u8], most: u64) -> Option<u64>
     if number <= most { Some(number) } else { None }
 }
 
-/// The number that one digit or more write, leading zeros or not, where it fits 64 bits.
+/// Reads one or more digits, with leading zeros or without, as a number. Returns `None` exactly
+/// where the slice is empty or holds another byte, or the number doesn't fit 64 bits.
 fn number_of_digits(digits: &[u8]) -> Option<u64>
     ensures { let number = digits_value 10 digits.now in
         SomeIff result (IsNumeral 10 digits.now × (number < 2 ^ 64)) number }
@@ -39,14 +40,15 @@ fn number_of_digits(digits: &[u8]) -> Option<u64>
     Some(number)
 }
 
-/// The decimals of the grammar are the printed numbers, both ways, up to 64 bits.
+/// A word is a decimal of the grammar for a number below 2^64 exactly where it equals that number
+/// as printed.
 pub fn decimal_grammar()
     ensures printed { (word : List ℕ) (n : ℕ) → n < 2 ^ 64 → word ≡ decimal n → IsDecimal word n }
     ensures only { (word : List ℕ) (n : ℕ) → n < 2 ^ 64 → IsDecimal word n → word ≡ decimal n }
 {}
 
-/// A printed number is read once and in one way: two numbers of up to 64 bits that print alike are
-/// one, and what isn't a byte of a word ends it.
+/// Two numbers below 2^64 that are printed alike are equal, and a byte that isn't a word byte ends
+/// a printed number.
 pub fn printed_numbers_are_apart()
     ensures numbers { (m n : ℕ) → m < 2 ^ 64 → n < 2 ^ 64 → decimal m ≡ decimal n → m ≡ n }
     ensures words { (n : ℕ) (rest : List ℕ) (byte : ℕ) → n < 2 ^ 64 → is_graphic byte ≡ false →

@@ -1,10 +1,10 @@
-//! What the reading of a list of lines may answer in place of it.
+//! Why a list of lines isn't read.
 use cl_time::NoMemory;
 
 /// Why a text isn't read as a list of lines.
 #[derive(Clone, Copy, Debug, PartialEq, Eq)]
 pub enum LinesFault {
-    /// The text has no reading: this is its first bad line, counted from 1.
+    /// The text isn't such a list: `line` is its first bad line, counted from 1.
     BadLine { line: u64 },
     /// Memory ran out.
     NoMemory,

@@ -1,5 +1,5 @@
 #![tactic(auto)]
-//! Texts of lines and words: decimals, the ends of lines and words, and a text that grows.
+//! Texts of lines and words: decimals, where lines and words end, and a text that grows.
 
 mod decimal;
 mod fault;

@@ -18,7 +18,7 @@ impl Model for Text {
 }
 
 impl Text {
-    /// The empty text.
+    /// Creates an empty text. Takes no memory.
     pub fn new(alloc: Global) -> Text
         ensures { result ≡ [] }
     {
@@ -27,7 +27,8 @@ impl Text {
         }
     }
 
-    /// The empty text, with room for so many bytes: while it has no more, appending to it takes no memory.
+    /// Creates an empty text with room for `room` bytes: appending takes no memory while the text
+    /// has no more than that. `NoMemory` comes where there is no memory for the room.
     pub fn with_room(alloc: Global, room: usize) -> Result<Text, NoMemory>
         ensures { IfOk result (λ text. text ≡ []) }
     {
@@ -36,7 +37,7 @@ impl Text {
         })
     }
 
-    /// Appends the piece. `NoMemory` leaves the text as it was.
+    /// Appends a piece. After `NoMemory` the text is as it was.
     pub fn put(&mut self, piece: &[u8]) -> Result<(), NoMemory>
         ensures ok { OnOk result (self.new ≡ self.old ++ piece.now) }
         ensures err { OnErr result (self.new ≡ self.old) }
@@ -45,7 +46,7 @@ impl Text {
         Ok(())
     }
 
-    /// Appends the byte. `NoMemory` leaves the text as it was.
+    /// Appends a byte. After `NoMemory` the text is as it was.
     pub fn put_byte(&mut self, byte: u8) -> Result<(), NoMemory>
         ensures ok { OnOk result (self.new ≡ self.old ++ byte ∷ []) }
         ensures err { OnErr result (self.new ≡ self.old) }
@@ -54,7 +55,7 @@ impl Text {
         Ok(())
     }
 
-    /// Appends the number as a decimal. `NoMemory` leaves the text as it was.
+    /// Appends a number as a decimal. After `NoMemory` the text is as it was.
     pub fn put_number(&mut self, number: u64) -> Result<(), NoMemory>
         ensures ok { OnOk result (self.new ≡ self.old ++ decimal number) }
         ensures err { OnErr result (self.new ≡ self.old) }
@@ -63,7 +64,7 @@ impl Text {
         self.put(buffer.format(number).as_bytes())
     }
 
-    /// The text's bytes.
+    /// Returns the bytes of the text.
     pub fn as_slice(&self) -> &[u8]
         ensures { result.now ≡ self.now }
     {

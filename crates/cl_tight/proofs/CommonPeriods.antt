@@ -1,4 +1,4 @@
--- The tight bounds of a chain are its exact lengths, as a rule, exactly where its tasks are all timed and periodic and
+-- The tight bounds of a chain are its exact lengths, by a rule, exactly where its tasks are all timed and periodic and
 -- its hyperperiod is within the limit: the common period is the hyperperiod.
 use Rattle.std.proofs.Common.{◌≡◌, ℕ, ◌≤◌, Bool, true, false, true≢false, ◌&&◌, nat_le, List, [], ◌∷◌, fold, refl, sym, ap, ◌∙◌, arith}
 use Rattle.std.specs.Prelude.{All, IsTrue, ◌↔◌}
@@ -15,13 +15,13 @@ use Rattle.cl_model.proofs.GroupFacts.{groups_at_are}
 use Rattle.cl_runs.specs.TaskTiming.{System, IsSound}
 use Rattle.cl_runs.specs.SystemOf.{system_of}
 use Rattle.cl_runs.proofs.ModelSystem.{system_sound}
+use Rattle.cl_stim.specs.Multiples.{common_multiple}
+use Rattle.cl_stim.proofs.Multiples.{common_positive, common_is_least}
 use Rattle.cl_bound.specs.SettledChains.{IsGroupOfTask}
 use Rattle.cl_bound.proofs.ModelGroups.{group_of_system}
 use Rattle.cl_exact.specs.TimedPeriodic.{is_timed_periodic_chain}
 use Rattle.cl_exact.specs.Hyperperiod.{period_of, hyper_limit, IsMultipleOfPeriods, IsHyperperiod, IsWithinLimit}
 use Rattle.cl_exact.proofs.ExactOnce.{hyperperiod_once}
-use Rattle.cl_phase.specs.Kept.{common_multiple}
-use Rattle.cl_phase.proofs.Multiples.{common_positive, common_is_least}
 use Rattle.cl_tight.specs.TightFindings.{common_period, has_exact_bounds}
 
 -- ---- the common period is the hyperperiod

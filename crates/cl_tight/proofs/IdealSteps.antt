@@ -9,10 +9,10 @@ use Rattle.cl_model.specs.declared.group.Group.{Group}
 use Rattle.cl_model.specs.Timing.{least_distance}
 use Rattle.cl_runs.specs.Pattern.{first_least}
 use Rattle.cl_runs.specs.TaskTiming.{System, timing_at}
+use Rattle.cl_stim.specs.declared.phase.Phase.{Phase}
+use Rattle.cl_stim.specs.Phase.{IsArrivalOf}
 use Rattle.cl_exact.specs.Hyperperiod.{period_of}
-use Rattle.cl_phase.specs.declared.pace.Phase.{Phase}
 use Rattle.cl_phase.specs.declared.pace.Pace.{Pace}
-use Rattle.cl_phase.specs.Phase.{IsArrivalOf}
 use Rattle.cl_phase.specs.Pace.{first_from, last_by}
 use Rattle.cl_phase.proofs.PhaseAnswers.{LeadsTo}
 
@@ -34,9 +34,9 @@ ideal_phase system group = record { period = period_of system group; offset = of
 abbrev pub ReadsAt : System → Group → (moment : ℤ) → Type 0
 ReadsAt system group = IsArrivalOf (ideal_phase system group)
 
--- the delay of a hop: up to the write, or 1 within one task, whose next read is the same
-abbrev pub IsIdealDelay : System → (writer reader : Group) → (delay : ℤ) → Type 0
-IsIdealDelay system writer reader delay = (delay ≡ pos (timing_at system writer.task).deadline) ⊎ ((writer.task ≡ reader.task) × (delay ≡ pos 1))
+-- the lag of a hop: up to the write, or 1 within one task, whose next read is the same
+abbrev pub IsIdealLag : System → (writer reader : Group) → (lag : ℤ) → Type 0
+IsIdealLag system writer reader lag = (lag ≡ pos (timing_at system writer.task).deadline) ⊎ ((writer.task ≡ reader.task) × (lag ≡ pos 1))
 
 module _ (system : System) (group : Group) where
   -- reads rise with the job
@@ -102,14 +102,14 @@ module _ (system : System) (group : Group) where
         (omega (arith, ints, next_read job some, positive)) in
         omega (arith, ints, earlier, greatest)
 
--- a hop with its delay leads from a read to the first one at or after its write
+-- a hop with its lag leads from a read to the first one at or after its write
 pub hop_is_read : (system : System) (writer reader : Group) (pace : Pace) → LeadsTo (ReadsAt system reader) pace
     → 1 ≤ (timing_at system writer.task).deadline → (timing_at system writer.task).deadline ≤ period_of system writer
-    → (delay : ℤ) → IsIdealDelay system writer reader delay → (writing reading : ℕ) → 1 ≤ reading
+    → (lag : ℤ) → IsIdealLag system writer reader lag → (writing reading : ℕ) → 1 ≤ reading
     → read_in system reader (reading - 1) < write_in system writer writing → write_in system writer writing ≤ read_in system reader reading
-    → first_from pace (pos (read_in system writer writing) +ℤ delay) ≡ pos (read_in system reader reading)
-hop_is_read system writer reader pace leads late soon delay is writing reading some before after =
-    let moment : ℤ = pos (read_in system writer writing) +ℤ delay in
+    → first_from pace (pos (read_in system writer writing) +ℤ lag) ≡ pos (read_in system reader reading)
+hop_is_read system writer reader pace leads late soon lag is writing reading some before after =
+    let moment : ℤ = pos (read_in system writer writing) +ℤ lag in
     elim is [
       | inl whole ↦ first_is_read system reader pace leads reading some moment (omega (arith, ints, whole, before)) (omega (arith, ints, whole, after))
       | inr one ↦

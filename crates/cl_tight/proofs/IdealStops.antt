@@ -16,20 +16,20 @@ use Rattle.cl_model.specs.Groups.{group_at}
 use Rattle.cl_model.specs.Kinds.{is_timed}
 use Rattle.cl_model.specs.Timing.{greatest_distance}
 use Rattle.cl_runs.specs.TaskTiming.{System, timing_at}
+use Rattle.cl_stim.specs.declared.phase.Phase.{Phase}
+use Rattle.cl_stim.specs.Phase.{arrivals_in, phase_of}
 use Rattle.cl_comm.specs.declared.spot.Window.{Window}
 use Rattle.cl_comm.specs.Windows.{spot_at, window_of, window_at}
 use Rattle.cl_exact.specs.Hyperperiod.{period_of}
-use Rattle.cl_bound.specs.Hops.{group_timing, saves, delay}
-use Rattle.cl_phase.specs.declared.pace.Phase.{Phase}
+use Rattle.cl_bound.specs.Hops.{group_timing, saves, lag}
 use Rattle.cl_phase.specs.declared.pace.TheConstants.{MOST_ARRIVALS}
 use Rattle.cl_phase.specs.declared.pace.Pace.TheVariants.{Kept}
 use Rattle.cl_phase.specs.declared.stop.Stop.{Stop}
-use Rattle.cl_phase.specs.Kept.{hyperperiod_of, arrivals_in, come_round_soon, phase_beside, kept_with, pace_with}
-use Rattle.cl_phase.specs.Phase.{phase_of}
+use Rattle.cl_phase.specs.Kept.{hyperperiod_of, come_round_soon, phase_beside, kept_with, pace_with}
 use Rattle.cl_phase.specs.Walks.{pace_at}
-use Rattle.cl_phase.specs.TightBounds.{delay_to_next, stops_beside, stops_of}
-use Rattle.cl_phase.proofs.Multiples.{HasPeriod, Divides, hyperperiod_least}
-use Rattle.cl_tight.proofs.IdealSteps.{ideal_phase, IsIdealDelay}
+use Rattle.cl_phase.specs.TightBounds.{lag_to_next, stops_beside, stops_of}
+use Rattle.cl_phase.proofs.Hyperperiods.{HasPeriod, Divides, hyperperiod_least}
+use Rattle.cl_tight.proofs.IdealSteps.{ideal_phase, IsIdealLag}
 use Rattle.cl_tight.proofs.IdealWalks.{IsPeriodicGroup}
 
 -- a timed periodic group whose period divides so many ticks
@@ -40,7 +40,7 @@ pub record IsTurning (system : System) (ticks : ℕ) (group : Group) : Type 0 wh
 
 -- the stops of periodic groups that all keep their phase
 stop_of : System → (responses : ℕ → ℕ) → Group → List Group → Stop
-stop_of system responses group later = record { pace = Kept (ideal_phase system group); delay = delay_to_next system responses group later }
+stop_of system responses group later = record { pace = Kept (ideal_phase system group); lag = lag_to_next system responses group later }
 
 pub ideal_stops : System → (responses : ℕ → ℕ) → List Group → List Stop
 ideal_stops system responses [] = []
@@ -54,7 +54,7 @@ module _ (system : System) (responses : ℕ → ℕ) where
   paces (group ∷ later) zero within = refl
   paces (group ∷ later) (suc place) within = paces later place (omega (arith, within))
 
--- ---- the delays of timed groups
+-- ---- the lags of timed groups
 
 timed_kind : (access : AccessKind) → is_timed access ≡ true → access ≡ Timed
 timed_kind Explicit passes = cc
@@ -96,12 +96,12 @@ module _ (system : System) (responses : ℕ → ℕ) (writer reader : Group) (ti
   unfolding group_timing
   same_task same = same
 
-  pub timed_delay : IsIdealDelay system writer reader (delay (group_timing system responses writer) (group_timing system responses reader))
-  timed_delay =
+  pub timed_lag : IsIdealLag system writer reader (lag (group_timing system responses writer) (group_timing system responses reader))
+  timed_lag =
       let one = group_timing system responses writer in
       let other = group_timing system responses reader in
       cond_both (one.task == other.task) (pos 1)
-      (cond (saves one other) (pos one.jitter -ℤ pos other.read) (pos one.write -ℤ pos other.read)) (IsIdealDelay system writer reader)
+      (cond (saves one other) (pos one.jitter -ℤ pos other.read) (pos one.write -ℤ pos other.read)) (IsIdealLag system writer reader)
       (λ same. inr (same_task (eqb-true one.task other.task same), refl))
       (λ _. inl (ap (λ b. cond b (pos one.jitter -ℤ pos other.read) (pos one.write -ℤ pos other.read)) never_saves ∙ whole))
     where
@@ -171,7 +171,7 @@ module _ (system : System) (ticks : ℕ) (some : 1 ≤ ticks) (first : Group) (t
         let kept : phase_beside phases (phase_of kind) ≡ Some (ideal_phase system group) = ap (phase_beside phases) phase
         ∙ ap (λ b. cond b (Some (ideal_phase system group)) None) (soon (ideal_phase system group ∷ phases) are) in
         ap (λ (phase : Option Phase).
-        record { pace = pace_with (greatest_distance kind) phase; delay = delay_to_next system responses group later }
+        record { pace = pace_with (greatest_distance kind) phase; lag = lag_to_next system responses group later }
         ∷ stops_beside system responses (kept_with phases phase) later) kept
 
     all_keep : (phases : List Phase) (groups : List Group) → AreTurning phases → All (IsTurning system ticks) groups

@@ -14,10 +14,10 @@ use Rattle.cl_exact.specs.Hyperperiod.{period_of}
 use Rattle.cl_phase.specs.declared.pace.Pace.TheVariants.{Kept}
 use Rattle.cl_phase.specs.declared.stop.Stop.{Stop}
 use Rattle.cl_phase.specs.Pace.{first_from}
-use Rattle.cl_phase.specs.Walks.{pace_at, delay_at, onward, back, arrival_at_last, arrival_at_first}
+use Rattle.cl_phase.specs.Walks.{pace_at, lag_at, onward, back, arrival_at_last, arrival_at_first}
 use Rattle.cl_phase.specs.TightBounds.{length_from}
 use Rattle.cl_phase.proofs.PhaseAnswers.{LeadsTo}
-use Rattle.cl_tight.proofs.IdealSteps.{offset_of, read_in, write_in, ideal_phase, ReadsAt, IsIdealDelay, next_read, last_is_read, hop_is_read}
+use Rattle.cl_tight.proofs.IdealSteps.{offset_of, read_in, write_in, ideal_phase, ReadsAt, IsIdealLag, next_read, last_is_read, hop_is_read}
 
 -- a group whose task is periodic, with a deadline within its period
 pub record IsPeriodicGroup (system : System) (group : Group) : Type 0 where
@@ -33,7 +33,7 @@ pub record AreIdealStops (system : System) (groups : List Group) (stops : List S
   pub periodic : (place : ℕ) → place < length groups → IsPeriodicGroup system (group_at groups place)
   pub paces : (place : ℕ) → place < length groups → pace_at stops place ≡ Kept (ideal_phase system (group_at groups place))
   pub leads : (place : ℕ) → place < length groups → LeadsTo (ReadsAt system (group_at groups place)) (pace_at stops place)
-  pub delays : (place : ℕ) → suc place < length groups → IsIdealDelay system (group_at groups place) (group_at groups (suc place)) (delay_at stops place)
+  pub lags : (place : ℕ) → suc place < length groups → IsIdealLag system (group_at groups place) (group_at groups (suc place)) (lag_at stops place)
 
 -- ---- the ideal moments of a periodic group
 
@@ -97,11 +97,11 @@ module _ (system : System) (groups : List Group) (stops : List Stop) (are : AreI
       let writer = are.periodic place before in
       let here : 0 + suc place ≡ suc place = omega arith in
       let there : 0 + place ≡ place = omega arith in
-      ap (λ n. first_from (pace_at stops n) (onward stops 0 start place +ℤ delay_at stops (0 + place))) here
-      ∙ ap (λ n. first_from (pace_at stops (suc place)) (onward stops 0 start place +ℤ delay_at stops n)) there
-      ∙ ap (λ z. first_from (pace_at stops (suc place)) (z +ℤ delay_at stops place)) (along place before)
+      ap (λ n. first_from (pace_at stops n) (onward stops 0 start place +ℤ lag_at stops (0 + place))) here
+      ∙ ap (λ n. first_from (pace_at stops (suc place)) (onward stops 0 start place +ℤ lag_at stops n)) there
+      ∙ ap (λ z. first_from (pace_at stops (suc place)) (z +ℤ lag_at stops place)) (along place before)
       ∙ hop_is_read system (group place) (group (suc place)) (pace_at stops (suc place)) (are.leads (suc place) within) writer.some_deadline writer.soon
-      (delay_at stops place) (are.delays place within) (job place) (job (suc place)) (is.not_first (suc place) within) (read_first place within) (read_after place within)
+      (lag_at stops place) (are.lags place within) (job place) (job (suc place)) (is.not_first (suc place) within) (read_first place within) (read_after place within)
 
   -- and no read lies before the first
   first_before : (place : ℕ) → place < length groups → read_in system (group 0) (job 0) ≤ read_in system (group place) (job place)

@@ -40,11 +40,11 @@ use Rattle.cl_phase.specs.declared.stop.Stop.{Stop}
 use Rattle.cl_phase.specs.Walks.{pace_at}
 use Rattle.cl_phase.specs.TightBounds.{stops_of, span_of, tight_bounds}
 use Rattle.cl_tight.specs.ExactBounds.{AreLengthsOf}
-use Rattle.cl_tight.proofs.IdealSteps.{ideal_phase, IsIdealDelay}
-use Rattle.cl_tight.proofs.IdealStops.{IsTurning, paces, reads_at_once, writes_late, timed_delay, all_keep_phase}
+use Rattle.cl_tight.proofs.IdealSteps.{ideal_phase, IsIdealLag}
+use Rattle.cl_tight.proofs.IdealStops.{IsTurning, paces, reads_at_once, writes_late, timed_lag, all_keep_phase}
 use Rattle.cl_tight.proofs.IdealWalks.{AreIdealStops}
 use Rattle.cl_phase.proofs.KeptWalks.{over_all, phases_agree}
-use Rattle.cl_phase.proofs.StopFacts.{length_stops, stop_delay, stops_step}
+use Rattle.cl_phase.proofs.StopFacts.{length_stops, stop_lag, stops_step}
 use Rattle.cl_tight.proofs.TightExact.{lengths_are_exact}
 
 -- a pattern that is periodic has its period, its offset and some jitter
@@ -135,8 +135,8 @@ module _ (system : System) (sound : IsSound system) (responses : ℕ → ℕ) (f
     paces = keeps;
     leads = λ place below. (over_all system sound responses groups all place (ideal_phase system (group_at groups place))
         (omega (arith, below, as_many)) (keeps place below) (pos 0)).leads;
-    delays = λ place below. subst (IsIdealDelay system (group_at groups place) (group_at groups (suc place))) (sym (stop_delay system responses groups [] place below))
-        (timed_delay system responses (group_at groups place) (group_at groups (suc place)) (turns place (omega (arith, below))).timed (turns (suc place) below).timed);
+    lags = λ place below. subst (IsIdealLag system (group_at groups place) (group_at groups (suc place))) (sym (stop_lag system responses groups [] place below))
+        (timed_lag system responses (group_at groups place) (group_at groups (suc place)) (turns place (omega (arith, below))).timed (turns (suc place) below).timed);
   }
 
   pub tight_is_exact : (exact : Witnesses) → AreExactLengths system groups exact → AreTied system groups exact

@@ -7,26 +7,24 @@ use Rattle.std.proofs.lemmas.List.{get_or-map}
 use Rattle.std.proofs.lemmas.List.Sums.{AllPass-from_list_all}
 use Rattle.cl_model.specs.declared.model.SystemModel.{SystemModel}
 use Rattle.cl_model.specs.Validity.{IsValid}
-use Rattle.cl_runs.specs.TaskTiming.{System, timing_at}
+use Rattle.cl_runs.specs.TaskTiming.{System}
 use Rattle.cl_runs.specs.SystemOf.{system_of}
-use Rattle.cl_runs.specs.Table.{job_at}
-use Rattle.cl_runs.specs.Run.{Run, jobs_of}
-use Rattle.cl_runs.specs.Legal.{IsLegal}
-use Rattle.cl_runs.specs.Moments.{JobFinishes}
 use Rattle.cl_runs.proofs.ModelSystem.{count_is}
+use Rattle.cl_runs.proofs.TimelyTasks.{meets_deadlines}
 use Rattle.cl_runs.specs.Requirements.{no_requirement, requirement_at, IsKept, IsInTime}
 use Rattle.cl_bound.specs.declared.answer.TaskAnswer.{TaskAnswer}
 use Rattle.cl_bound.specs.declared.answer.TaskAnswer.TheVariants as answer
 use Rattle.cl_bound.specs.Answers.{answer_at, is_late}
-use Rattle.cl_phase.specs.TightAnswers.{tight_answer_to, tight_answers_of}
+use Rattle.cl_phase.specs.TightAnswers.{tight_answer_to, tight_answers_of, tight_response}
 use Rattle.cl_analyse.specs.declared.findings.ChainAnswer.{ChainAnswer}
 use Rattle.cl_analyse.specs.declared.findings.Verdict.{Verdict}
 use Rattle.cl_analyse.specs.declared.findings.Verdict.TheVariants.{Met, Broken, Unshown}
 use Rattle.cl_analyse.specs.declared.findings.Findings.{Findings}
 use Rattle.cl_analyse.specs.ChainAnswers.{chain_answer_at}
 use Rattle.cl_analyse.specs.Findings.{AreFindings}
-use Rattle.cl_analyse.specs.Verdicts.{verdict_at}
-use Rattle.cl_tight.specs.TightFindings.{tight_chain_answers_of, tight_verdict_of, tight_findings_of, is_met, is_verified}
+use Rattle.cl_analyse.specs.Verdicts.{verdict_at, is_met}
+use Rattle.cl_analyse.proofs.InTime.{met_value}
+use Rattle.cl_tight.specs.TightFindings.{tight_chain_answers_of, tight_verdict_of, tight_findings_of, is_verified}
 use Rattle.cl_tight.specs.Promises.{AreSafeTightFindings, AreAsTight}
 use Rattle.cl_tight.proofs.TightChains.{timely_task, tight_responses_hold, tight_where_settled, own_bounds, tight_bounds_hold, tight_where_bounded, tight_where_exact}
 use Rattle.cl_tight.proofs.TightRequirements.{met_kept, broken_is}
@@ -35,12 +33,6 @@ use Rattle.cl_tight.proofs.TightRequirements.{met_kept, broken_is}
 passes : (answer : TaskAnswer) → not (is_late answer) ≡ true → is_late answer ≡ false
 passes (answer.Settled response) is = refl
 passes answer.Late is = absurd cc
-
--- a verdict that passes is met
-passed : (verdict : Verdict) → is_met verdict ≡ true → (value : ℕ) × (verdict ≡ Met value)
-passed (Met value) is = (value, refl)
-passed (Broken value) is = absurd cc
-passed (Unshown value) is = absurd cc
 
 module _ (model : SystemModel) (valid : IsValid model) where
   abbrev system : System
@@ -87,17 +79,6 @@ module _ (model : SystemModel) (valid : IsValid model) where
 
   -- ---- verified
 
-  -- a job of a task that isn't late has finished by its deadline
-  by_deadline : (task : ℕ) → task < length model.tasks → is_late (answer_at (tight_answers_of system) task) ≡ false
-      → (run : Run) → IsLegal system run → (job : ℕ) → job < length (jobs_of run task)
-      → (job_at (jobs_of run task) job).arrival + (timing_at system task).deadline ≤ run.table.ticks
-      → (finish : ℕ) × JobFinishes system run task job finish × (finish ≤ (job_at (jobs_of run task) job).arrival + (timing_at system task).deadline)
-  by_deadline task within timely run legal job known lasts =
-      let is = timely_task model valid task within timely in
-      let early = is.by_deadline in
-      let (finish, finishes, soon) = (is.always run legal).each job known (omega (arith, early, lasts)) in
-      (finish, finishes, omega (arith, early, soon))
-
   each_timely : list_all (λ (answer : TaskAnswer). not (is_late answer)) (tight_answers_of system) ≡ true
       → (task : ℕ) → task < length model.tasks → is_late (answer_at (tight_answers_of system) task) ≡ false
   unfolding tight_answers_of
@@ -108,7 +89,7 @@ module _ (model : SystemModel) (valid : IsValid model) where
 
   each_kept : list_all is_met verdicts ≡ true → (i : ℕ) → i < length model.requirements → IsKept model (requirement_at model i)
   each_kept all i within =
-      let (value, is) = passed (verdict_at verdicts i) (AllPass-from_list_all is_met verdicts all i (Unshown None)
+      let (value, is) = met_value (verdict_at verdicts i) (AllPass-from_list_all is_met verdicts all i (Unshown None)
       (omega (arith, within, length-map model.requirements (tight_verdict_of model (tight_chain_answers_of model))))) in
       met_found i value within is
 
@@ -117,6 +98,6 @@ module _ (model : SystemModel) (valid : IsValid model) where
   verified_in_time is =
       let both = and_parts (list_all (λ (answer : TaskAnswer). not (is_late answer)) (tight_answers_of system)) (list_all is_met verdicts) is in
       record {
-        deadlines = λ run legal task job within. by_deadline task within (each_timely both.0 task within) run legal job;
+        deadlines = meets_deadlines model (tight_response system) (λ task within. timely_task model valid task within (each_timely both.0 task within));
         requirements = each_kept both.1;
       }

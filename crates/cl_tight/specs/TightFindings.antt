@@ -9,18 +9,18 @@ use Rattle.cl_model.specs.Groups.{steps_of, groups_of, groups_at}
 use Rattle.cl_runs.specs.TaskTiming.{System}
 use Rattle.cl_runs.specs.SystemOf.{system_of}
 use Rattle.cl_runs.specs.Requirements.{required_chain}
+use Rattle.cl_stim.specs.Multiples.{common_multiple}
 use Rattle.cl_bound.specs.declared.answer.TaskAnswer.{TaskAnswer}
 use Rattle.cl_bound.specs.Answers.{is_late}
 use Rattle.cl_exact.specs.TimedPeriodic.{is_timed_periodic_chain}
 use Rattle.cl_exact.specs.Hyperperiod.{period_of, hyper_limit}
-use Rattle.cl_phase.specs.Kept.{common_multiple}
 use Rattle.cl_phase.specs.TightAnswers.{tight_answers_of, tight_response}
 use Rattle.cl_phase.specs.TightBounds.{tight_bounds}
 use Rattle.cl_analyse.specs.declared.findings.ChainAnswer.{ChainAnswer}
 use Rattle.cl_analyse.specs.declared.findings.Verdict.{Verdict}
 use Rattle.cl_analyse.specs.declared.findings.Verdict.TheVariants.{Met, Broken, Unshown}
 use Rattle.cl_analyse.specs.ChainAnswers.{first_late, chain_answer, chain_answer_at}
-use Rattle.cl_analyse.specs.Verdicts.{bound_value, verdict_on}
+use Rattle.cl_analyse.specs.Verdicts.{bound_value, verdict_on, is_met}
 use Rattle.cl_tight.specs.declared.findings.TightFindings.{TightFindings}
 
 -- ---- chains
@@ -41,7 +41,7 @@ tight_chain_answers_of model = map (tight_chain_answer_of model) model.chains
 unfoldable pub common_period : System → List Group → ℕ
 common_period system groups = fold (λ ticks (group : Group). common_multiple (period_of system group) ticks) 1 groups
 
--- whether the tight bounds of a chain are its exact lengths, as a rule: its tasks are all timed and periodic, and its
+-- whether the tight bounds of a chain are its exact lengths, by a rule: its tasks are all timed and periodic, and its
 -- hyperperiod is within the limit on exact lengths
 unfoldable pub has_exact_bounds : SystemModel → (chain : ℕ) → Bool
 has_exact_bounds model chain =
@@ -72,11 +72,6 @@ tight_findings_of model = record {
 }
 
 -- ---- what verifies a model
-
-abbrev pub is_met : Verdict → Bool
-is_met (Met value) = true
-is_met (Broken value) = false
-is_met (Unshown value) = false
 
 -- a model is verified where no task is late and each requirement is met
 unfoldable pub is_verified : TightFindings → Bool

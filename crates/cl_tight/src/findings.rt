@@ -6,10 +6,10 @@ use cl_model::List;
 /// What is found of a model by tight responses and tight bounds.
 #[derive(Debug, PartialEq, Eq, Drop)]
 pub struct TightFindings {
-    /// For each task, in file order.
+    /// The answer to the tight question of each task, in file order.
     pub tasks: List<TaskAnswer>,
-    /// For each chain, in file order.
+    /// The tight bounds of each chain or its first late task, in file order.
     pub chains: List<ChainAnswer>,
-    /// For each requirement, in file order.
+    /// The verdict on each requirement, in file order.
     pub verdicts: List<Verdict>,
 }

@@ -1,4 +1,5 @@
-//! Tight findings of a valid model are safe, at least as tight as those of the report, and verify what they say.
+//! Tight findings of a valid model are safe, at least as tight as those of the report, and verify
+//! that a model is in time.
 ghost use Rattle.std.specs.Prelude.{◌≡◌, true};
 ghost use Rattle.cl_model.specs.declared.model.SystemModel.{SystemModel};
 ghost use Rattle.cl_model.specs.Validity.{IsValid};
@@ -10,20 +11,24 @@ ghost use Rattle.cl_tight.specs.Promises.{AreSafeTightFindings, AreAsTight};
 
 pub mod exact;
 
-/// In every legal run of a valid model, of any length, each job of a settled task finishes within its tight response,
-/// and no complete chain is longer than its tight bound. What is met is kept, and what is broken is broken in some run.
+/// In every legal run of a valid model, of any length, each job of a settled task finishes within
+/// its tight response, and no complete chain is longer than its tight bound. Each requirement that
+/// is found met is kept, and each that is found broken is broken in some legal run.
 pub fn tight_findings_are_safe()
-    ensures { (model : SystemModel) → IsValid model → AreSafeTightFindings model (tight_findings_of model) }
+    ensures { (model : SystemModel) → IsValid model
+        → AreSafeTightFindings model (tight_findings_of model) }
 {}
 
-/// Tight responses are no later than the report's, tight bounds no greater, and where the report has exact lengths they
-/// are these.
+/// Tight responses are no later than those of the report, and tight bounds are at most those of the
+/// report. Where the report has exact lengths, the tight bounds are these lengths.
 pub fn tight_findings_are_as_tight()
     ensures { (model : SystemModel) → IsValid model → (report : Findings) → AreFindings model report
         → AreAsTight model (tight_findings_of model) report }
 {}
 
-/// A model that is verified is in time.
+/// A valid model that is verified is in time: in every legal run, each job whose deadline lies
+/// within the run has finished by then, and each requirement is kept.
 pub fn verified_models_are_in_time()
-    ensures { (model : SystemModel) → IsValid model → is_verified (tight_findings_of model) ≡ true → IsInTime model }
+    ensures { (model : SystemModel) → IsValid model → is_verified (tight_findings_of model) ≡ true
+        → IsInTime model }
 {}

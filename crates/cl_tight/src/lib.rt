@@ -1,4 +1,5 @@
-//! What is found of a model by tight responses and tight bounds, and whether that verifies it.
+//! What is found of a model by tight responses and tight bounds, and whether that verifies the
+//! model.
 //!
 //! Times are in ticks.
 #![tactic(auto)]

@@ -7,7 +7,8 @@ ghost use Rattle.cl_runs.specs.SystemOf.{system_of};
 ghost use Rattle.cl_runs.specs.Requirements.{required_chain, IsInTime};
 ghost use Rattle.cl_bound.specs.Answers.{is_late};
 ghost use Rattle.cl_phase.specs.TightAnswers.{tight_answers_of};
-ghost use Rattle.cl_tight.specs.TightFindings.{tight_chain_answer_of, tight_chain_answers_of, has_exact_bounds, tight_verdict_of, tight_findings_of, is_met, is_verified};
+ghost use Rattle.cl_analyse.specs.Verdicts.{is_met};
+ghost use Rattle.cl_tight.specs.TightFindings.{tight_chain_answer_of, tight_chain_answers_of, has_exact_bounds, tight_verdict_of, tight_findings_of, is_verified};
 ghost use Rattle.cl_tight.specs.Promises.{AreSafeTightFindings};
 
 use crate::findings::TightFindings;
@@ -21,15 +22,17 @@ use cl_time::{NoMemory, Steps};
 use std::alloc::Global;
 use std::sync::ledger::Ledger;
 
-/// What is found of a model by tight responses and tight bounds: the tight response of each task, the tight bounds of
-/// each chain none of whose tasks is late by them, and the verdict on each requirement.
+/// Analyses a model by tight responses and tight bounds: finds the tight response of each task, the
+/// tight bounds of each chain none of whose tasks is late by them, and the verdict on each
+/// requirement.
 ///
-/// In each legal run, of any length, each job of a settled task finishes within its response of its arrival where the
-/// run lasts so long, and each bound is at least the length of each complete chain of its kind. A requirement that is
-/// met is kept by each complete chain, and one that is broken isn't by some chain of some legal run.
+/// In each legal run, of any length, each job of a settled task finishes at most the tight response
+/// after its arrival, if the run lasts until then, and each bound is at least the length of each
+/// complete chain of its kind. A requirement that is found met is kept by each complete chain of
+/// its chain and kind, and one that is found broken is broken by some such chain of some legal run.
 ///
-/// It counts a step for each task. `NoMemory` comes where there is no memory for the findings or for a question; it
-/// leaves nothing.
+/// It counts a step for each task. `NoMemory` comes where there is no memory for the findings, for
+/// a question or for the order in which tasks are asked; it leaves nothing.
 pub fn tighten<L: Ledger>(
     alloc: Global,
     model: &ValidModel,
@@ -49,7 +52,7 @@ pub fn tighten<L: Ledger>(
     })
 }
 
-/// The answers to the tight questions of all tasks.
+/// Answers the tight questions of all tasks.
 fn answer_tightly<L: Ledger>(
     alloc: Global,
     model: &ValidModel,
@@ -62,7 +65,7 @@ fn answer_tightly<L: Ledger>(
     answer_tasks(alloc, model, Block::OfLower, steps)
 }
 
-/// The answers for all chains, from those for all tasks.
+/// Answers for all chains, from the tight answers for all tasks.
 fn tighten_chains(
     alloc: Global,
     model: &ValidModel,
@@ -78,7 +81,8 @@ fn tighten_chains(
     Ok(answers)
 }
 
-/// The answer for a chain, from those for all tasks: its tight bounds, or the first of its tasks that is late.
+/// Answers for a chain, from the tight answers for all tasks: finds its tight bounds, or the first
+/// of its tasks that is late.
 fn tighten_chain(model: &ValidModel, chain: u32, tasks: &List<TaskAnswer>) -> ChainAnswer
     requires chain { chain < length model.now.chains }
     requires answers { tasks.now ≡ tight_answers_of (system_of model.now) }
@@ -90,7 +94,8 @@ fn tighten_chain(model: &ValidModel, chain: u32, tasks: &List<TaskAnswer>) -> Ch
     }
 }
 
-/// Whether the tight bounds of a chain are its exact lengths.
+/// Checks whether the tight bounds of a chain are its exact lengths by a rule: its tasks are all
+/// timed and periodic, and its hyperperiod is within the limit.
 fn has_exact_bounds(model: &ValidModel, chain: u32) -> bool
     requires chain { chain < length model.now.chains }
     requires valid { IsValid model.now }
@@ -99,13 +104,14 @@ fn has_exact_bounds(model: &ValidModel, chain: u32) -> bool
     is_timed_periodic(model, chain) && is_within_limit(model, chain)
 }
 
-/// The verdicts on all requirements.
+/// Judges all requirements, in file order.
 fn judge_all_tightly(
     alloc: Global,
     model: &ValidModel,
     chains: &List<ChainAnswer>,
 ) -> Result<List<Verdict>, NoMemory>
-    ensures { IfOk result (λ verdicts. verdicts ≡ map (tight_verdict_of model.now chains.now) model.now.requirements) }
+    ensures { IfOk result
+        (λ verdicts. verdicts ≡ map (tight_verdict_of model.now chains.now) model.now.requirements) }
 {
     let mut verdicts = List::new(alloc);
     for requirement in model.plain().requirements.as_slice() {
@@ -114,7 +120,7 @@ fn judge_all_tightly(
     Ok(verdicts)
 }
 
-/// The verdict on a requirement of the model.
+/// Judges a requirement of the model.
 fn judge_tightly(
     model: &ValidModel,
     chains: &List<ChainAnswer>,
@@ -134,9 +140,10 @@ fn judge_tightly(
     verdict_on(requirement.most, exact, bound)
 }
 
-/// Whether each task is settled and each requirement met. Then, in each legal run of any length, every job whose
-/// deadline lies within the run has finished by then, and every complete chain of each requirement's chain and kind
-/// is at most as long as it says. The findings are those of the model.
+/// Checks whether each task is settled and each requirement met, by the tight findings of the
+/// model. If so, then in each legal run of any length, each job whose deadline lies within the run
+/// has finished by then, and each complete chain of a requirement's chain and kind is at most as
+/// long as the requirement says. It takes no memory.
 pub fn is_verified(model: &ValidModel, findings: &TightFindings) -> bool
     requires { findings.now ≡ tight_findings_of model.now }
     ensures verified { result ≡ is_verified findings.now }
@@ -145,7 +152,7 @@ pub fn is_verified(model: &ValidModel, findings: &TightFindings) -> bool
     are_in_time(model, findings.tasks.as_slice()) && are_met(findings.verdicts.as_slice())
 }
 
-/// Whether no task of the model is late, by the tight answers for all of them.
+/// Checks whether no task of the model is late, by the tight answers for all of them.
 fn are_in_time(model: &ValidModel, answers: &[TaskAnswer]) -> bool
     requires { answers.now ≡ tight_answers_of (system_of model.now) }
     ensures timely { result ≡ list_all (λ answer. not (is_late answer)) answers.now }
@@ -159,14 +166,14 @@ fn are_in_time(model: &ValidModel, answers: &[TaskAnswer]) -> bool
     true
 }
 
-/// Whether each requirement is met.
+/// Checks whether each requirement is met.
 fn are_met(verdicts: &[Verdict]) -> bool
     ensures { result ≡ list_all is_met verdicts.now }
 {
     verdicts.iter().all(|verdict| is_met(verdict))
 }
 
-/// Whether a requirement is met.
+/// Checks whether a requirement is met.
 fn is_met(verdict: &Verdict) -> bool
     ensures { result ≡ is_met verdict.now }
 {

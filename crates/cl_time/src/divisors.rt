@@ -3,10 +3,10 @@ ghost use Rattle.std.specs.Int.{IsGcd};
 ghost use Rattle.std.specs.Option.{SomeIff};
 ghost use Rattle.cl_time.specs.Divisors.{IsLcm};
 
-/// The greatest common divisor of two numbers, by Euclid's algorithm.
+/// Finds the greatest common divisor of two numbers by Euclid's algorithm.
 ///
-/// `gcd(0, 0)` is 0: every number divides 0, and 0 is the one number that all of them divide. It is
-/// total, and takes no memory.
+/// `gcd(0, 0)` is 0: every number divides 0, and 0 is the only number that all of them divide. It
+/// is defined for all numbers and takes no memory.
 pub fn gcd(a: u64, b: u64) -> u64
     ensures { IsGcd a b result }
 {
@@ -20,10 +20,10 @@ pub fn gcd(a: u64, b: u64) -> u64
     x
 }
 
-/// The least common multiple of two numbers, neither of them 0, if it is at most `limit`.
+/// Finds the least common multiple of two numbers, neither of them 0, if it is at most `limit`.
 ///
-/// `None` comes exactly where the least common multiple exceeds `limit`, which it does wherever it
-/// does not fit 64 bits. It takes no memory.
+/// Returns `None` exactly where the least common multiple exceeds `limit`, and so wherever it does
+/// not fit 64 bits. Takes no memory.
 pub fn lcm_upto(a: u64, b: u64, limit: u64) -> Option<u64>
     requires a_positive { 0 < a }
     requires b_positive { 0 < b }

@@ -1,6 +1,7 @@
 use std::alloc::{AllocError, AllocFailed};
 
-/// Memory ran out. Every call that allocates may answer it, and it is merged with no other fault.
+/// The error that memory ran out. A call that allocates may return it, and it is kept apart from
+/// every other fault.
 #[derive(Clone, Copy, Debug, PartialEq, Eq)]
 pub struct NoMemory;
 

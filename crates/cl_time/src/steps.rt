@@ -3,14 +3,14 @@ ghost use Rattle.std.specs.Prelude.{◌≡◌, ◌+◌, ◌<◌};
 use std::marker::Model;
 use std::sync::ledger::{Blank, Book, Ledger, Share};
 
-/// A counter of analysing steps, seen by contracts as the number of steps so far.
+/// A counter of analysing steps. Contracts see it as the number of steps so far.
 ///
 /// It stands on a ledger `L` of std, whose tokens take no bytes, so neither the counter nor a tick
-/// costs anything at run time; no code can read it. Only `tick` changes it.
+/// costs anything at run time, and no code can read it. Only `tick` changes it.
 ///
-/// A caller makes a counter inside a function that is generic in `L` and takes a [`Blank`], with the
-/// conditions of `Steps::open`, and calls that function with `Brand` for `L` and `Blank::new(1)`. The
-/// proof of that call picks the ledger of the blank.
+/// A caller makes a counter inside a function that is generic in `L` and takes a [`Blank`], under
+/// the conditions of `Steps::open`, and calls that function with `Brand` for `L` and
+/// `Blank::new(1)`. The proof of that call picks the ledger of the blank.
 #[derive(Drop)]
 pub struct Steps<L: Ledger> {
     book: Book<L>,
@@ -28,8 +28,8 @@ impl<L: Ledger> Model for Steps<L> {
 }
 
 impl<L: Ledger> Steps<L> {
-    /// A counter at 0 over the blank's ledger. The blank is of that ledger and has a part. It takes
-    /// no memory.
+    /// Opens a counter at 0 on the ledger of the blank, which has the name and the parts of `L` and
+    /// at least one part. Takes no memory.
     pub fn open(blank: Blank) -> Self
         requires name { blank.name ≡ L.name }
         requires parts { blank.parts ≡ L.parts }
@@ -40,7 +40,7 @@ impl<L: Ledger> Steps<L> {
         Steps { book, share }
     }
 
-    /// Counts one step. It does nothing at run time, and takes no memory.
+    /// Counts one step. Does nothing at run time and takes no memory.
     pub fn tick(&mut self)
         ensures { self.new ≡ self.old + 1 }
     {

@@ -1,5 +1,5 @@
 -- The text of `migrate` is analysed as the file that it was made of.
-use Rattle.std.proofs.Common.{◌≡◌, ◌↔◌, ℕ, List, Some, Ok, sym, ap, subst, ◌∙◌}
+use Rattle.std.proofs.Common.{◌≡◌, ◌↔◌, ℕ, List, Some, Ok, sym, ap, subst, ◌∙◌, inl}
 use Rattle.cl_model.specs.declared.model.SystemModel.{SystemModel}
 use Rattle.cl_model.specs.Reading.{model_of}
 use Rattle.cl_engine.specs.declared.files.TheConstants.{FILE_LIMIT}
@@ -28,7 +28,7 @@ pub analysed_alike : (contents migrated : ℕ → List ℕ) (found : Outcome) �
     → HasOutcome commands (Some Analyse) (told_fetch contents) found ↔ HasOutcome commands (Some Analyse) (told_fetch migrated) found
 unfolding meaning_of
 analysed_alike contents migrated found file =
-    let (bytes, gave, (model, means, written)) = done_model file.outcome file.done (told_fetch contents model_file) (λ model. IsOutcomeOf Migrate (Model model)) file.comes in
+    let (bytes, gave, (model, means, written)) = done_model file.outcome (inl file.done) (told_fetch contents model_file) (λ model. IsOutcomeOf Migrate (Model model)) file.comes in
     let first = analysis_of (told_fetch contents model_file) bytes model found gave means.means in
     let second = analysis_of (told_fetch migrated model_file) (migrated 1) model found (told_bytes FILE_LIMIT (migrated 1) file.within) (ap model_of file.holds ∙ written.text_is.reads) in
     (λ is. subst (λ X. X) (first ∙ sym second) is, λ is. subst (λ X. X) (second ∙ sym first) is)

@@ -1,5 +1,5 @@
 -- The commands of the program as the engine takes them: each has an outcome, outcomes of the same words say the same, and
--- what is printed with status 0 is safe.
+-- what is printed is safe.
 use Rattle.std.proofs.Common.{◌≡◌, ℕ, List, [], ◌∷◌, Option, Some, None, refl, sym, ap, ◌∙◌, subst, length, inl, inr, arith, ◌≤◌}
 use Rattle.cl_io.specs.Shelf.{Held, Content as Told, MayBe}
 use Rattle.cl_io.specs.Sink.{appended}
@@ -7,25 +7,28 @@ use Rattle.cl_engine.specs.declared.files.Files.{Files}
 use Rattle.cl_engine.specs.declared.files.Files.TheVariants as files
 use Rattle.cl_engine.specs.declared.files.TheConstants.{FILE_LIMIT}
 use Rattle.cl_engine.specs.declared.outcome.Outcome.{Outcome}
-use Rattle.cl_engine.specs.declared.status.TheConstants.{DONE}
+use Rattle.cl_engine.specs.declared.status.TheConstants.{DONE, EDITS_REFUSED}
 use Rattle.cl_engine.specs.Calls.{ShelfCall, SinkCall}
 use Rattle.cl_engine.specs.Content.{Content, Nothing, Bytes as Whole, Model, ModelAnd, Fits, Means}
 use Rattle.cl_engine.specs.Fetched.{Fetched, Bytes, MayGive, EachFile, WasFetched, TellsFiles, told_fetch}
 use Rattle.cl_engine.specs.Files.{File, model_file, files_named, word}
 use Rattle.cl_engine.specs.SoundCall.{IsSoundCall}
-use Rattle.cl_engine.specs.Language.{MayEnd, files_asked, files_of as files_of_words}
+use Rattle.cl_engine.specs.Language.{IsOfContent, MayEnd, files_asked, files_of as files_of_words}
 use Rattle.cl_engine.specs.Outcome.{words_refused, HasOutcome}
 use Rattle.cl_engine.specs.Run.{ComesAs, ComesTo, IsCarriedOut, Ends}
 use Rattle.cl_engine.proofs.Openings.{valid_read}
-use Rattle.cl_engine.proofs.Outcomes.{SomeOutcome, some_opens, same_opens, IsOfTold, opens_of_told, done_model}
-use Rattle.cl_engine.proofs.Tellings.{IsToldDone, told_done}
+use Rattle.cl_engine.proofs.Outcomes.{IsOpened, SomeOutcome, some_opens, same_opens, IsOfTold, opens_of_told, done_model, no_want}
+use Rattle.cl_engine.proofs.Tellings.{IsToldOwn, told_own}
 use Rattle.cl_top.specs.declared.command.Command.{Command}
-use Rattle.cl_top.specs.declared.command.Command.TheVariants.{Analyse, Verify}
+use Rattle.cl_top.specs.declared.command.Command.TheVariants.{Analyse, Verify, Edit}
 use Rattle.cl_top.specs.Command.{files_read, command_of}
 use Rattle.cl_top.specs.Commands.{meaning_of, commands, IsOutcomeOf, TakesStepsOf, SaysTheSame}
+use Rattle.cl_top.specs.Commands.Edit.{StopsSafely}
 use Rattle.cl_top.specs.Headline.{HasReported, HasReportedSome}
-use Rattle.cl_top.specs.Printed.{HasPrintedSafe, ProvesInTime}
+use Rattle.cl_top.specs.Meaning.{promises_of_both}
+use Rattle.cl_top.specs.Printed.{HasPrinted, HasPrintedSafe, HasStoppedSafely, ProvesInTime}
 use Rattle.cl_top.proofs.WellMeant.{meant_well, asks_for_few}
+use Rattle.cl_top.proofs.WellMeant.Edit.{stops_safely}
 use Rattle.cl_top.proofs.SafeReport.{safe_report_of}
 
 -- ---- the laws of outcomes
@@ -74,83 +77,113 @@ as_asked P asked own content is none fits holds =
 -- ---- what is printed
 
 module _ (words : List (List ℕ)) (shelf : ShelfCall) {S K : Type 0} (before after : S) (sink : SinkCall K) (steps steps_after status : ℕ)
-    (kept : IsSoundCall commands words shelf before after sink steps steps_after status) (is_done : status ≡ DONE) where
-  carried_of : (comes : Outcome → Type 0) → Ends comes sink status → IsCarriedOut comes sink status
-  carried_of comes (inl memory) = absurd (omega (arith, is_done, memory.fault_status))
-  carried_of comes (inr carried) = carried
+    (kept : IsSoundCall commands words shelf before after sink steps steps_after status) where
+  carried_of : (comes : Outcome → Type 0) → IsOfContent status → Ends comes sink status → IsCarriedOut comes sink status
+  carried_of comes own (inl memory) = absurd (no_want status own memory.fault_status)
+  carried_of comes own (inr carried) = carried
 
-  module _ (asked : Command) (is_asked : command_of words ≡ Some asked) (contents : ℕ → List ℕ)
+  -- what a command printed that ended with a status of its own
+  module _ (own : IsOfContent status) (asked : Command) (is_asked : command_of words ≡ Some asked) (contents : ℕ → List ℕ)
       (tells : TellsFiles (files_of_words commands words) words shelf.held contents) where
-    told : IsToldDone commands words contents sink
-    told = told_done commands words shelf contents sink status is_done (carried_of _ (kept.told_files contents tells))
+    told : IsToldOwn commands words contents sink status
+    told = told_own commands words shelf contents sink status own (carried_of _ own (kept.told_files contents tells))
 
     holds : IsOfTold (files_read asked) contents (IsOutcomeOf asked) told.found
-    holds = opens_of_told contents (IsOutcomeOf asked) told.found told.done (files_read asked)
+    holds = opens_of_told contents (IsOutcomeOf asked) told.found (subst IsOfContent (sym told.own_status) own) (files_read asked)
         (subst (λ (c : Option Command). HasOutcome commands c (told_fetch contents) told.found) is_asked told.has)
 
-    pub printed_safe : HasPrintedSafe sink asked contents
-    printed_safe = record {
+    printed : (promise : Content → List ℕ → Type 0)
+        → ((content : Content) → IsOpened content → (found : Outcome) → IsOutcomeOf asked content found → found.status ≡ status → promise content found.text)
+        → HasPrinted sink asked contents promise
+    printed promise keeps = record {
       content = holds.content;
       means = holds.means;
       text = told.found.text;
-      safe = (meant_well asked).holds holds.content holds.opened told.found holds.comes told.done;
+      safe = keeps holds.content holds.opened told.found holds.comes told.own_status;
       whole = told.whole;
     }
 
-  -- one file that is told
-  one_told : (asked : Command) → command_of words ≡ Some asked → files_named (files_read asked) ≡ model_file ∷ [] → (bytes : List ℕ) → shelf.held (word words 1) ≡ Told bytes
-      → TellsFiles (files_of_words commands words) words shelf.held (λ _. bytes)
-  one_told asked is alone bytes tells =
-      subst (λ files. TellsFiles files words shelf.held (λ _. bytes)) (sym (ap (files_asked commands) is ∙ alone)) (tells, tt)
+  -- ---- where a line of edits is refused
 
-  pub proves_in_time : command_of words ≡ Some Verify → (bytes : List ℕ) → shelf.held (word words 1) ≡ Told bytes → ProvesInTime bytes
+  refused_content : status ≡ EDITS_REFUSED → IsOfContent status
+  refused_content seven = inr (inl (omega (arith, seven), omega (arith, seven)))
+
+  stopped_content : (content : Content) → IsOpened content → (found : Outcome) → IsOutcomeOf Edit content found → found.status ≡ EDITS_REFUSED → promises_of_both StopsSafely content found.text
   unfolding meaning_of
-  proves_in_time is bytes tells = of_content (printed_safe Verify is (λ _. bytes) (one_told Verify is refl bytes tells))
-    where
-      of_content : HasPrintedSafe sink Verify (λ _. bytes) → ProvesInTime bytes
-      of_content printed = of_cases printed.content printed.means printed.safe
-        where
-          of_cases : (content : Content) → Means files.Model (λ _. bytes) content → (meaning_of Verify).safe content printed.text → ProvesInTime bytes
-          of_cases Nothing means safe = absurd means
-          of_cases (Whole whole) means safe = absurd means
-          of_cases (Model model) means safe = record { model = model; means = means.means; valid = valid_read bytes model means; in_time = safe }
-          of_cases (ModelAnd model text) means safe = absurd means
+  stopped_content Nothing opened found is seven = absurd is
+  stopped_content (Whole bytes) opened found is seven = absurd is
+  stopped_content (Model model) opened found is seven = absurd is
+  stopped_content (ModelAnd model text) opened found is seven = stops_safely model opened.0 text found is seven
 
-  -- ---- what `analyse` has written
+  pub stopped_safely : status ≡ EDITS_REFUSED → command_of words ≡ Some Edit → (contents : ℕ → List ℕ)
+      → TellsFiles (files_of_words commands words) words shelf.held contents → HasStoppedSafely sink contents
+  stopped_safely seven is contents tells =
+      printed (refused_content seven) Edit is contents tells (promises_of_both StopsSafely)
+      (λ content opened found comes own. stopped_content content opened found comes (own ∙ seven))
 
-  module _ (is : command_of words ≡ Some Analyse) where
-    given : (fetch : Fetched) (bytes : List ℕ) → fetch ≡ Bytes bytes → MayGive shelf (word words 1) FILE_LIMIT fetch → MayBe (shelf.held (word words 1)) bytes × (length bytes ≤ FILE_LIMIT)
-    given fetch bytes gave may = subst (λ (f : Fetched). MayGive shelf (word words 1) FILE_LIMIT f) gave may
+  -- ---- where it did what it says
 
-    by_whole : (found : Outcome) → ComesAs commands (Some Analyse) words shelf found → found.status ≡ DONE → sink.written sink.after ≡ appended (sink.written sink.before) found.text
-        → HasReportedSome (shelf.held (word words 1)) sink
+  module _ (is_done : status ≡ DONE) where
+    pub printed_safe : (asked : Command) → command_of words ≡ Some asked → (contents : ℕ → List ℕ) → TellsFiles (files_of_words commands words) words shelf.held contents
+        → HasPrintedSafe sink asked contents
+    printed_safe asked is contents tells =
+        printed (inl is_done) asked is contents tells (meaning_of asked).safe
+        (λ content opened found comes own. (meant_well asked).holds content opened found comes (own ∙ is_done))
+
+    -- one file that is told
+    one_told : (asked : Command) → command_of words ≡ Some asked → files_named (files_read asked) ≡ model_file ∷ [] → (bytes : List ℕ) → shelf.held (word words 1) ≡ Told bytes
+        → TellsFiles (files_of_words commands words) words shelf.held (λ _. bytes)
+    one_told asked is alone bytes tells =
+        subst (λ files. TellsFiles files words shelf.held (λ _. bytes)) (sym (ap (files_asked commands) is ∙ alone)) (tells, tt)
+
+    pub proves_in_time : command_of words ≡ Some Verify → (bytes : List ℕ) → shelf.held (word words 1) ≡ Told bytes → ProvesInTime bytes
     unfolding meaning_of
-    by_whole found comes done whole =
-        let (bytes, gave, (model, means, outcome)) = done_model found done (comes.gave model_file) (λ model. IsOutcomeOf Analyse (Model model)) comes.follows in
-        let may = given (comes.gave model_file) bytes gave comes.files.0 in
-        record {
-          bytes = bytes;
-          may_be = may.0;
-          within = may.1;
-          reported = record {
-            text = found.text;
-            is_safe = record { model = model; means = means.means; report = safe_report_of model found.text (valid_read bytes model means) outcome.text_is };
-            whole = whole;
-          };
-        }
+    proves_in_time is bytes tells = of_content (printed_safe Verify is (λ _. bytes) (one_told Verify is refl bytes tells))
+      where
+        of_content : HasPrintedSafe sink Verify (λ _. bytes) → ProvesInTime bytes
+        of_content printed = of_cases printed.content printed.means printed.safe
+          where
+            of_cases : (content : Content) → Means files.Model (λ _. bytes) content → (meaning_of Verify).safe content printed.text → ProvesInTime bytes
+            of_cases Nothing means safe = absurd means
+            of_cases (Whole whole) means safe = absurd means
+            of_cases (Model model) means safe = record { model = model; means = means.means; valid = valid_read bytes model means; in_time = safe }
+            of_cases (ModelAnd model text) means safe = absurd means
 
-    by_end : IsCarriedOut (ComesTo commands words shelf) sink status → HasReportedSome (shelf.held (word words 1)) sink
-    by_end carried = elim carried.carried [
-      | inl whole ↦ by_whole carried.found (subst (λ (c : Option Command). ComesAs commands c words shelf carried.found) is carried.comes_to)
-          (sym whole.own_status ∙ is_done) whole.whole_text
-      | inr cut ↦ absurd (omega (arith, cut.fault_status, is_done))
-    ]
+    -- ---- what `analyse` has written
 
-    pub reports_some : HasReportedSome (shelf.held (word words 1)) sink
-    reports_some = by_end (carried_of _ kept.ends)
+    module _ (is : command_of words ≡ Some Analyse) where
+      given : (fetch : Fetched) (bytes : List ℕ) → fetch ≡ Bytes bytes → MayGive shelf (word words 1) FILE_LIMIT fetch → MayBe (shelf.held (word words 1)) bytes × (length bytes ≤ FILE_LIMIT)
+      given fetch bytes gave may = subst (λ (f : Fetched). MayGive shelf (word words 1) FILE_LIMIT f) gave may
 
-    -- and so of the very bytes, where they are told
-    pub reports_told : (bytes : List ℕ) → shelf.held (word words 1) ≡ Told bytes → HasReported sink bytes
-    reports_told bytes tells =
-        let same : reports_some.bytes ≡ bytes = subst (λ (h : Held). MayBe h reports_some.bytes) tells reports_some.may_be in
-        subst (λ (b : List ℕ). HasReported sink b) same reports_some.reported
+      by_whole : (found : Outcome) → ComesAs commands (Some Analyse) words shelf found → found.status ≡ DONE → sink.written sink.after ≡ appended (sink.written sink.before) found.text
+          → HasReportedSome (shelf.held (word words 1)) sink
+      unfolding meaning_of
+      by_whole found comes done whole =
+          let (bytes, gave, (model, means, outcome)) = done_model found (inl done) (comes.gave model_file) (λ model. IsOutcomeOf Analyse (Model model)) comes.follows in
+          let may = given (comes.gave model_file) bytes gave comes.files.0 in
+          record {
+            bytes = bytes;
+            may_be = may.0;
+            within = may.1;
+            reported = record {
+              text = found.text;
+              is_safe = record { model = model; means = means.means; report = safe_report_of model found.text (valid_read bytes model means) outcome.text_is };
+              whole = whole;
+            };
+          }
+
+      by_end : IsCarriedOut (ComesTo commands words shelf) sink status → HasReportedSome (shelf.held (word words 1)) sink
+      by_end carried = elim carried.carried [
+        | inl whole ↦ by_whole carried.found (subst (λ (c : Option Command). ComesAs commands c words shelf carried.found) is carried.comes_to)
+            (sym whole.own_status ∙ is_done) whole.whole_text
+        | inr cut ↦ absurd (omega (arith, cut.fault_status, is_done))
+      ]
+
+      pub reports_some : HasReportedSome (shelf.held (word words 1)) sink
+      reports_some = by_end (carried_of _ (inl is_done) kept.ends)
+
+      -- and so of the very bytes, where they are told
+      pub reports_told : (bytes : List ℕ) → shelf.held (word words 1) ≡ Told bytes → HasReported sink bytes
+      reports_told bytes tells =
+          let same : reports_some.bytes ≡ bytes = subst (λ (h : Held). MayBe h reports_some.bytes) tells reports_some.may_be in
+          subst (λ (b : List ℕ). HasReported sink b) same reports_some.reported

@@ -86,5 +86,5 @@ module _ (contents : ℕ → List ℕ) (ticks seed : ℕ) (found : Outcome) (fil
   pub simulation_replayed : found.status ≡ DONE
   unfolding meaning_of
   simulation_replayed =
-      let (bytes, gave, (model, means, comes)) = done_model file.outcome file.done (told_fetch contents model_file) (IsSimulated ticks seed) file.comes in
+      let (bytes, gave, (model, means, comes)) = done_model file.outcome (inl file.done) (told_fetch contents model_file) (IsSimulated ticks seed) file.comes in
       of_model bytes model gave means comes

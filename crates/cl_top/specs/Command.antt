@@ -82,6 +82,7 @@ by_verb verb words =
     else if asks_version verb then whole command.Version words
     else None
 
+-- the command that words spell, or none
 unfoldable pub command_of : List (List ℕ) → Option Command
 command_of [] = None
 command_of (verb ∷ words) = by_verb verb (verb ∷ words)

@@ -16,9 +16,10 @@ use Rattle.cl_report.specs.Report.{IsReportOf}
 use Rattle.cl_report.specs.Survey.{IsSurveyOf}
 use Rattle.cl_report.specs.Tight.{tight_text, verify_text}
 use Rattle.cl_explain.specs.Explanation.{explanation}
+use Rattle.cl_explain.specs.Promises.{IsSafeExplanation}
 use Rattle.cl_designs.specs.Cuts.{IsCutTextOf}
-use Rattle.cl_designs.specs.Orders.{IsOrderTextOf}
-use Rattle.cl_designs.specs.Headroom.{IsHeadroomTextOf}
+use Rattle.cl_designs.specs.Orders.{IsOrderTextOf, IsSafeOrderText}
+use Rattle.cl_designs.specs.Headroom.{IsHeadroomTextOf, IsSafeHeadroomText}
 use Rattle.cl_engine.specs.declared.outcome.Outcome.{Outcome}
 use Rattle.cl_engine.specs.Content.{Content}
 use Rattle.cl_engine.specs.Done.{HasStatusAndText, IsDone}
@@ -46,12 +47,15 @@ saying text = record {
   same = equal;
 }
 
+-- What each command comes to, its steps, what it promises of its text, and when two outcomes of it say the same. Twelve
+-- promise something of every legal run, or of the model that they print: `analyse`, `cut`, `order`, `headroom`, `tighten`,
+-- `verify`, `explain`, `check`, `replay`, `draw`, `edit` and `apply`. The others print no bound of a given model.
 unfoldable pub meaning_of : Command → Meaning
 meaning_of command.Analyse = printing IsReportOf (at_most model_steps) (promises IsSafeReportOf)
 meaning_of command.Migrate = record { comes_to = on_model (λ model. IsDone (IsTextOf model)); takes = no_step; safe = no_promise; same = WritesTheSame }
 meaning_of command.Cut = printing IsCutTextOf any_steps (promises AreSafeCuts)
-meaning_of command.Order = printing IsOrderTextOf any_steps no_promise
-meaning_of command.Headroom = printing IsHeadroomTextOf any_steps no_promise
+meaning_of command.Order = printing IsOrderTextOf any_steps (promises IsSafeOrderText)
+meaning_of command.Headroom = printing IsHeadroomTextOf any_steps (promises IsSafeHeadroomText)
 meaning_of command.Tighten = printing (λ model text. text ≡ tight_text model) (at_most task_steps) (promises IsSafeTightReport)
 meaning_of command.Verify = record {
   comes_to = on_model (λ model. HasStatusAndText (verify_status model) (λ text. text ≡ verify_text model));
@@ -59,7 +63,7 @@ meaning_of command.Verify = record {
   safe = promises (λ model text. IsInTime model);
   same = equal;
 }
-meaning_of command.Explain = printing (λ model text. text ≡ explanation model) (at_most entry_steps) no_promise
+meaning_of command.Explain = printing (λ model text. text ≡ explanation model) (at_most entry_steps) (promises IsSafeExplanation)
 meaning_of (command.Simulate ticks seed) = simulating ticks seed
 meaning_of command.Replay = replaying
 meaning_of (command.Draw from to) = drawing from to

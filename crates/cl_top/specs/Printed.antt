@@ -1,4 +1,4 @@
--- What a command has printed with status 0, from the bytes of its files to the bytes of the text (docs/promises.md).
+-- What a command has printed, from the bytes of its files to the bytes of the text (docs/promises.md).
 use Rattle.std.specs.Prelude.{◌≡◌, ℕ, List, Ok}
 use Rattle.cl_io.specs.Sink.{appended}
 use Rattle.cl_model.specs.declared.model.SystemModel.{SystemModel}
@@ -8,17 +8,27 @@ use Rattle.cl_runs.specs.Requirements.{IsInTime}
 use Rattle.cl_engine.specs.Calls.{SinkCall}
 use Rattle.cl_engine.specs.Content.{Content, Means}
 use Rattle.cl_top.specs.declared.command.Command.{Command}
+use Rattle.cl_top.specs.declared.command.Command.TheVariants as command
 use Rattle.cl_top.specs.Command.{files_read}
 use Rattle.cl_top.specs.Commands.{meaning_of}
+use Rattle.cl_top.specs.Commands.Edit.{StopsSafely}
+use Rattle.cl_top.specs.Meaning.{promises_of_both}
 
--- Files of these bytes hold something, what the command promises of its text for that holds of this text, and the text was
--- written, and nothing else.
-pub record HasPrintedSafe {K : Type 0} (sink : SinkCall K) (asked : Command) (contents : ℕ → List ℕ) : Type 0 where
+-- Files of these bytes hold something, this is promised of the text for that, and the text was written, and nothing else.
+pub record HasPrinted {K : Type 0} (sink : SinkCall K) (asked : Command) (contents : ℕ → List ℕ) (promise : Content → (text : List ℕ) → Type 0) : Type 0 where
   pub content : Content
   pub means : Means (files_read asked) contents content
   pub text : List ℕ
-  pub safe : (meaning_of asked).safe content text
+  pub safe : promise content text
   pub whole : sink.written sink.after ≡ appended (sink.written sink.before) text
+
+-- so it is with what the command promises of its text
+abbrev pub HasPrintedSafe : {K : Type 0} → SinkCall K → (asked : Command) (contents : ℕ → List ℕ) → Type 0
+HasPrintedSafe sink asked contents = HasPrinted sink asked contents (meaning_of asked).safe
+
+-- and with what `edit` promises where a line of its edits is refused
+abbrev pub HasStoppedSafely : {K : Type 0} → SinkCall K → (contents : ℕ → List ℕ) → Type 0
+HasStoppedSafely sink contents = HasPrinted sink command.Edit contents (promises_of_both StopsSafely)
 
 -- The model that the bytes mean is in time: in every legal run, of any length, every job whose deadline lies within the
 -- run has finished by then, and no complete chain of a requirement's chain and kind is longer than it says.

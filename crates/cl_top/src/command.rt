@@ -13,48 +13,55 @@ use cl_picture::MOST_WINDOW;
 /// The most bytes that a trace file may have.
 pub const TRACE_LIMIT: u64 = 268_435_456;
 
-/// What the words ask for.
+/// A command of the program, with the numbers that its words spell.
 #[derive(Clone, Copy, Debug, PartialEq, Eq)]
 pub enum Command {
-    /// `analyse MODEL`: bound every chain of a model.
+    /// `analyse MODEL`: writes the report of a model: responses, bounds, exact lengths and
+    /// verdicts.
     Analyse,
-    /// `migrate MODEL`: write a model as a file of version 2.
+    /// `migrate MODEL`: writes a model as a file of version 2.
     Migrate,
-    /// `cut MODEL`: cut every chain of a model into pieces, so that its reaction is bounded best.
+    /// `cut MODEL`: finds the best cut of every chain of a model: consecutive pieces by which its
+    /// reaction is bounded best.
     Cut,
-    /// `order MODEL`: find priorities with which no task of a model is late.
+    /// `order MODEL`: finds priorities with which no task of a model is late.
     Order,
-    /// `headroom MODEL`: find how far the execution times of a model may grow.
+    /// `headroom MODEL`: finds how far the greatest execution times of a model may grow.
     Headroom,
-    /// `tighten MODEL`: bound every chain of a model by how the arrivals of its tasks stand to each other.
+    /// `tighten MODEL`: writes the report of a model by tight bounds, which know how the arrivals
+    /// of its tasks lie to each other.
     Tighten,
-    /// `verify MODEL`: say by the status whether every deadline and every requirement of a model is kept.
+    /// `verify MODEL`: says by the status whether every deadline and every requirement of a model
+    /// is shown to be kept.
     Verify,
-    /// `explain MODEL`: say what the responses and the bounds of a model are the sums of.
+    /// `explain MODEL`: writes what the responses and the bounds of a model are the sums of.
     Explain,
-    /// `simulate MODEL TICKS SEED`: write the trace of a drawn run.
+    /// `simulate MODEL TICKS SEED`: writes the trace of a run of so many ticks that the seed draws.
     Simulate { ticks: u64, seed: u64 },
-    /// `replay MODEL TRACE`: measure every chain in the run of a trace.
+    /// `replay MODEL TRACE`: measures every chain in the run of a trace.
     Replay,
-    /// `draw MODEL TRACE FROM TO`: draw the run of a trace from one tick to another.
+    /// `draw MODEL TRACE FROM TO`: draws the run of a trace, from tick FROM to tick TO.
     Draw { from: u64, to: u64 },
-    /// `edit MODEL EDITS`: report a model as it is edited.
+    /// `edit MODEL EDITS`: makes the edits of a list one after the other, and writes a report of
+    /// the model for each line `report` among them.
     Edit,
-    /// `apply MODEL EDITS`: write a model as it is after all edits, as a file of version 2.
+    /// `apply MODEL EDITS`: writes a model as it is after all edits of a list, as a file of version
+    /// 2.
     Apply,
-    /// `generate SEED TASKS`: write a generated model.
+    /// `generate SEED TASKS`: writes a model of so many tasks that the seed draws.
     Generate { seed: u64, tasks: u64 },
-    /// `survey SEED TASKS`: analyse a generated model and sum up what was found.
+    /// `survey SEED TASKS`: analyses such a model and writes the sums of what was found.
     Survey { seed: u64, tasks: u64 },
-    /// `check MODEL`: say what to mend in a model, or what to know of it.
+    /// `check MODEL`: says what to mend in a model file, or what to know of its model.
     Check,
-    /// `help`: say what the commands are.
+    /// `help`: says what the commands are.
     Help,
-    /// `version`: say which version of the program this is.
+    /// `version`: says which version of the program this is.
     Version,
 }
 
-/// The files that a command needs: a valid model, but for those that are named here.
+/// Returns the files that a command names: a model file with a valid model, but for the commands
+/// that are listed here.
 pub(crate) fn files_read(command: Command) -> Files
     ensures { result ≡ files_read command }
 {
@@ -68,14 +75,14 @@ pub(crate) fn files_read(command: Command) -> Files
     }
 }
 
-/// A number of at most so much.
+/// Returns the bounds of a number from 0 to `most`.
 const fn upto(most: u64) -> Bounds
     ensures { result ≡ upto most }
 {
     Bounds { least: 0, most }
 }
 
-/// A number of tasks.
+/// Returns the bounds of a number of tasks, from 1 to `MOST_TASKS`.
 const fn some_tasks() -> Bounds
     ensures { result ≡ some_tasks }
 {
@@ -85,7 +92,7 @@ const fn some_tasks() -> Bounds
     }
 }
 
-/// The command that the words spell. `None` exactly where they spell none. Takes no memory.
+/// Reads the command that the words spell. `None` exactly where they spell none. Takes no memory.
 #[tactic(auto, unfolding(crate::specs::Command::command_of))]
 pub(crate) fn read_command(words: &Words) -> Option<Command>
     ensures { result ≡ command_of words.now }
@@ -113,7 +120,8 @@ pub(crate) fn read_command(words: &Words) -> Option<Command>
     }
 }
 
-/// A command whose words are a verb and its files, and nothing behind them.
+/// Returns the command where the words are a verb and one word for each of its files, and nothing
+/// behind them.
 fn read_whole(words: &Words, asked: Command) -> Option<Command>
     ensures { result ≡ whole asked words.now }
 {
@@ -124,7 +132,7 @@ fn read_whole(words: &Words, asked: Command) -> Option<Command>
     }
 }
 
-/// `simulate`, behind whose file a number of ticks and a seed stand.
+/// Reads `simulate`: behind the file there are the number of ticks and the seed.
 fn read_simulate(words: &Words) -> Option<Command>
     ensures { result ≡ with_two_numbers Command.Simulate 2 (upto MOST_RUN_TICKS) any_seed words.now }
 {
@@ -132,7 +140,7 @@ fn read_simulate(words: &Words) -> Option<Command>
     Some(Command::Simulate { ticks, seed })
 }
 
-/// `draw`, behind whose files two ticks stand.
+/// Reads `draw`: behind the files there are the tick from which and the tick to which to draw.
 fn read_draw(words: &Words) -> Option<Command>
     ensures { result ≡ with_two_numbers Command.Draw 3 (upto MOST_WINDOW) (upto MOST_WINDOW) words.now }
 {
@@ -140,7 +148,7 @@ fn read_draw(words: &Words) -> Option<Command>
     Some(Command::Draw { from, to })
 }
 
-/// `generate`, behind whose verb a seed and a number of tasks stand.
+/// Reads `generate`: behind the verb there are the seed and the number of tasks.
 fn read_generate(words: &Words) -> Option<Command>
     ensures { result ≡ with_two_numbers Command.Generate 1 any_seed some_tasks words.now }
 {
@@ -148,7 +156,7 @@ fn read_generate(words: &Words) -> Option<Command>
     Some(Command::Generate { seed, tasks })
 }
 
-/// `survey`, behind whose verb a seed and a number of tasks stand.
+/// Reads `survey`: behind the verb there are the seed and the number of tasks.
 fn read_survey(words: &Words) -> Option<Command>
     ensures { result ≡ with_two_numbers Command.Survey 1 any_seed some_tasks words.now }
 {

@@ -1,4 +1,4 @@
-//! What each command comes to, once its files are open: a file for each command.
+//! The outcome of each command, once its files are open: one source file for each command.
 ghost use Rattle.std.specs.Prelude.{◌≡◌, IfOk};
 ghost use Rattle.cl_engine.specs.Content.{content_of, Fits};
 ghost use Rattle.cl_engine.specs.Language.{HasFileWords, MayEnd};
@@ -70,7 +70,7 @@ impl cl_engine::Command for Command {
     }
 }
 
-/// The outcome of a command, of what its files hold.
+/// Finds the outcome of a command, by what its files hold.
 #[tactic(auto, using(crate::proofs::Answers::none_taken))]
 fn answered<L: Ledger>(
     alloc: Global,

@@ -1,4 +1,5 @@
-//! The top call: the commands of the program, run by the engine over any shelf and any sink, and on a real machine.
+//! The commands of the program, and the calls that run them: `run` over any shelf and any sink, and
+//! `start` on a real machine.
 #![tactic(auto)]
 
 mod command;

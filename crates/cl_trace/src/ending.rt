@@ -7,7 +7,7 @@ use std::marker::Model;
 /// The most bytes of an ending.
 const MOST_ENDING: usize = 256;
 
-/// A short text that grows at its front, and takes no memory. Contracts see its bytes.
+/// A short text that grows at its front and takes no memory. Contracts see its bytes.
 #[derive(Drop)]
 pub(crate) struct Ending {
     bytes: [u8; MOST_ENDING],
@@ -25,7 +25,7 @@ impl Model for Ending {
 }
 
 impl Ending {
-    /// The empty text.
+    /// Creates an empty text.
     pub(crate) fn new() -> Ending
         ensures { result ≡ [] }
     {
@@ -35,14 +35,14 @@ impl Ending {
         }
     }
 
-    /// Takes the text away.
+    /// Empties the text.
     pub(crate) fn clear(&mut self)
         ensures { self.new ≡ [] }
     {
         self.start = MOST_ENDING;
     }
 
-    /// Puts the byte before the text.
+    /// Puts a byte in front of the text.
     pub(crate) fn put_byte(&mut self, byte: u8)
         requires { length self.old < 256 }
         ensures { self.new ≡ byte ∷ self.old }
@@ -51,7 +51,7 @@ impl Ending {
         self.bytes[self.start] = byte;
     }
 
-    /// Puts the number before the text, as a decimal.
+    /// Puts a number in front of the text, as a decimal.
     pub(crate) fn put_number(&mut self, number: u64)
         requires { length self.old + 20 ≤ 256 }
         ensures text { self.new ≡ decimal number ++ self.old }
@@ -60,7 +60,7 @@ impl Ending {
         self.start = write_digits(number, &mut self.bytes, self.start);
     }
 
-    /// Puts the piece before the text.
+    /// Puts a piece in front of the text.
     pub(crate) fn put(&mut self, piece: &[u8])
         requires { length piece.now + length self.old ≤ 256 }
         ensures { self.new ≡ piece.now ++ self.old }
@@ -70,7 +70,7 @@ impl Ending {
         self.bytes[self.start..end].copy_from_slice(piece);
     }
 
-    /// The text's bytes.
+    /// Returns the bytes of the text.
     pub(crate) fn as_slice(&self) -> &[u8]
         ensures { result.now ≡ self.now }
     {

@@ -1,23 +1,23 @@
-//! Guesses of the tasks that words name.
+//! Guesses of which task a word names.
 ghost use Rattle.std.specs.Prelude.{◌<◌};
 
-/// How many guesses there are: a power of two.
+/// The number of guesses, a power of two.
 const COUNT: usize = 1024;
 
-/// For words that end alike the task that was last found under one of them. It need not be the task that a word names,
-/// so compare their names.
+/// A table of guesses by the last bytes of a word: the task that was last found for a word with
+/// that ending. The word may name another task, so its name has to be compared.
 #[derive(Drop)]
 pub(crate) struct Guesses {
     tasks: [u32; COUNT],
 }
 
 impl Guesses {
-    /// Any guesses.
+    /// Creates the table with arbitrary guesses.
     pub(crate) fn new() -> Guesses {
         Guesses { tasks: [0; COUNT] }
     }
 
-    /// The place of the guess for a word, by its last bytes.
+    /// Computes the index of the guess for a word, from its last bytes.
     fn place_of(word: &[u8]) -> usize
         ensures { result < COUNT }
     {
@@ -31,12 +31,12 @@ impl Guesses {
         ending % COUNT
     }
 
-    /// The guess for a word.
+    /// Returns the guess for a word.
     pub(crate) fn at(&self, word: &[u8]) -> u32 {
         self.tasks[Guesses::place_of(word)]
     }
 
-    /// Keeps the task of a word for the next word that ends alike.
+    /// Keeps the task of a word as the guess for words with the same ending.
     pub(crate) fn keep(&mut self, word: &[u8], task: u32) {
         self.tasks[Guesses::place_of(word)] = task;
     }

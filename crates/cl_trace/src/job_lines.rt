@@ -1,4 +1,4 @@
-//! The job lines of a trace: a job table.
+//! Reading the job lines of a trace as a job table.
 ghost use Rattle.std.specs.Prelude.{◌≡◌, ◌<◌, [], length, IfOk};
 ghost use Rattle.cl_model.specs.Name.{IsName};
 ghost use Rattle.cl_model.specs.ByNumber.{task_at};
@@ -11,7 +11,8 @@ use cl_runs::Job;
 use cl_time::NoMemory;
 use std::alloc::Global;
 
-/// Reads the jobs of all tasks, task by task, as many lines as stand next, and answers what follows them.
+/// Reads the jobs of all tasks, task by task, from all job lines that follow in this order, and
+/// returns the rest of the text.
 pub(crate) fn table_after<'a>(
     alloc: Global,
     model: &ValidModel,
@@ -32,7 +33,8 @@ pub(crate) fn table_after<'a>(
     Ok(left)
 }
 
-/// Reads the jobs of a task, as many lines of it as stand next, and answers what follows them.
+/// Reads the jobs of a task from all its job lines at the start of the text, and returns the rest
+/// of the text.
 fn jobs_after<'a>(
     alloc: Global,
     model: &ValidModel,

@@ -1,4 +1,4 @@
-//! What is known of traces, whatever the code does.
+//! What holds of traces, whatever the code does.
 pub mod lengths;
 pub mod stretches;
 pub mod traces;

@@ -1,4 +1,4 @@
-//! Traces: runs as text.
+//! Traces: runs written as text, and read from it.
 #![tactic(auto)]
 
 mod ending;

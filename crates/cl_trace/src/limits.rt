@@ -1,6 +1,6 @@
 //! The limits of a trace. Times are in ticks.
 
-/// The most ticks of a trace.
+/// The most ticks of the run of a trace.
 pub const MOST_TRACE_TICKS: u64 = 1_000_000_000;
 
 /// The greatest arrival, release and execution time of a job line.

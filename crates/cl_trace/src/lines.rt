@@ -1,4 +1,4 @@
-//! The lines of a trace. Each reading answers what the line says and what follows it.
+//! Reading the lines of a trace. Each call returns what the line says and the rest of the text.
 ghost use Rattle.std.specs.Prelude.{◌≡◌, ◌≢◌, ◌<◌, ◌≤◌, ℕ, List, ◌∷◌, ◌++◌, [], length, codes, IfOk, IfSome, IfNone};
 ghost use Rattle.cl_text.specs.Line.{line};
 ghost use Rattle.cl_model.specs.Name.{IsName};
@@ -18,7 +18,7 @@ use cl_runs::{Job, Times};
 use cl_time::NoMemory;
 use std::alloc::Global;
 
-/// A stretch of a task, as a line says it.
+/// What a run line says: a task runs in each tick from `from` on and before `to`.
 #[derive(Clone, Copy, Debug, PartialEq, Eq)]
 pub(crate) struct RunLine {
     pub task: u32,
@@ -26,11 +26,15 @@ pub(crate) struct RunLine {
     pub to: u64,
 }
 
-/// The number of ticks of the line that the text begins with, and what follows the line. `None` exactly where it begins
-/// with no such line.
+/// Reads the line with the number of ticks that the text begins with, and returns the number and
+/// the rest. Returns `None` exactly where the text begins with no such line.
 pub(crate) fn ticks_after(text: &[u8]) -> Option<(u64, &[u8])>
-    ensures some { IfSome result (λ read. (text.now ≡ line (ticks_words read.0) ++ read.1.now) × (read.0 ≤ MOST_TRACE_TICKS)) }
-    ensures none { IfNone result ((ticks : ℕ) (rest : List ℕ) → ticks ≤ MOST_TRACE_TICKS → text.now ≢ line (ticks_words ticks) ++ rest) }
+    ensures some { IfSome result
+        (λ read. (text.now ≡ line (ticks_words read.0) ++ read.1.now)
+        × (read.0 ≤ MOST_TRACE_TICKS)) }
+    ensures none { IfNone result
+        ((ticks : ℕ) (rest : List ℕ) → ticks ≤ MOST_TRACE_TICKS
+        → text.now ≢ line (ticks_words ticks) ++ rest) }
 {
     let text = after(text, b"ticks")?;
     let (ticks, text) = number_after(text, MOST_TRACE_TICKS)?;
@@ -38,12 +42,14 @@ pub(crate) fn ticks_after(text: &[u8]) -> Option<(u64, &[u8])>
     Some((ticks, rest))
 }
 
-/// The two numbers that the text begins with, of at most `most`, and what follows them.
+/// Reads the two numbers of at most `most`, each after a blank, that the text begins with, and
+/// returns them and the rest. Returns `None` where it doesn't begin with two such numbers.
 #[inline(always)]
 pub(crate) fn two_after(text: &[u8], most: u64) -> Option<(u64, u64, &[u8])>
     ensures some { IfSome result (λ read. text.now ≡ numbers (read.0 ∷ read.1 ∷ []) ++ read.2.now) }
     ensures within { IfSome result (λ read. (read.0 ≤ most) × (read.1 ≤ most)) }
-    ensures only { (m n : ℕ) (more rest : List ℕ) → m ≤ most → n ≤ most → text.now ≡ numbers (m ∷ n ∷ more) ++ 0x0A ∷ rest
+    ensures only { (m n : ℕ) (more rest : List ℕ) → m ≤ most → n ≤ most
+        → text.now ≡ numbers (m ∷ n ∷ more) ++ 0x0A ∷ rest
         → AreRead result m n (numbers more ++ 0x0A ∷ rest) }
 {
     let (first, text) = number_after(text, most)?;
@@ -51,11 +57,17 @@ pub(crate) fn two_after(text: &[u8], most: u64) -> Option<(u64, u64, &[u8])>
     Some((first, second, rest))
 }
 
-/// So many numbers that the text begins with, and what follows them.
+/// Reads the `count` numbers, each after a blank, that the text begins with, and returns them and
+/// the rest. Finds none where it doesn't begin with that many.
 fn times_after(alloc: Global, text: &[u8], count: usize) -> Result<Option<(Times, &[u8])>, NoMemory>
-    ensures some { IfOk result (λ found. IfSome found (λ read. AreTimes count text.now read.0 read.1.now)) }
-    ensures none { IfOk result (λ found. IfNone found ((times rest : List ℕ) → ¬ AreTimes count text.now times (0x0A ∷ rest))) }
-    ensures only { IfOk result (λ found. IfSome found (λ read. (times rest : List ℕ) → AreTimes count text.now times (0x0A ∷ rest)
+    ensures some { IfOk result
+        (λ found. IfSome found (λ read. AreTimes count text.now read.0 read.1.now)) }
+    ensures none { IfOk result
+        (λ found. IfNone found ((times rest : List ℕ)
+        → ¬ AreTimes count text.now times (0x0A ∷ rest))) }
+    ensures only { IfOk result
+        (λ found. IfSome found
+        (λ read. (times rest : List ℕ) → AreTimes count text.now times (0x0A ∷ rest)
         → (read.0 ≡ times) × (read.1.now ≡ 0x0A ∷ rest))) }
 {
     let mut times = Times::new(alloc);
@@ -70,10 +82,12 @@ fn times_after(alloc: Global, text: &[u8], count: usize) -> Result<Option<(Times
     Ok(Some((times, left)))
 }
 
-/// The arrival and the release of a line of a task of that name that the text begins with, and what follows them.
+/// Reads the head of a job line of the task with this name that the text begins with, and returns
+/// the arrival, the release and the rest.
 fn job_head_after<'a>(name: &[u8], text: &'a [u8]) -> Option<(u64, u64, &'a [u8])>
     ensures some { IfSome result (λ read. text.now ≡ codes "job " ++ (name.now ++ (numbers (read.0 ∷ read.1 ∷ []) ++ read.2.now))) }
-    ensures within { IfSome result (λ read. (read.0 ≤ MOST_TRACE_NUMBER) × (read.1 ≤ MOST_TRACE_NUMBER)) }
+    ensures within { IfSome result
+        (λ read. (read.0 ≤ MOST_TRACE_NUMBER) × (read.1 ≤ MOST_TRACE_NUMBER)) }
     ensures only { (m n : ℕ) (more rest : List ℕ) → m ≤ MOST_TRACE_NUMBER → n ≤ MOST_TRACE_NUMBER
         → text.now ≡ codes "job " ++ (name.now ++ (numbers (m ∷ n ∷ more) ++ 0x0A ∷ rest)) → AreRead result m n (numbers more ++ 0x0A ∷ rest) }
 {
@@ -82,8 +96,8 @@ fn job_head_after<'a>(name: &[u8], text: &'a [u8]) -> Option<(u64, u64, &'a [u8]
     two_after(text, MOST_TRACE_NUMBER)
 }
 
-/// The job of a task that the text begins with a line of, and what follows the line. `None` exactly where it begins
-/// with no such line.
+/// Reads the job line of a task that the text begins with, and returns the job and the rest. Finds
+/// none exactly where the text begins with no such line.
 pub(crate) fn job_after<'a>(
     alloc: Global,
     model: &ValidModel,
@@ -92,7 +106,8 @@ pub(crate) fn job_after<'a>(
 ) -> Result<Option<(Job, &'a [u8])>, NoMemory>
     requires { task < length model.now.tasks }
     ensures some { IfOk result (λ found. IfSome found (λ read.
-        IsJobOf model.now task read.0 × (text.now ≡ item_text model.now (JobOf task read.0) ++ read.1.now))) }
+        IsJobOf model.now task read.0 × (text.now
+        ≡ item_text model.now (JobOf task read.0) ++ read.1.now))) }
     ensures named { IsName (task_at model.now task).name }
     ensures none { IfOk result (λ found. IfNone found ((job : Job) (rest : List ℕ)
         → IsJobOf model.now task job → text.now ≢ item_text model.now (JobOf task job) ++ rest)) }
@@ -117,8 +132,9 @@ pub(crate) fn job_after<'a>(
     }
 }
 
-/// The stretch of a task of the model that the text begins with a line of, its ticks at most `most`, and what follows
-/// the line. `None` exactly where it begins with no such line.
+/// Reads the run line of a task of the model that the text begins with, with ticks of at most
+/// `most`, and returns what it says and the rest. Returns `None` exactly where the text begins with
+/// no such line.
 pub(crate) fn run_after<'a>(
     model: &ValidModel,
     text: &'a [u8],
@@ -127,12 +143,20 @@ pub(crate) fn run_after<'a>(
 ) -> Option<(RunLine, &'a [u8])>
     requires named { AreTasksNamed model.now }
     requires valid { IsValid model.now }
-    ensures some { IfSome result (λ read. text.now ≡ item_text model.now (Runs read.0.task read.0.from read.0.to) ++ read.1.now) }
-    ensures within { IfSome result (λ read. (read.0.task < length model.now.tasks) × (read.0.to ≤ most)) }
-    ensures none { IfNone result ((task from to : ℕ) (rest : List ℕ) → task < length model.now.tasks → from ≤ most → to ≤ most
+    ensures some { IfSome result
+        (λ read. text.now ≡ item_text model.now (Runs read.0.task read.0.from read.0.to)
+        ++ read.1.now) }
+    ensures within { IfSome result
+        (λ read. (read.0.task < length model.now.tasks) × (read.0.to ≤ most)) }
+    ensures none { IfNone result
+        ((task from to : ℕ) (rest : List ℕ) → task < length model.now.tasks → from ≤ most
+        → to ≤ most
         → text.now ≢ item_text model.now (Runs task from to) ++ rest) }
-    ensures only { IfSome result (λ read. (task from to : ℕ) (rest : List ℕ) → task < length model.now.tasks → from ≤ most → to ≤ most
-        → text.now ≡ item_text model.now (Runs task from to) ++ rest → (read.0 ≡ record { task = task; from = from; to = to }) × (read.1.now ≡ rest)) }
+    ensures only { IfSome result
+        (λ read. (task from to : ℕ) (rest : List ℕ) → task < length model.now.tasks → from ≤ most
+        → to ≤ most
+        → text.now ≡ item_text model.now (Runs task from to) ++ rest
+        → (read.0 ≡ record { task = task; from = from; to = to }) × (read.1.now ≡ rest)) }
 {
     let text = after(text, b"run ")?;
     let (task, text) = task_after(model, text, guesses)?;

@@ -1,4 +1,5 @@
-//! The pieces of a line: fixed words, numbers, names. Each reading answers what follows the piece.
+//! Reading the pieces of a line: fixed words, numbers and names. Each call returns the rest of the
+//! text.
 ghost use Rattle.std.specs.Prelude.{◌≡◌, ◌≢◌, ◌↔◌, ◌^◌, ◌<◌, ◌≤◌, ℕ, List, [], ◌∷◌, ◌++◌, false, length, slice_index, All, IsTrue, Some, None, IfSome, IfNone, decimal};
 ghost use Rattle.cl_text.specs.Line.{first_word, is_graphic};
 ghost use Rattle.cl_model.specs.Name.{IsName};
@@ -11,7 +12,8 @@ use crate::guesses::Guesses;
 use cl_model::{Name, ValidModel};
 use cl_text::next_word;
 
-/// What follows a piece that the text begins with. `None` exactly where it begins with another.
+/// Strips the piece that the text begins with, and returns the rest. Returns `None` exactly where
+/// the text doesn't begin with it.
 pub(crate) fn after<'a>(text: &'a [u8], piece: &[u8]) -> Option<&'a [u8]>
     ensures some { IfSome result (λ rest. text.now ≡ piece.now ++ rest.now) }
     ensures none { IfNone result ((rest : List ℕ) → text.now ≢ piece.now ++ rest) }
@@ -19,7 +21,8 @@ pub(crate) fn after<'a>(text: &'a [u8], piece: &[u8]) -> Option<&'a [u8]>
     text.strip_prefix(piece)
 }
 
-/// The word that the text begins with, and what follows it.
+/// Splits off the word that the text begins with, and returns it and the rest. Returns `None` where
+/// the text begins with no word.
 pub(crate) fn word_after(text: &[u8]) -> Option<(&[u8], &[u8])>
     ensures some { IfSome result (λ read. text.now ≡ read.0.now ++ read.1.now) }
     ensures word { IfSome result (λ read. read.0.now ≡ first_word text.now) }
@@ -29,7 +32,8 @@ pub(crate) fn word_after(text: &[u8]) -> Option<(&[u8], &[u8])>
     Some((&text[..end], &text[end..]))
 }
 
-/// What follows a byte that the text begins with. `None` exactly where it begins with another.
+/// Strips the byte that the text begins with, and returns the rest. Returns `None` exactly where
+/// the text doesn't begin with it.
 pub(crate) fn byte_after(text: &[u8], byte: u8) -> Option<&[u8]>
     ensures some { IfSome result (λ rest. text.now ≡ byte ∷ rest.now) }
     ensures none { IfNone result ((rest : List ℕ) → text.now ≢ byte ∷ rest) }
@@ -38,8 +42,9 @@ pub(crate) fn byte_after(text: &[u8], byte: u8) -> Option<&[u8]>
     if *first == byte { Some(rest) } else { None }
 }
 
-/// The number that the digits which the text begins with write, and how many they are, where they are at most 18 and
-/// the text goes on that far. A fixed count of steps is laid out without a loop.
+/// Reads all digits that the text begins with as a number, and returns it and how many there are.
+/// Returns `None` where there are more than 18 or the text has fewer than 19 bytes: a loop of a
+/// fixed number of steps is unrolled.
 fn few_digits_of(text: &[u8]) -> Option<(u64, usize)>
     ensures { IfSome result (λ read. AreDigitsOf text.now read.1 read.0) }
 {
@@ -56,11 +61,13 @@ fn few_digits_of(text: &[u8]) -> Option<(u64, usize)>
     None
 }
 
-/// The number that the digits which the text begins with write, however many stand there, and how many they are. There is
-/// none where it is past 64 bits.
+/// Reads all digits that the text begins with as a number, however many there are, and returns it
+/// and how many there are. Returns `None` where the number doesn't fit 64 bits.
 fn many_digits_of(text: &[u8]) -> Option<(u64, usize)>
     ensures some { IfSome result (λ read. AreDigitsOf text.now read.1 read.0) }
-    ensures none { IfNone result ((n byte : ℕ) (rest : List ℕ) → n < 2 ^ 64 → is_graphic byte ≡ false → text.now ≢ decimal n ++ byte ∷ rest) }
+    ensures none { IfNone result
+        ((n byte : ℕ) (rest : List ℕ) → n < 2 ^ 64 → is_graphic byte ≡ false
+        → text.now ≢ decimal n ++ byte ∷ rest) }
 {
     let mut number: u64 = 0;
     for (count, byte) in text.iter().enumerate() {
@@ -74,11 +81,13 @@ fn many_digits_of(text: &[u8]) -> Option<(u64, usize)>
     Some((number, text.len()))
 }
 
-/// The number that the digits which the text begins with write, as many as stand there, and how many they are. There is
-/// none where it is past 64 bits.
+/// Reads all digits that the text begins with as a number, and returns it and how many there are.
+/// Returns `None` where the number doesn't fit 64 bits.
 fn digits_of(text: &[u8]) -> Option<(u64, usize)>
     ensures some { IfSome result (λ read. AreDigitsOf text.now read.1 read.0) }
-    ensures none { IfNone result ((n byte : ℕ) (rest : List ℕ) → n < 2 ^ 64 → is_graphic byte ≡ false → text.now ≢ decimal n ++ byte ∷ rest) }
+    ensures none { IfNone result
+        ((n byte : ℕ) (rest : List ℕ) → n < 2 ^ 64 → is_graphic byte ≡ false
+        → text.now ≢ decimal n ++ byte ∷ rest) }
 {
     match few_digits_of(text) {
         Some(read) => Some(read),
@@ -86,7 +95,8 @@ fn digits_of(text: &[u8]) -> Option<(u64, usize)>
     }
 }
 
-/// Whether so many digits that the text begins with are printed: one at least, and no further one behind a zero.
+/// Checks whether the first `count` bytes of the text, which are digits, are a number as it is
+/// printed: at least one digit, and no further one after a leading zero.
 fn are_printed(text: &[u8], count: usize) -> bool
     requires { count ≤ length text.now }
     ensures { IsTrue result ↔ ((0 < count) × (slice_index text.now 0 ≡ 48 → count ≡ 1)) }
@@ -94,11 +104,14 @@ fn are_printed(text: &[u8], count: usize) -> bool
     count == 1 || (count > 1 && text[0] != b'0')
 }
 
-/// The number of at most `most` after a blank that the text begins with, and what follows it.
+/// Reads the number of at most `most`, after a blank, that the text begins with, and returns it and
+/// the rest.
 #[inline(always)]
 pub(crate) fn number_after(text: &[u8], most: u64) -> Option<(u64, &[u8])>
-    ensures some { IfSome result (λ read. (text.now ≡ number_text read.0 ++ read.1.now) × (read.0 ≤ most)) }
-    ensures only { (n byte : ℕ) (rest : List ℕ) → n ≤ most → is_graphic byte ≡ false → text.now ≡ number_text n ++ byte ∷ rest
+    ensures some { IfSome result
+        (λ read. (text.now ≡ number_text read.0 ++ read.1.now) × (read.0 ≤ most)) }
+    ensures only { (n byte : ℕ) (rest : List ℕ) → n ≤ most → is_graphic byte ≡ false
+        → text.now ≡ number_text n ++ byte ∷ rest
         → IsRead result n (byte ∷ rest) }
 {
     let digits = byte_after(text, b' ')?;
@@ -110,8 +123,8 @@ pub(crate) fn number_after(text: &[u8], most: u64) -> Option<(u64, &[u8])>
     }
 }
 
-/// The task of the model whose name a word is. It is compared with the guess first, since lines name the same tasks again
-/// and again.
+/// Finds the task of the model that has a word as its name. Compares the word with the guess first,
+/// since lines name the same tasks again and again.
 fn task_of(model: &ValidModel, word: &[u8], guesses: &mut Guesses) -> Option<u32>
     requires { IsValid model.now }
     ensures within { IfSome result (λ task. task < length model.now.tasks) }
@@ -128,7 +141,8 @@ fn task_of(model: &ValidModel, word: &[u8], guesses: &mut Guesses) -> Option<u32
     Some(task)
 }
 
-/// The task of the model whose name the text begins with, and what follows it.
+/// Finds the task of the model that has the word at the start of the text as its name, and returns
+/// it and the rest.
 pub(crate) fn task_after<'a>(
     model: &ValidModel,
     text: &'a [u8],
@@ -136,9 +150,12 @@ pub(crate) fn task_after<'a>(
 ) -> Option<(u32, &'a [u8])>
     requires { IsValid model.now }
     ensures within { IfSome result (λ read. read.0 < length model.now.tasks) }
-    ensures some { IfSome result (λ read. text.now ≡ (task_at model.now read.0).name ++ read.1.now) }
-    ensures only { (task byte : ℕ) (rest : List ℕ) → task < length model.now.tasks → IsName (task_at model.now task).name
-        → is_graphic byte ≡ false → text.now ≡ (task_at model.now task).name ++ byte ∷ rest → IsRead result task (byte ∷ rest) }
+    ensures some { IfSome result
+        (λ read. text.now ≡ (task_at model.now read.0).name ++ read.1.now) }
+    ensures only { (task byte : ℕ) (rest : List ℕ) → task < length model.now.tasks
+        → IsName (task_at model.now task).name
+        → is_graphic byte ≡ false → text.now ≡ (task_at model.now task).name ++ byte ∷ rest
+        → IsRead result task (byte ∷ rest) }
 {
     let (word, rest) = word_after(text)?;
     let task = task_of(model, word, guesses)?;

@@ -1,4 +1,4 @@
-//! A trace, read as a run.
+//! Reading a trace as a run.
 ghost use Rattle.std.specs.Prelude.{◌≡◌, ◌+◌, ◌≤◌, ◌-◌, length, take, IfOk};
 ghost use Rattle.cl_text.specs.LinesFault.{IfBadLine, ReadsThis};
 ghost use Rattle.cl_model.specs.Validity.{IsValid};
@@ -19,10 +19,11 @@ use cl_text::LinesFault;
 use cl_time::NoMemory;
 use std::alloc::Global;
 
-/// Why a text was not read as a run.
+/// Why a text isn't read as a run.
 pub type TraceFault = LinesFault;
 
-/// The run of the lines behind the two first, as many as stand there, and what follows them.
+/// Reads the job lines and run lines after the first two lines, as many as follow, and returns
+/// their run and the rest of the text.
 fn body_after<'a>(
     alloc: Global,
     model: &ValidModel,
@@ -40,7 +41,8 @@ fn body_after<'a>(
     }
 }
 
-/// The run of a table and of the run lines that stand next, and what follows them.
+/// Reads the run lines that follow, and returns the run of them and of a job table, and the rest of
+/// the text.
 fn runs_of<'a>(
     alloc: Global,
     model: &ValidModel,
@@ -51,7 +53,8 @@ fn runs_of<'a>(
     ensures valid { IsValid model.now }
     ensures table { IfOk result (λ read. read.0.table ≡ table) }
     ensures cores { IfOk result (λ read. length read.0.entries ≡ length model.now.cores) }
-    ensures runs { IfOk result (λ read. AreCores model.now table.ticks (length model.now.cores) text.now read.0 read.1.now) }
+    ensures runs { IfOk result
+        (λ read. AreCores model.now table.ticks (length model.now.cores) text.now read.0 read.1.now) }
 {
     let mut run = RunData::start(alloc, table, model.cores())?;
     match runs_after(model, &mut run, text) {
@@ -60,7 +63,7 @@ fn runs_of<'a>(
     }
 }
 
-/// The number of the line that what is left of a text begins with, counted from 1.
+/// Counts in which line of the text, from 1, what is left of it begins.
 fn line_at(text: &[u8], left: &[u8]) -> u64
     requires { length left.now ≤ length text.now }
     ensures { result ≡ newlines (take (length text.now - length left.now) text.now) + 1 }
@@ -70,11 +73,13 @@ fn line_at(text: &[u8], left: &[u8]) -> u64
     lines as u64 + 1
 }
 
-/// The run of a trace: each core's entries in each tick, and the jobs of each task. Times are in ticks.
+/// Reads a trace as a run: the jobs of each task, and the entry of each core in each tick. Times
+/// are in ticks.
 ///
-/// The run is in form, and the text spells it. `BadLine` comes exactly where the text is no trace: at its first line
-/// that breaks its rule, counted from 1, or that is missing. `NoMemory` comes where there is no memory for the run.
-/// Either leaves nothing.
+/// The run is in form and within the limits of a trace, and the text spells it. A text that is no
+/// trace gives `BadLine`, unless memory runs out before: its first line, counted from 1, that
+/// breaks its rule or is missing. `NoMemory` comes where there is no memory for the run. Either
+/// leaves nothing.
 pub fn read_trace(alloc: Global, model: &ValidModel, text: &[u8]) -> Result<RunData, TraceFault>
     ensures run { IfOk result (IsTraceOf model.now text.now) }
     ensures bad_line { IfBadLine result (IsBadTraceLine model.now text.now) }
@@ -92,7 +97,8 @@ pub fn read_trace(alloc: Global, model: &ValidModel, text: &[u8]) -> Result<RunD
     }
 }
 
-/// The run, where nothing but the last line is left of the text.
+/// Returns the run where exactly the last line is left of the text, and otherwise the first bad
+/// line.
 fn ended(model: &ValidModel, text: &[u8], run: RunData, left: &[u8]) -> Result<RunData, TraceFault>
     requires body { IsReadSoFar model.now text.now run left.now }
     requires named { AreTasksNamed model.now }

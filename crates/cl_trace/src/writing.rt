@@ -1,4 +1,4 @@
-//! The trace of a run, as text.
+//! Writing a run as a trace.
 ghost use Rattle.std.specs.Prelude.{◌≡◌, ◌<◌, ◌≤◌, [], ◌∷◌, ◌++◌, length, codes, map, All, OnOk, IfOk};
 ghost use Rattle.cl_text.specs.Line.{line};
 ghost use Rattle.cl_model.specs.ByNumber.{task_at};
@@ -18,8 +18,9 @@ use std::alloc::Global;
 /// The most execution times of a job whose line is put at once.
 const MOST_AT_ONCE: usize = 6;
 
-/// The trace of a run: a title, the number of its ticks, a line for each job, task by task, a line for each longest
-/// stretch of a task, core by core, and an end. Times are in ticks; a core that idles has no line.
+/// Writes the trace of a run: a title, the number of ticks, a line for each job, task by task, a
+/// line for each longest stretch of a task, core by core, and an end. Times are in ticks. A core
+/// that idles has no line.
 ///
 /// `NoMemory` comes where there is no memory for the text; it leaves nothing.
 pub fn write_trace(alloc: Global, model: &ValidModel, run: &RunData) -> Result<Text, NoMemory>
@@ -36,7 +37,7 @@ pub fn write_trace(alloc: Global, model: &ValidModel, run: &RunData) -> Result<T
     Ok(text)
 }
 
-/// Puts the jobs of all tasks.
+/// Puts the job lines of all tasks.
 fn put_jobs(text: &mut Text, model: &ValidModel, run: &RunData) -> Result<(), NoMemory>
     requires { IsInForm (system_of model.now) run.now }
     ensures { OnOk result (text.new ≡ text.old ++ text_of model.now (job_items run.now)) }
@@ -52,7 +53,7 @@ fn put_jobs(text: &mut Text, model: &ValidModel, run: &RunData) -> Result<(), No
     Ok(())
 }
 
-/// Puts the jobs of a task.
+/// Puts the job lines of a task.
 fn put_task(text: &mut Text, model: &ValidModel, task: u32, jobs: &[Job]) -> Result<(), NoMemory>
     requires { task < length model.now.tasks }
     ensures { OnOk result (text.new ≡ text.old ++ text_of model.now (map (JobOf task) jobs.now)) }
@@ -65,8 +66,8 @@ fn put_task(text: &mut Text, model: &ValidModel, task: u32, jobs: &[Job]) -> Res
     Ok(())
 }
 
-/// Puts a job of a task of that name. What the ending holds is lost: it is lent, since to make one for each line takes
-/// time.
+/// Puts the job line of a task with this name. The ending is lent, since making one for each line
+/// takes time, and what it holds is lost.
 fn put_job(text: &mut Text, ending: &mut Ending, name: &[u8], job: &Job) -> Result<(), NoMemory>
     requires { length name.now ≤ 64 }
     ensures { OnOk result (text.new ≡ text.old ++ line (job_line_words name.now job.now)) }
@@ -78,7 +79,7 @@ fn put_job(text: &mut Text, ending: &mut Ending, name: &[u8], job: &Job) -> Resu
     }
 }
 
-/// Puts a job of few execution times, at once, by the ending that is lent.
+/// Puts the job line of a job with few execution times at once, by the ending that is lent.
 fn put_short_job(
     text: &mut Text,
     ending: &mut Ending,
@@ -96,7 +97,7 @@ fn put_short_job(
     text.put(ending.as_slice())
 }
 
-/// Puts numbers before the text, each after a blank.
+/// Puts numbers in front of the text, each after a blank.
 fn line_numbers(line: &mut Ending, list: &[u64])
     requires few { length list.now ≤ 6 }
     requires room { length line.old ≤ 1 }
@@ -111,7 +112,7 @@ fn line_numbers(line: &mut Ending, list: &[u64])
     }
 }
 
-/// Puts the words of a job before the text, up to its release.
+/// Puts the words of a job line up to the release in front of the text.
 fn line_head(line: &mut Ending, name: &[u8], job: &Job)
     requires name { length name.now ≤ 64 }
     requires room { length line.old ≤ 127 }
@@ -125,7 +126,7 @@ fn line_head(line: &mut Ending, name: &[u8], job: &Job)
     line.put(b"job ");
 }
 
-/// Puts a job of many execution times, piece by piece.
+/// Puts the job line of a job with many execution times, piece by piece.
 fn put_long_job(text: &mut Text, name: &[u8], job: &Job) -> Result<(), NoMemory>
     requires { length name.now ≤ 64 }
     ensures { OnOk result (text.new ≡ text.old ++ line (job_line_words name.now job.now)) }
@@ -157,7 +158,7 @@ fn put_number(text: &mut Text, number: u64) -> Result<(), NoMemory>
     text.put(word.as_slice())
 }
 
-/// Puts the stretches of all cores.
+/// Puts the run lines of all cores.
 fn put_runs(text: &mut Text, model: &ValidModel, run: &RunData) -> Result<(), NoMemory>
     requires { IsInForm (system_of model.now) run.now }
     ensures { OnOk result (text.new ≡ text.old ++ text_of model.now (run_items run.now)) }
@@ -168,7 +169,7 @@ fn put_runs(text: &mut Text, model: &ValidModel, run: &RunData) -> Result<(), No
     Ok(())
 }
 
-/// Puts the longest stretches of a core.
+/// Puts the run lines of a core.
 fn put_core(text: &mut Text, model: &ValidModel, run: &RunData, core: u32) -> Result<(), NoMemory>
     requires in_form { IsInForm (system_of model.now) run.now }
     requires within { core < length model.now.cores }
@@ -177,10 +178,11 @@ fn put_core(text: &mut Text, model: &ValidModel, run: &RunData, core: u32) -> Re
     put_stretches(text, model, run.stretches(core))
 }
 
-/// Puts stretches, of which the first begins at tick 0.
+/// Puts the run lines of stretches, of which the first begins at tick 0.
 fn put_stretches(text: &mut Text, model: &ValidModel, stretches: &[Stretch]) -> Result<(), NoMemory>
     requires { All (IsOfTask model.now) stretches.now }
-    ensures { OnOk result (text.new ≡ text.old ++ text_of model.now (stretch_items 0 stretches.now)) }
+    ensures { OnOk result
+        (text.new ≡ text.old ++ text_of model.now (stretch_items 0 stretches.now)) }
 {
     let mut ending = Ending::new();
     let mut from = 0;
@@ -191,8 +193,8 @@ fn put_stretches(text: &mut Text, model: &ValidModel, stretches: &[Stretch]) -> 
     Ok(())
 }
 
-/// Puts a stretch that begins at a tick: a line where a task runs, by the ending that is lent, and nothing where the
-/// core idles.
+/// Puts a stretch that begins at a tick: a run line where a task runs, by the ending that is lent,
+/// and nothing where the core idles.
 fn put_stretch(
     text: &mut Text,
     ending: &mut Ending,
@@ -201,7 +203,8 @@ fn put_stretch(
     stretch: &Stretch,
 ) -> Result<(), NoMemory>
     requires { IsOfTask model.now stretch.now }
-    ensures { OnOk result (text.new ≡ text.old ++ text_of model.now (stretch_item stretch.now.who from stretch.now.end)) }
+    ensures { OnOk result
+        (text.new ≡ text.old ++ text_of model.now (stretch_item stretch.now.who from stretch.now.end)) }
 {
     match stretch.who {
         None => Ok(()),
@@ -209,7 +212,7 @@ fn put_stretch(
     }
 }
 
-/// Puts that a task of that name runs from a tick to another, by the ending that is lent.
+/// Puts the run line of a task with this name from one tick to another, by the ending that is lent.
 fn put_run(
     text: &mut Text,
     ending: &mut Ending,
@@ -231,7 +234,7 @@ fn put_run(
     text.put(ending.as_slice())
 }
 
-/// The name of a task.
+/// Returns the name of a task.
 fn name_of(model: &ValidModel, task: u32) -> &[u8]
     requires { task < length model.now.tasks }
     ensures name { result.now ≡ (task_at model.now task).name }

@@ -10,8 +10,8 @@ use Rattle.cl_model.specs.declared.model.SystemModel.{SystemModel}
 use Rattle.cl_model.specs.ByNumber.{core_of, tasks_of_core}
 use Rattle.cl_runs.specs.Pattern.{IsPattern}
 use Rattle.cl_runs.specs.TaskTiming.{System, timing_at}
+use Rattle.cl_runs.proofs.FirstFound.{none_passes}
 use Rattle.cl_resp.specs.Question.{longest_hold}
-use Rattle.cl_resp.proofs.FirstFound.{none_passes}
 use Rattle.cl_tune.specs.Dictionary.{ComesNoLater}
 use Rattle.cl_tune.specs.Inner.Filling.{without, fits_below, fits, best_order, AreDistinct}
 use Rattle.cl_tune.proofs.Members.{has, has_itself, has_head, has_more, has_cases, has_filter, HaveSame, all_at, distinct_filter, without_head, without_other, length_without, same_without, lengths_agree}

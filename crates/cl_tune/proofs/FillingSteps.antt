@@ -4,8 +4,8 @@ use Rattle.std.specs.Prelude.{All, Contains, find}
 use Rattle.std.specs.Option.{option_map, option_and_then}
 use Rattle.std.proofs.lemmas.List.{append-nil}
 use Rattle.cl_runs.specs.TaskTiming.{System, timing_at}
+use Rattle.cl_runs.proofs.FirstFound.{first_found}
 use Rattle.cl_resp.specs.Question.{longest_hold}
-use Rattle.cl_resp.proofs.FirstFound.{first_found}
 use Rattle.cl_tune.specs.Inner.Filling.{without, fits, best_order}
 
 -- what is found is in the list

@@ -47,11 +47,11 @@ use Rattle.cl_analyse.specs.declared.findings.Verdict.{Verdict}
 use Rattle.cl_analyse.specs.declared.findings.Verdict.TheVariants.{Met, Unshown}
 use Rattle.cl_analyse.specs.ChainAnswers.{first_late, chain_answer, chain_answer_of, chain_answers_of, chain_answer_at, exact_answer_at, IsTimelyAnswer, IsExactAnswer}
 use Rattle.cl_analyse.specs.Findings.{AreFindings}
-use Rattle.cl_analyse.specs.Verdicts.{bound_of_kind, witness_of_kind, bound_value, exact_value, verdict_on, verdict_of}
+use Rattle.cl_analyse.specs.Verdicts.{bound_of_kind, witness_of_kind, bound_value, exact_value, verdict_on, verdict_of, is_met}
 use Rattle.cl_analyse.proofs.FirstLate.{none_late}
 use Rattle.cl_analyse.proofs.SafeFindings.{answer_of_chain, chain_settled}
 use Rattle.cl_analyse.proofs.SomeFindings.{some_findings}
-use Rattle.cl_tune.specs.Headroom.{is_met, Keeps}
+use Rattle.cl_tune.specs.Headroom.{Keeps}
 use Rattle.cl_tune.specs.Scaled.{scaled_runnable, scaled_task, scaled}
 use Rattle.cl_tune.proofs.ScaledValid.{names_of_runnables, scaled_valid}
 use Rattle.cl_tune.proofs.ScaledAnswers.{all_in_time, range_stays}

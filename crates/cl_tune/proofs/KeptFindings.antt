@@ -9,7 +9,8 @@ use Rattle.cl_analyse.specs.declared.findings.Findings.{Findings}
 use Rattle.cl_analyse.specs.declared.findings.Verdict.{Verdict}
 use Rattle.cl_analyse.specs.Findings.{AreFindings}
 use Rattle.cl_analyse.proofs.SafeFindings.{one_findings}
-use Rattle.cl_tune.specs.Headroom.{is_met, Keeps}
+use Rattle.cl_analyse.specs.Verdicts.{is_met}
+use Rattle.cl_tune.specs.Headroom.{Keeps}
 use Rattle.cl_tune.specs.Scaled.{scaled}
 
 -- no task is late, and each requirement is met

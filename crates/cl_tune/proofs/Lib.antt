@@ -24,3 +24,4 @@ pub mod KeptFindings
 pub mod KeptTimes
 pub mod OneOrder
 pub mod OneHeadroom
+pub mod KeptInTime

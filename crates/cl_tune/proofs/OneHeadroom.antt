@@ -15,8 +15,9 @@ use Rattle.cl_bound.specs.Answers.{is_late}
 use Rattle.cl_analyse.specs.declared.findings.Findings.{Findings}
 use Rattle.cl_analyse.specs.declared.findings.Verdict.{Verdict}
 use Rattle.cl_analyse.proofs.SomeFindings.{some_findings}
+use Rattle.cl_analyse.specs.Verdicts.{is_met}
 use Rattle.cl_tune.specs.declared.percent.TheConstants.{MOST_PERCENT}
-use Rattle.cl_tune.specs.Headroom.{is_met, Keeps, IsGreatestKept, IsHeadroom, SmallerKeep}
+use Rattle.cl_tune.specs.Headroom.{Keeps, IsGreatestKept, IsHeadroom, SmallerKeep}
 use Rattle.cl_tune.specs.Scaled.{scaled_task, scaled}
 use Rattle.cl_tune.proofs.KeptBelow.{kept_below}
 use Rattle.cl_tune.proofs.KeptFindings.{IsKept, keeping, kept_of}

@@ -14,9 +14,10 @@ use Rattle.cl_model.proofs.NamesKnown.{core_within}
 use Rattle.cl_model.specs.Holds.{greatest_by}
 use Rattle.cl_runs.specs.SystemOf.{system_of}
 use Rattle.cl_runs.specs.TaskTiming.{Timing, System, timing_at}
+use Rattle.cl_runs.specs.Priorities.{is_above, may_block}
 use Rattle.cl_runs.proofs.ModelSystem.{count_is}
 use Rattle.cl_resp.specs.declared.question.Question.{Question}
-use Rattle.cl_resp.specs.Question.{greatest_execution, is_above, may_block, longest_hold, block_of, taken_by, question_of}
+use Rattle.cl_resp.specs.Question.{greatest_execution, longest_hold, block_of, taken_by, question_of}
 use Rattle.cl_resp.specs.Response.{response_to}
 use Rattle.cl_bound.specs.Answers.{answer_with, answer_to, is_late}
 use Rattle.cl_tune.specs.BestOrders.{AreBestPriorities, HasBestPriorities}

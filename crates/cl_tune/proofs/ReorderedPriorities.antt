@@ -13,8 +13,8 @@ use Rattle.cl_model.specs.ValidTasks.{spans_too_many}
 use Rattle.cl_model.proofs.CoreTasks.{few_tasks}
 use Rattle.cl_runs.specs.SystemOf.{system_of}
 use Rattle.cl_runs.specs.TaskTiming.{Timing, timing_at}
+use Rattle.cl_runs.specs.Priorities.{is_above}
 use Rattle.cl_runs.proofs.ModelSystem.{count_is}
-use Rattle.cl_resp.specs.Question.{is_above}
 use Rattle.cl_tune.specs.BestOrders.{AreBestPriorities}
 use Rattle.cl_tune.specs.Priorities.{with_priorities}
 use Rattle.cl_tune.proofs.NewPriorities.{timing_with, has_priorities}

@@ -16,11 +16,12 @@ use Rattle.cl_model.specs.Ranges.{IsRunnableInRange, IsTaskInRange, IsInRange}
 use Rattle.cl_model.specs.Holds.{greatest_by}
 use Rattle.cl_runs.specs.SystemOf.{range_of, timing_of, system_of}
 use Rattle.cl_runs.specs.TaskTiming.{TimeRange, Timing}
+use Rattle.cl_runs.specs.Priorities.{is_above, may_block}
 use Rattle.cl_stim.specs.AnyStimulus.{kind_of, as_stimulus}
 use Rattle.cl_stim.specs.Releases.{most_releases}
 use Rattle.cl_resp.specs.declared.question.Above.{Above}
 use Rattle.cl_resp.specs.declared.question.Question.{Question}
-use Rattle.cl_resp.specs.Question.{greatest_execution, is_above, may_block, hold_of, longest_hold, block_of, taken_by, question_of}
+use Rattle.cl_resp.specs.Question.{greatest_execution, hold_of, longest_hold, block_of, taken_by, question_of}
 use Rattle.cl_resp.specs.Response.{Response, demand, response_to, AsksNoMore}
 use Rattle.cl_resp.proofs.Filters.{filter-map}
 use Rattle.cl_model.proofs.Greatest.{greatest_mapped, greatest_within, greatest_least}

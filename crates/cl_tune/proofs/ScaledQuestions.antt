@@ -26,10 +26,10 @@ use Rattle.cl_bound.specs.declared.answer.TaskAnswer.{TaskAnswer}
 use Rattle.cl_bound.specs.declared.answer.TaskAnswer.TheVariants.{Late}
 use Rattle.cl_bound.specs.Answers.{answer_with, answer_to, answers_of, answer_at, is_late}
 use Rattle.cl_analyse.specs.declared.findings.Verdict.{Verdict}
-use Rattle.cl_analyse.specs.Verdicts.{verdict_of}
+use Rattle.cl_analyse.specs.Verdicts.{verdict_of, is_met}
 use Rattle.cl_analyse.proofs.SomeFindings.{some_findings}
 use Rattle.cl_tune.specs.declared.times.TaskTimes.{TaskTimes}
-use Rattle.cl_tune.specs.Headroom.{is_met, Keeps}
+use Rattle.cl_tune.specs.Headroom.{Keeps}
 use Rattle.cl_tune.specs.Inner.Times.{is_higher, may_hold, above_with, hold_with, question_with, AreTimely}
 use Rattle.cl_tune.specs.Scaled.{scaled_runnable, scaled}
 use Rattle.cl_tune.proofs.ScaledTimes.{filters_agree, count_kept, stimulus_is, priority_is, deadline_is, jitter_is, others_are, times, task_is, times_are, time_is}

@@ -13,10 +13,11 @@ use Rattle.cl_model.specs.ValidTasks.{spans_too_many}
 use Rattle.cl_model.specs.Holds.{greatest_by}
 use Rattle.cl_model.proofs.ListFacts.{same_tests}
 use Rattle.cl_runs.specs.TaskTiming.{Timing, System, timing_at}
+use Rattle.cl_runs.specs.Priorities.{is_above, may_block}
 use Rattle.cl_stim.specs.AnyStimulus.{kind_of}
 use Rattle.cl_stim.specs.Releases.{most_releases}
 use Rattle.cl_resp.specs.declared.question.Above.{Above}
-use Rattle.cl_resp.specs.Question.{greatest_execution, is_above, may_block, longest_hold, block_of, taken_by, question_of}
+use Rattle.cl_resp.specs.Question.{greatest_execution, longest_hold, block_of, taken_by, question_of}
 use Rattle.cl_resp.specs.Response.{Response, demand, response_to}
 use Rattle.cl_resp.proofs.Filters.{filter-map}
 use Rattle.cl_model.proofs.Greatest.{greatest_least, greatest_within, greatest_agrees, greatest_mapped}

@@ -1,21 +1,15 @@
 -- The headroom of a model: how far its greatest execution times may be scaled.
-use Rattle.std.specs.Prelude.{◌≡◌, ℕ, ◌<◌, ◌≤◌, Bool, true, false, All, Option, Some, None, IfSome}
+use Rattle.std.specs.Prelude.{◌≡◌, ℕ, ◌<◌, ◌≤◌, true, false, All, Option, Some, None, IfSome}
 use Rattle.cl_model.specs.declared.model.SystemModel.{SystemModel}
 use Rattle.cl_model.specs.Ranges.{IsInRange}
 use Rattle.cl_bound.specs.declared.answer.TaskAnswer.{TaskAnswer}
 use Rattle.cl_bound.specs.Answers.{is_late}
 use Rattle.cl_analyse.specs.declared.findings.Findings.{Findings}
 use Rattle.cl_analyse.specs.declared.findings.Verdict.{Verdict}
-use Rattle.cl_analyse.specs.declared.findings.Verdict.TheVariants.{Met, Broken, Unshown}
 use Rattle.cl_analyse.specs.Findings.{AreFindings}
+use Rattle.cl_analyse.specs.Verdicts.{is_met}
 use Rattle.cl_tune.specs.declared.percent.TheConstants.{MOST_PERCENT}
 use Rattle.cl_tune.specs.Scaled.{scaled}
-
--- whether a requirement is found met
-abbrev pub is_met : Verdict → Bool
-is_met (Met value) = true
-is_met (Broken value) = false
-is_met (Unshown value) = false
 
 -- a percentage keeps: the model that it scales is in range, none of its tasks is late, and each requirement is met
 pub record Keeps (model : SystemModel) (percent : ℕ) : Type 0 where

@@ -5,7 +5,7 @@ use Rattle.cl_model.specs.ByNumber.{task_at, core_of, tasks_of_core}
 use Rattle.cl_model.specs.ValidTasks.{spans_too_many}
 use Rattle.cl_runs.specs.SystemOf.{system_of}
 use Rattle.cl_runs.specs.TaskTiming.{System, timing_at}
-use Rattle.cl_resp.specs.Question.{is_above}
+use Rattle.cl_runs.specs.Priorities.{is_above}
 use Rattle.cl_bound.specs.Answers.{answer_to, is_late}
 use Rattle.cl_tune.specs.Priorities.{with_priorities}
 

@@ -12,7 +12,8 @@ use cl_time::{NoMemory, Steps};
 use std::alloc::Global;
 use std::sync::ledger::Ledger;
 
-/// The first unplaced task that passes below all other unplaced ones. There is none exactly where none does.
+/// Finds the first unplaced task that passes below all other unplaced ones. There is none exactly
+/// where none of them does.
 fn first_fitting<L: Ledger>(
     alloc: Global,
     model: &ValidModel,
@@ -25,13 +26,15 @@ fn first_fitting<L: Ledger>(
     requires unplaced { All (λ other. other < length model.now.tasks) unplaced.now }
     requires few { length unplaced.now ≤ MOST_TASKS_OF_CORE }
     requires distinct { AreDistinct unplaced.now }
-    ensures { IfOk result (λ found. found ≡ find (fits (system_of model.now) block unplaced.now) unplaced.now) }
+    ensures { IfOk result
+        (λ found. found ≡ find (fits (system_of model.now) block unplaced.now) unplaced.now) }
 {
     let Some((_, later)) = unplaced.split_first() else {
         return Ok(None);
     };
     let too_long = first_too_long_for_any(model, unplaced);
-    // what all unplaced tasks take but the one that is tried: from one to the next a single place changes
+    // what all unplaced tasks take but the one that is tried: only one entry changes from one task
+    // to the next
     let mut others = all_above(alloc, model, later)?;
     for (place, task) in unplaced.iter().enumerate() {
         let (fit, same) = fits(model, block, too_long, others, *task, steps);
@@ -44,7 +47,8 @@ fn first_fitting<L: Ledger>(
     Ok(None)
 }
 
-/// The best order of a core, from priority 1 upward. There is none exactly where no order of the core passes.
+/// Finds the best order of a core, as its tasks from priority 1 upward. There is none exactly where
+/// no order of the core passes.
 pub(crate) fn best_order<L: Ledger>(
     alloc: Global,
     model: &ValidModel,

@@ -1,5 +1,6 @@
-//! Whether a task passes below others of its core. Times are in ticks. An order is filled from priority 1 upward; a
-//! task is unplaced while it has no place in it, and then stands above all tasks that have one.
+//! Whether a task passes below others of its core. Times are in ticks. An order is filled from
+//! priority 1 upward. A task is unplaced while the order doesn't have it, and then it stands above
+//! all tasks that the order has.
 ghost use Rattle.std.specs.Prelude.{◌≡◌, ℕ, ◌<◌, ◌≤◌, ◌^◌, ◌&&◌, nat_le, nat_lt, map, max, length, slice_set, is_some, IfOk, All};
 ghost use Rattle.cl_model.specs.ByNumber.{deadline_of};
 ghost use Rattle.cl_model.specs.Validity.{IsValid};
@@ -17,7 +18,7 @@ use cl_time::{NoMemory, Steps};
 use std::alloc::Global;
 use std::sync::ledger::Ledger;
 
-/// The tasks of a list but for one.
+/// Copies the tasks of a list without one of them.
 pub(crate) fn without(alloc: Global, tasks: &[u32], task: u32) -> Result<Vec<u32>, NoMemory>
     ensures { IfOk result (λ others. others.items ≡ without task tasks.now) }
 {
@@ -29,7 +30,7 @@ pub(crate) fn without(alloc: Global, tasks: &[u32], task: u32) -> Result<Vec<u32
     Ok(others)
 }
 
-/// How long a runnable of a task may hold its core once it has begun, given by the number of the task.
+/// How long a runnable of the task of this number may hold its core once it has begun, in ticks.
 pub(crate) fn longest_hold(model: &ValidModel, task: u32) -> u64
     requires { task < length model.now.tasks }
     ensures hold { result ≡ longest_hold (timing_at (system_of model.now) task) }
@@ -38,7 +39,8 @@ pub(crate) fn longest_hold(model: &ValidModel, task: u32) -> u64
     model.task(task).longest_hold()
 }
 
-/// The first deadline that spans too many least distances of a task of higher priority, with the jitter of that task.
+/// The least deadline that, with the jitter of a task of higher priority, spans too many least
+/// distances of that task.
 fn first_too_long(above: StimulusKind) -> u128
     ensures { (deadline : ℕ) → spans_too_many deadline above ≡ nat_le result deadline }
 {
@@ -46,7 +48,8 @@ fn first_too_long(above: StimulusKind) -> u128
     (limit + 1).saturating_sub(u128::from(above.greatest_jitter()))
 }
 
-/// The first deadline that spans too many least distances of one of the tasks, or one that is longer than any.
+/// The least deadline that, with the jitter of one of the tasks, spans too many least distances of
+/// that task. Where there are no tasks, it is longer than any deadline.
 pub(crate) fn first_too_long_for_any(model: &ValidModel, tasks: &[u32]) -> u128
     requires { All (λ task. task < length model.now.tasks) tasks.now }
     ensures { (deadline : ℕ) → deadline < 2 ^ 64
@@ -59,7 +62,7 @@ pub(crate) fn first_too_long_for_any(model: &ValidModel, tasks: &[u32]) -> u128
     first
 }
 
-/// What the others take, in file order.
+/// Stimulus and execution time of each of the other tasks, in the order of `others`.
 pub(crate) fn all_above(
     alloc: Global,
     model: &ValidModel,
@@ -67,11 +70,13 @@ pub(crate) fn all_above(
 ) -> Result<List<Above>, NoMemory>
     requires valid { IsValid model.now }
     requires others { All (λ other. other < length model.now.tasks) others.now }
-    ensures { IfOk result (λ above. above ≡ map (λ other. taken_by (timing_at (system_of model.now) other)) others.now) }
+    ensures { IfOk result
+        (λ above. above ≡ map
+        (λ other. taken_by (timing_at (system_of model.now) other)) others.now) }
 {
     let mut above = List::new(alloc);
     for other in others {
-        // made here and not by `above_of`, of whose stimulus `push` would not know the type
+        // not by `above_of`, since `push` wouldn't know the type of its stimulus
         let stimulus = AnyStimulus::of(model.stimulus_of(*other));
         let time = model.time_of(*other);
         above.push(Above { stimulus, time })?;
@@ -79,7 +84,7 @@ pub(crate) fn all_above(
     Ok(above)
 }
 
-/// What a task takes of its core.
+/// Stimulus and execution time of a task.
 fn above_of(model: &ValidModel, task: u32) -> Above
     requires valid { IsValid model.now }
     requires task { task < length model.now.tasks }
@@ -91,7 +96,8 @@ fn above_of(model: &ValidModel, task: u32) -> Above
     }
 }
 
-/// Puts what a task takes in the place of what another one takes. Past the end nothing changes.
+/// Replaces what stands at a place by stimulus and execution time of a task. Past the end nothing
+/// changes.
 pub(crate) fn put_above(model: &ValidModel, above: &mut List<Above>, place: usize, task: u32)
     requires valid { IsValid model.now }
     requires task { task < length model.now.tasks }
@@ -102,8 +108,8 @@ pub(crate) fn put_above(model: &ValidModel, above: &mut List<Above>, place: usiz
     }
 }
 
-/// The question of a task below others that take so much, where whole runnables of the tasks below it block it for so
-/// long.
+/// The question of a task below the tasks of `above`, where whole runnables of the tasks below it
+/// may block it for `block` ticks.
 fn question_over(model: &ValidModel, block: u64, above: List<Above>, task: u32) -> Question
     requires { task < length model.now.tasks }
     ensures { result ≡ question_over (system_of model.now) block above task }
@@ -117,8 +123,9 @@ fn question_over(model: &ValidModel, block: u64, above: List<Above>, task: u32) 
     }
 }
 
-/// Whether a task fits below others, where the whole runnables of those below it block it for so long: its deadline
-/// comes before the first that is too long for them, and it passes. What the others take comes back.
+/// Checks whether a task passes below others, where whole runnables of the tasks below it may block
+/// it for `block` ticks: its deadline is less than `too_long`, and the task isn't late. Counts a
+/// step where the deadline is less, and gives `others` back.
 pub(crate) fn fits<L: Ledger>(
     model: &ValidModel,
     block: u64,

@@ -1,4 +1,4 @@
-//! Whether tasks are in time where they have other times than the model says. Times are in ticks.
+//! Whether the tasks of a model are in time with other execution times. Times are in ticks.
 ghost use Rattle.std.specs.Prelude.{◌≡◌, ℕ, ◌<◌, length, map, filter, IfOk, MatchBool};
 ghost use Rattle.cl_model.specs.ByNumber.{task_at, core_of, tasks_of_core};
 ghost use Rattle.cl_model.specs.Holds.{greatest_by};
@@ -15,7 +15,8 @@ use cl_time::{NoMemory, Steps};
 use std::alloc::Global;
 use std::sync::ledger::Ledger;
 
-/// What the tasks of higher priority on the core of a task take, in file order.
+/// Stimulus and execution time of each task above this one on its core, in file order. The
+/// execution times are those of `times`.
 fn all_above(
     alloc: Global,
     model: &ValidModel,
@@ -41,7 +42,8 @@ fn all_above(
     Ok(above)
 }
 
-/// How long a whole runnable of a task, or of one of lower priority on its core, may hold the core once it has begun.
+/// How long a whole runnable of a task, or of one of lower priority on its core, may hold the core
+/// once it has begun, by `times`.
 #[tactic(auto, using(cl_model::proofs::Greatest::greatest_more))]
 fn block_of(model: &ValidModel, times: &[TaskTimes], task: u32) -> u64
     requires task { task < length model.now.tasks }
@@ -59,7 +61,8 @@ fn block_of(model: &ValidModel, times: &[TaskTimes], task: u32) -> u64
     block
 }
 
-/// The question of a task where the tasks have these times.
+/// The question of a task where the tasks have these times. `NoMemory` comes where there is no
+/// memory for the tasks above it.
 fn question_of(
     alloc: Global,
     model: &ValidModel,
@@ -80,7 +83,8 @@ fn question_of(
     })
 }
 
-/// Whether no task is late where the tasks have these times. It asks up to the first that is.
+/// Checks whether no task is late where the tasks have these times. Stops at the first late one.
+/// Each task that it asks counts a step.
 pub(crate) fn tasks_in_time<L: Ledger>(
     alloc: Global,
     model: &ValidModel,
@@ -89,8 +93,11 @@ pub(crate) fn tasks_in_time<L: Ledger>(
 ) -> Result<bool, NoMemory>
     requires valid { IsValid model.now }
     requires times { length times.now ≡ length model.now.tasks }
-    requires in_range { (task : ℕ) → task < length model.now.tasks → IsQuestionInRange (question_with model.now times.now task) }
-    ensures { IfOk result (λ timely. MatchBool timely (AreTimely model.now times.now) (AreTimely model.now times.now → ⊥)) }
+    requires in_range { (task : ℕ) → task < length model.now.tasks
+        → IsQuestionInRange (question_with model.now times.now task) }
+    ensures { IfOk result
+        (λ timely. MatchBool timely (AreTimely model.now times.now) (AreTimely model.now times.now
+        → ⊥)) }
 {
     for task in 0..model.tasks() {
         let question = question_of(alloc, model, times, task)?;

@@ -1,4 +1,5 @@
-//! Better designs by search: the best order of the priorities on every core, and how far execution times may grow.
+//! Better designs by search: the best order of the priorities on every core, and how far execution
+//! times may grow.
 #![tactic(auto)]
 
 mod answer;

@@ -1,4 +1,4 @@
-//! The best order of the priorities on every core.
+//! The best orders of the priorities on all cores.
 ghost use Rattle.std.specs.Prelude.{◌≡◌, ℕ, ◌<◌, ◌==◌, length, slice_index, position, IfOk};
 ghost use Rattle.std.specs.List.{HoldsAt};
 ghost use Rattle.cl_model.specs.ByNumber.{core_of};
@@ -12,21 +12,22 @@ use cl_time::{NoMemory, Steps};
 use std::alloc::Global;
 use std::sync::ledger::Ledger;
 
-/// The place of a task in an order, counted from 0. There is none exactly where it isn't in it.
+/// Finds the place of a task in an order, counted from 0. There is none exactly where the order
+/// doesn't have the task.
 fn place_in(order: &[u32], task: u32) -> Option<usize>
     ensures { result ≡ position (λ other. other == task) order.now }
 {
     order.iter().position(|other| *other == task)
 }
 
-/// The priority that an order gives a task.
+/// The priority that an order gives a task: 1 for its first task.
 fn priority_in(order: &[u32], task: u32) -> u64
     ensures { result ≡ priority_in order.now task }
 {
     place_in(order, task).unwrap_or(0) as u64 + 1
 }
 
-/// The priorities that the orders of the cores give the tasks, in file order.
+/// Lists the priorities that the orders of the cores give the tasks, in file order.
 fn priorities_by(
     alloc: Global,
     model: &ValidModel,
@@ -35,7 +36,8 @@ fn priorities_by(
     requires { length orders.now ≡ length model.now.cores }
     ensures one_a_task { IfOk result (λ priorities. length priorities ≡ length model.now.tasks) }
     ensures each { IfOk result (λ priorities. (task : ℕ) → task < length model.now.tasks
-        → HoldsAt (λ order. slice_index priorities task ≡ priority_in order.items task) orders.now (core_of model.now task)) }
+        → HoldsAt (λ order. slice_index priorities task
+        ≡ priority_in order.items task) orders.now (core_of model.now task)) }
 {
     let mut priorities = List::new(alloc);
     for task in 0..model.tasks() {
@@ -45,14 +47,17 @@ fn priorities_by(
     Ok(priorities)
 }
 
-/// The best order of the priorities on every core: under it no task of the core is late and no deadline spans too many
-/// least distances of a task of higher priority, and of all such orders it is the first in dictionary order, as a list
-/// of tasks by their numbers from priority 1 upward. Whole runnables block as they do under the order that is tried.
+/// Finds the best order of the priorities on every core. Under it no task of the core is late and
+/// no deadline spans too many least distances of a task of higher priority. Of all such orders it
+/// is the first in dictionary order, as a list of tasks by their numbers from priority 1 upward.
+/// The blocking by whole runnables is that under the order that is tried.
 ///
-/// With these priorities on all cores at once the model is valid and none of its tasks is late (see `laws`).
+/// With these priorities on all cores at once the model is valid and none of its tasks is late (see
+/// `laws`).
 ///
-/// Where no order of some core passes, the answer is the first such core. The only error is `NoMemory`, where memory
-/// ran out; it leaves nothing. It asks one question of each task that is tried at a place.
+/// Where no order of some core passes, the answer is the first such core. The only error is
+/// `NoMemory`, where memory ran out; it leaves nothing. It asks at most one question for each task
+/// that is tried at a priority, which counts a step.
 pub fn order<L: Ledger>(
     alloc: Global,
     model: &ValidModel,

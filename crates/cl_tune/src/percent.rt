@@ -1,4 +1,4 @@
 //! Percentages of the greatest execution times.
 
-/// The greatest percentage that is tried.
+/// The greatest percentage that `headroom` tries.
 pub const MOST_PERCENT: u64 = 1_000;

@@ -3,7 +3,8 @@ ghost use Rattle.std.specs.Prelude.{◌≡◌, ◌≤◌, ◌↔◌, true, false
 ghost use Rattle.cl_model.specs.Ranges.{IsInRange};
 ghost use Rattle.cl_model.specs.Validity.{IsValid};
 ghost use Rattle.cl_bound.specs.Answers.{is_late};
-ghost use Rattle.cl_tune.specs.Headroom.{is_met, Keeps, IsHeadroom, SmallerKeep};
+ghost use Rattle.cl_analyse.specs.Verdicts.{is_met};
+ghost use Rattle.cl_tune.specs.Headroom.{Keeps, IsHeadroom, SmallerKeep};
 ghost use Rattle.cl_tune.specs.Scaled.{scaled};
 
 use crate::in_time::tasks_in_time;
@@ -17,7 +18,7 @@ use cl_time::{NoMemory, Steps};
 use std::alloc::Global;
 use std::sync::ledger::Ledger;
 
-/// Whether a requirement is found met.
+/// Whether a requirement is found to be met.
 fn is_met(verdict: &Verdict) -> bool
     ensures { result ≡ is_met verdict.now }
 {
@@ -31,14 +32,14 @@ fn are_in_time(answers: &[TaskAnswer]) -> bool
     answers.iter().all(|answer| !answer.is_late())
 }
 
-/// Whether each requirement is found met.
+/// Whether each requirement is found to be met.
 fn are_met(verdicts: &[Verdict]) -> bool
     ensures { IsTrue result ↔ All (λ verdict. is_met verdict ≡ true) verdicts.now }
 {
     verdicts.iter().all(|verdict| is_met(verdict))
 }
 
-/// Whether no task is late and each requirement is met.
+/// Whether no task is late and each requirement is found to be met.
 fn is_kept(findings: &Findings) -> bool
     ensures { IsTrue result ↔ ((All (λ answer. is_late answer ≡ false) findings.now.tasks)
         × (All (λ verdict. is_met verdict ≡ true) findings.now.verdicts)) }
@@ -46,7 +47,8 @@ fn is_kept(findings: &Findings) -> bool
     are_in_time(findings.tasks.as_slice()) && are_met(findings.verdicts.as_slice())
 }
 
-/// The valid model that a plain one is.
+/// Makes a valid model of a plain one that is known to be valid. `NoMemory` leaves nothing of the
+/// model.
 fn adopted(alloc: Global, model: SystemModel) -> Result<ValidModel, NoMemory>
     requires { IsValid model }
     ensures { IfOk result (λ valid. valid ≡ model) }
@@ -57,7 +59,7 @@ fn adopted(alloc: Global, model: SystemModel) -> Result<ValidModel, NoMemory>
     }
 }
 
-/// Whether a percentage keeps, by the findings of the model that it scales, which is in range.
+/// Checks whether a percentage keeps, by the findings of the scaled model, which is in range.
 fn keeps_by_findings<L: Ledger>(
     alloc: Global,
     model: &SystemModel,
@@ -67,7 +69,8 @@ fn keeps_by_findings<L: Ledger>(
     requires valid { IsValid model.now }
     requires percent { percent ≤ MOST_PERCENT }
     requires in_range { IsInRange (scaled model.now percent) }
-    ensures { IfOk result (λ kept. MatchBool kept (Keeps model.now percent) (Keeps model.now percent → ⊥)) }
+    ensures { IfOk result
+        (λ kept. MatchBool kept (Keeps model.now percent) (Keeps model.now percent → ⊥)) }
 {
     let scaled = scaled(alloc, model, percent)?;
     let scaled = adopted(alloc, scaled)?;
@@ -75,8 +78,9 @@ fn keeps_by_findings<L: Ledger>(
     Ok(is_kept(&findings))
 }
 
-/// Whether a percentage keeps: the model that it scales is in range, none of its tasks is late, and each requirement is
-/// met. Tasks are asked first and without that model, and chains only where there are requirements.
+/// Checks whether a percentage keeps: the scaled model is in range, none of its tasks is late, and
+/// each requirement is met. Tasks are asked first, without a copy of the model, and a scaled copy
+/// is analysed only where there are requirements.
 fn keeps<L: Ledger>(
     alloc: Global,
     model: &ValidModel,
@@ -84,7 +88,8 @@ fn keeps<L: Ledger>(
     steps: &mut Steps<L>,
 ) -> Result<bool, NoMemory>
     requires { percent ≤ MOST_PERCENT }
-    ensures { IfOk result (λ kept. MatchBool kept (Keeps model.now percent) (Keeps model.now percent → ⊥)) }
+    ensures { IfOk result
+        (λ kept. MatchBool kept (Keeps model.now percent) (Keeps model.now percent → ⊥)) }
 {
     let plain = model.plain();
     let tasks = plain.tasks.as_slice();
@@ -102,7 +107,8 @@ fn keeps<L: Ledger>(
     keeps_by_findings(alloc, plain, percent, steps)
 }
 
-/// The greatest percentage that keeps, found by halving what is left. There is none exactly where 1 percent doesn't keep.
+/// Finds the greatest percentage that keeps, by halving the range that is left. There is none
+/// exactly where 1 percent doesn't keep.
 fn greatest_kept<L: Ledger>(
     alloc: Global,
     model: &ValidModel,
@@ -111,7 +117,7 @@ fn greatest_kept<L: Ledger>(
     requires { IsValid model.now }
     ensures { IfOk result (IsHeadroom model.now) }
 {
-    // `kept` is 0 or a percentage that keeps, and none from `end` up to the most keeps
+    // `kept` is 0 or a percentage that keeps, and no percentage from `end` to `MOST_PERCENT` keeps
     let mut kept = 0;
     let mut end = MOST_PERCENT + 1;
     while end - kept > 1 {
@@ -128,13 +134,15 @@ fn greatest_kept<L: Ledger>(
     Ok(Some(kept))
 }
 
-/// The headroom of a model: the greatest percentage from 1 to 1,000 by which all greatest execution times may be scaled,
-/// where each is rounded down but no less than the least time, so that the model stays in range, no task is late and
-/// each requirement is met. Each smaller percentage keeps that too, and there is no headroom exactly where 1 percent
-/// doesn't.
+/// Finds the headroom of a model: the greatest percentage from 1 to 1,000 that keeps. A percentage
+/// keeps if the model stays in range, no task is late and each requirement is met when all greatest
+/// execution times are scaled by it, each rounded down, but to no less than the least time. Each
+/// smaller percentage keeps, too. `None` comes exactly where 1 percent doesn't keep.
 ///
-/// The only error is `NoMemory`, where memory ran out; it leaves nothing. It asks the tasks for ten percentages or so,
-/// and where there are requirements it analyses a copy of the model for each of those that leaves no task late.
+/// The only error is `NoMemory`, where memory ran out; it leaves nothing. The tasks are asked for
+/// at most ten percentages. Where there are requirements, a copy of the model is analysed for each
+/// of these that leaves no task late. Each question to a task counts a step, and each analysis
+/// counts its own.
 pub fn headroom<L: Ledger>(
     alloc: Global,
     model: &ValidModel,

@@ -8,7 +8,7 @@ use cl_model::{List, MOST_TICKS, RunnableDef, SystemModel, TaskDef, TryCopy};
 use cl_time::NoMemory;
 use std::alloc::Global;
 
-/// A greatest time by so many percent, rounded down, but no less than the least time.
+/// Scales a greatest time by a percentage, rounded down, but to no less than the least time.
 pub(crate) fn scaled_time(percent: u64, least: u64, greatest: u64) -> u64
     requires percent { percent ≤ MOST_PERCENT }
     requires greatest { greatest ≤ MOST_TICKS }
@@ -17,7 +17,7 @@ pub(crate) fn scaled_time(percent: u64, least: u64, greatest: u64) -> u64
     least.max(greatest * percent / 100)
 }
 
-/// A copy of a runnable with its greatest time scaled.
+/// Copies a runnable and scales its greatest time.
 fn scaled_runnable(
     alloc: Global,
     runnable: &RunnableDef,
@@ -37,7 +37,7 @@ fn scaled_runnable(
     })
 }
 
-/// Copies of runnables with their greatest times scaled.
+/// Copies runnables and scales their greatest times.
 fn scaled_runnables(
     alloc: Global,
     runnables: &[RunnableDef],
@@ -54,7 +54,7 @@ fn scaled_runnables(
     Ok(copies)
 }
 
-/// A copy of a task with the greatest times of its runnables scaled.
+/// Copies a task and scales the greatest times of its runnables.
 fn scaled_task(alloc: Global, task: &TaskDef, percent: u64) -> Result<TaskDef, NoMemory>
     requires percent { percent ≤ MOST_PERCENT }
     requires in_range { IsTaskInRange task.now }
@@ -71,7 +71,7 @@ fn scaled_task(alloc: Global, task: &TaskDef, percent: u64) -> Result<TaskDef, N
     })
 }
 
-/// Copies of tasks with the greatest times of their runnables scaled.
+/// Copies tasks and scales the greatest times of their runnables.
 fn scaled_tasks(alloc: Global, tasks: &[TaskDef], percent: u64) -> Result<List<TaskDef>, NoMemory>
     requires percent { percent ≤ MOST_PERCENT }
     requires in_range { All IsTaskInRange tasks.now }
@@ -84,7 +84,7 @@ fn scaled_tasks(alloc: Global, tasks: &[TaskDef], percent: u64) -> Result<List<T
     Ok(copies)
 }
 
-/// A copy of a model with the greatest times of all runnables scaled.
+/// Copies a model and scales the greatest times of all runnables.
 #[tactic(auto, unfolding(crate::specs::Scaled::scaled))]
 pub(crate) fn scaled(
     alloc: Global,

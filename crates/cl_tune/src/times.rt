@@ -1,4 +1,4 @@
-//! The times of tasks whose greatest execution times are scaled. Times are in ticks.
+//! The times of tasks with scaled greatest execution times. Times are in ticks.
 ghost use Rattle.std.specs.Prelude.{◌≡◌, ◌≤◌, true, length, map, sum_by, IfOk, All};
 ghost use Rattle.std.specs.List.{list_all};
 ghost use Rattle.cl_model.specs.Holds.{greatest_by};
@@ -11,16 +11,16 @@ use cl_model::{List, MOST_RUNNABLES, MOST_TICKS, RunnableDef, TaskDef};
 use cl_time::NoMemory;
 use std::alloc::Global;
 
-/// What a task may take of its core.
+/// How long a task may execute, and hold its core, with scaled times.
 #[derive(Clone, Copy, Debug, PartialEq, Eq)]
 pub(crate) struct TaskTimes {
-    /// How long its runnables take together at most.
+    /// The greatest execution time of a job: the sum of those of its runnables.
     pub(crate) time: u64,
-    /// How long one of them may hold the core once it has begun.
+    /// How long a runnable of the task may hold its core once it has begun.
     pub(crate) hold: u64,
 }
 
-/// Whether the greatest times of runnables stay in range where they are scaled.
+/// Whether the greatest times of runnables stay in range when they are scaled.
 fn runnables_within(runnables: &[RunnableDef], percent: u64) -> bool
     requires percent { percent ≤ MOST_PERCENT }
     requires in_range { All IsRunnableInRange runnables.now }
@@ -34,7 +34,7 @@ fn runnables_within(runnables: &[RunnableDef], percent: u64) -> bool
     within
 }
 
-/// Whether the greatest times of all runnables of tasks stay in range where they are scaled.
+/// Whether the greatest times of all runnables of tasks stay in range when they are scaled.
 pub(crate) fn are_within(tasks: &[TaskDef], percent: u64) -> bool
     requires percent { percent ≤ MOST_PERCENT }
     requires in_range { All IsTaskInRange tasks.now }
@@ -47,7 +47,7 @@ pub(crate) fn are_within(tasks: &[TaskDef], percent: u64) -> bool
     within
 }
 
-/// How long runnables take together at most where their greatest times are scaled.
+/// Adds up the scaled greatest times of runnables.
 fn scaled_sum(runnables: &[RunnableDef], percent: u64) -> u64
     requires percent { percent ≤ MOST_PERCENT }
     requires count { length runnables.now ≤ MOST_RUNNABLES }
@@ -62,7 +62,7 @@ fn scaled_sum(runnables: &[RunnableDef], percent: u64) -> u64
     sum
 }
 
-/// How long one of some runnables may hold its core once it has begun, where their greatest times are scaled.
+/// How long one of the runnables may hold its core once it has begun, by its scaled greatest time.
 fn longest_scaled_hold(runnables: &[RunnableDef], percent: u64) -> u64
     requires percent { percent ≤ MOST_PERCENT }
     requires in_range { All IsRunnableInRange runnables.now }
@@ -78,7 +78,7 @@ fn longest_scaled_hold(runnables: &[RunnableDef], percent: u64) -> u64
     longest
 }
 
-/// The times of all tasks where the greatest times of their runnables are scaled.
+/// Finds the times of all tasks with the greatest times of their runnables scaled, in file order.
 pub(crate) fn all_times(
     alloc: Global,
     tasks: &[TaskDef],

@@ -20,7 +20,8 @@ use cl_model::{
 };
 use std::alloc::Global;
 
-/// What step k of a chain reads and writes, where the steps have these numbers.
+/// Returns what step `k` of a chain reads and writes, where its steps are the runnables with these
+/// numbers.
 fn step_of<'a, 'b>(
     uses: &'a [LabelUse<'b>],
     numbers: &[usize],
@@ -32,9 +33,10 @@ fn step_of<'a, 'b>(
     uses.get(*number)
 }
 
-/// Whether a step is known and doesn't write a label.
+/// Whether a step is known but doesn't write a label.
 fn misses_write(step: Option<&LabelUse<'_>>, label: &Name) -> bool
-    ensures { result ≡ is_some_and (option_copied step.entry) (λ writer. not (has_name label.now writer.writes)) }
+    ensures { result ≡ is_some_and (option_copied step.entry)
+        (λ writer. not (has_name label.now writer.writes)) }
 {
     match step {
         Some(writer) => !writer.writes.contains(label),
@@ -42,9 +44,10 @@ fn misses_write(step: Option<&LabelUse<'_>>, label: &Name) -> bool
     }
 }
 
-/// Whether a step is known and doesn't read a label.
+/// Whether a step is known but doesn't read a label.
 fn misses_read(step: Option<&LabelUse<'_>>, label: &Name) -> bool
-    ensures { result ≡ is_some_and (option_copied step.entry) (λ reader. not (has_name label.now reader.reads)) }
+    ensures { result ≡ is_some_and (option_copied step.entry)
+        (λ reader. not (has_name label.now reader.reads)) }
 {
     match step {
         Some(reader) => !reader.reads.contains(label),
@@ -52,14 +55,15 @@ fn misses_read(step: Option<&LabelUse<'_>>, label: &Name) -> bool
     }
 }
 
-/// Whether a label isn't handed over from a step to the next one.
+/// Whether a step is known but doesn't write a label, or the next one is known but doesn't read it.
 fn misses_label(writer: Option<&LabelUse<'_>>, reader: Option<&LabelUse<'_>>, label: &Name) -> bool
     ensures { result ≡ misses_use (option_copied writer.entry) (option_copied reader.entry) label.now }
 {
     misses_write(writer, label) || misses_read(reader, label)
 }
 
-/// Checks M44 for step k: its number, which may be guessed.
+/// Checks M44 for step `k` and returns the number of its runnable. `guess` is the number to look at
+/// first.
 fn step_number(
     runnables: &NameSet,
     place: Place,
@@ -77,7 +81,8 @@ fn step_number(
     }
 }
 
-/// Checks that a label is handed over from step k, the writer, to the next one, the reader.
+/// Checks M45 for label `k`: the writer, step `k`, writes it, and the reader, the next step, reads
+/// it.
 #[tactic(auto, unfolding(crate::specs::Inner::ChainsByTable::number_hop_check))]
 fn check_hop(
     writer: Option<&LabelUse<'_>>,
@@ -96,7 +101,8 @@ fn check_hop(
     refuse_when(is_missed, Code::M45, at_spot(place, k))
 }
 
-/// Checks M44, and adds the number of each step. Most often a step is the runnable behind the one before.
+/// Checks M44 and adds the number of the runnable of each step. It is first looked for right after
+/// the one of the step before, where it mostly is.
 fn add_numbers(
     numbers: &mut Vec<usize>,
     runnables: &NameSet,
@@ -147,7 +153,7 @@ fn check_lengths(i: usize, chain: &ChainDef) -> Result<(), ModelFault>
     refuse_unless(fits, Code::M43, place)
 }
 
-/// Checks M44: the numbers of the steps.
+/// Checks M44 for chain `i` and returns the number of the runnable of each step.
 fn step_numbers(
     alloc: Global,
     runnables: &NameSet,
@@ -157,7 +163,8 @@ fn step_numbers(
     requires item { i < 2 ^ 32 }
     requires chain { IsChainInRange chain.now }
     ensures checked { Passes result (known_steps_check runnables.now i chain.now) }
-    ensures numbers { IfOk result (λ numbers. AreNumbersOf runnables.now chain.now.runnables numbers.items) }
+    ensures numbers { IfOk result
+        (λ numbers. AreNumbersOf runnables.now chain.now.runnables numbers.items) }
 {
     let place = entry_of(Part::Chain, i).at_key(Key::Runnables);
     let mut numbers = Vec::with_capacity(alloc, chain.runnables.len())?;
@@ -180,7 +187,7 @@ fn check_all_hops(
     check_hops(uses, numbers, place, chain.labels.as_slice())
 }
 
-/// Checks M43 to M45 for chain i.
+/// Checks M43 to M45 for chain `i`.
 #[tactic(auto, using(cl_model::proofs::FirstRefusals::faults), unfolding(crate::specs::Inner::ChainsByTable::use_chain_check))]
 fn check_chain(
     alloc: Global,
@@ -217,7 +224,8 @@ fn check_all_chains(
     Ok(())
 }
 
-/// Checks M43 to M45.
+/// Checks M43 to M45 for each chain. `uses` is what each runnable of the model reads and writes.
+/// Fails with the first refusal, or with `NoMemory` where memory runs out.
 pub fn check_chains(
     alloc: Global,
     model: &SystemModel,
@@ -259,7 +267,7 @@ fn check_all_requirements(
     Ok(())
 }
 
-/// Checks M46.
+/// Checks M46 for each requirement. Fails with the first refusal.
 pub fn check_requirements(model: &SystemModel, names: &Names) -> Result<(), ModelFault>
     requires in_range { IsInRange model.now }
     requires names { names.now ≡ names_of model.now }

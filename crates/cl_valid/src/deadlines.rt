@@ -16,7 +16,8 @@ use cl_model::{
     kind_named, refuse_when,
 };
 
-/// Whether a deadline, with the jitter of a task above, spans too many least distances of that task. Times are in ticks.
+/// Whether a deadline, together with the greatest jitter of a stimulus of a task of higher
+/// priority, exceeds `MOST_DISTANCES` least distances of that stimulus. Times are in ticks.
 pub fn spans_too_many(deadline: u64, above: StimulusKind) -> bool
     ensures { result ≡ spans_too_many deadline above }
 {
@@ -41,7 +42,7 @@ fn is_outpaced(task: &TaskDef, deadline: u64, others: &[Share]) -> bool
         .any(|other| is_outpaced_by(task, deadline, other))
 }
 
-/// Checks M42 for task i.
+/// Checks M42 for task `i`.
 fn check_deadline(
     model: &SystemModel,
     names: &Names,
@@ -70,7 +71,7 @@ fn check_deadline(
     )
 }
 
-/// Checks M42 for each task.
+/// Checks M42 for each task. Fails with the first refusal.
 #[tactic(auto, using(cl_model::proofs::FirstRefusals::loop_faults))]
 pub fn check_deadlines(
     model: &SystemModel,

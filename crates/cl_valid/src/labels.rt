@@ -1,4 +1,4 @@
-//! Labels of a runnable, in order, among which one is found fast.
+//! The labels of a runnable, in order, among which one is found fast.
 ghost use Rattle.std.specs.Prelude.{◌≡◌};
 ghost use Rattle.cl_model.specs.Named.{has_name};
 
@@ -6,8 +6,8 @@ use cl_model::{Name, NameSet};
 use std::alloc::Global;
 use std::marker::Model;
 
-/// Labels in order. Few of them stay in the list that they stand in, since making a set takes longer than going through
-/// the list, and many are put into a set. One of the two is empty.
+/// Labels in order. Few labels stay in the list that they come in, since a search through it is
+/// faster than making a set, and many are put into a set. One of the two is empty.
 #[derive(Drop)]
 pub struct Labels<'a> {
     few: &'a [Name],
@@ -30,7 +30,7 @@ fn is_in_list(labels: &[Name], label: &Name) -> bool
 }
 
 impl<'a> Labels<'a> {
-    /// Few labels.
+    /// Takes few labels, which stay in their list.
     pub fn few(alloc: Global, few: &'a [Name]) -> Labels<'a>
         ensures { result ≡ few.now }
     {
@@ -38,14 +38,14 @@ impl<'a> Labels<'a> {
         Labels { few, many }
     }
 
-    /// Many labels.
+    /// Takes a set of many labels.
     pub fn many(many: NameSet) -> Labels<'a>
         ensures { result ≡ many }
     {
         Labels { few: &[], many }
     }
 
-    /// Whether a label is there.
+    /// Whether a label is among them.
     #[tactic(auto, using(crate::proofs::FewOrMany::in_either))]
     pub fn contains(&self, label: &Name) -> bool
         ensures { result ≡ has_name label.now self.now }

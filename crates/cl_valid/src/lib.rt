@@ -1,4 +1,5 @@
-//! Whether a model is in range and valid, and the first refusal of one that isn't valid.
+//! Checks whether a model is in range and valid, and finds the first refusal of one that isn't
+//! valid.
 #![tactic(auto)]
 
 use cl_model::ModelFault;
@@ -24,5 +25,5 @@ pub use runnables::check_runnables;
 pub use stimuli::{has_late_offset, has_long_burst, has_no_distance};
 pub use validation::validate;
 
-/// Why a model isn't taken: its first refusal, or want of memory.
+/// Why a model isn't accepted as valid: its first refusal, or want of memory.
 pub type ValidFault = ModelFault;

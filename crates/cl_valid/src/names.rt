@@ -1,4 +1,4 @@
-//! The names of a model, numbered.
+//! The names of a model, which are numbered and checked for repeats.
 ghost use Rattle.std.specs.Prelude.{◌≡◌, ◌<◌, ◌^◌, ◌++◌, [], All, map, length, IfOk, OnOk};
 ghost use Rattle.cl_model.specs.declared.place.Part.TheVariants as parts;
 ghost use Rattle.cl_model.specs.declared.place.Key.TheVariants as keys;
@@ -18,7 +18,8 @@ use cl_model::{
 };
 use std::alloc::Global;
 
-/// The names of a model that later checks look up, numbered in order.
+/// The names of a model that later checks look up. Those of each section are numbered as its
+/// entries, and those of the runnables in file order over all tasks.
 #[derive(Drop)]
 pub struct Names {
     pub cores: NameSet,
@@ -35,7 +36,8 @@ fn add_entries<T: Named>(
     entries: &[T],
 ) -> Result<(), ModelFault>
     requires { length entries.now < 2 ^ 32 }
-    ensures checked { Answers result (repeats code (λ i. at_key keys.Name (entry_of section i)) names.old (map T.name_of entries.now)) tt }
+    ensures checked { Answers result
+        (repeats code (λ i. at_key keys.Name (entry_of section i)) names.old (map T.name_of entries.now)) tt }
     ensures names { OnOk result (names.new ≡ names.old ++ map T.name_of entries.now) }
 {
     for (i, entry) in entries.iter().enumerate() {
@@ -45,7 +47,7 @@ fn add_entries<T: Named>(
     Ok(())
 }
 
-/// Adds the names of a section, each of which stands there once.
+/// Adds the names of a section, and refuses the first one that repeats an earlier one.
 fn add_section<T: Named>(
     names: &mut NameSet,
     code: Code,
@@ -61,7 +63,7 @@ fn add_section<T: Named>(
     add_entries(names, code, section, entries.as_slice())
 }
 
-/// Checks that each name of a section stands there once.
+/// Refuses the first name of a section that repeats an earlier one.
 fn check_section<T: Named>(
     alloc: Global,
     code: Code,
@@ -78,7 +80,8 @@ fn check_section<T: Named>(
 fn add_runnables(names: &mut NameSet, i: usize, runnables: &[RunnableDef]) -> Result<(), ModelFault>
     requires item { i < 2 ^ 32 }
     requires count { length runnables.now < 2 ^ 32 }
-    ensures checked { Answers result (repeats codes.M24 (λ p. at_key keys.Name (at_sub p (entry_of parts.Task i))) names.old (runnable_names runnables.now)) tt }
+    ensures checked { Answers result
+        (repeats codes.M24 (λ p. at_key keys.Name (at_sub p (entry_of parts.Task i))) names.old (runnable_names runnables.now)) tt }
     ensures names { OnOk result (names.new ≡ names.old ++ runnable_names runnables.now) }
 {
     for (p, runnable) in runnables.iter().enumerate() {
@@ -88,7 +91,8 @@ fn add_runnables(names: &mut NameSet, i: usize, runnables: &[RunnableDef]) -> Re
     Ok(())
 }
 
-/// Adds the names of the runnables of all tasks, each of which stands there once.
+/// Adds the names of the runnables of all tasks, and refuses the first one that repeats an earlier
+/// one.
 fn add_all_runnables(names: &mut NameSet, tasks: &[TaskDef]) -> Result<(), ModelFault>
     requires tasks { length tasks.now < 2 ^ 32 }
     requires runnables { All IsTaskInRange tasks.now }
@@ -102,7 +106,8 @@ fn add_all_runnables(names: &mut NameSet, tasks: &[TaskDef]) -> Result<(), Model
     Ok(())
 }
 
-/// Adds all names, and checks M20 to M26. An early exit lets go of no names here.
+/// Adds all names, and checks M20 to M26. The caller owns the names, so an early exit drops none
+/// here.
 #[tactic(auto, using(cl_model::proofs::FirstRefusals::faults), unfolding(cl_model::specs::ValidNames::name_checks))]
 fn add_all(alloc: Global, names: &mut Names, model: &SystemModel) -> Result<(), ModelFault>
     requires in_range { IsInRange model.now }
@@ -125,7 +130,8 @@ fn add_all(alloc: Global, names: &mut Names, model: &SystemModel) -> Result<(), 
     Ok(())
 }
 
-/// Checks M20 to M26: the names of a model, numbered.
+/// Checks M20 to M26 and returns the names of a model, numbered. Fails with the first refusal, or
+/// with `NoMemory` where memory runs out.
 pub fn names_of(alloc: Global, model: &SystemModel) -> Result<Names, ModelFault>
     requires { IsInRange model.now }
     ensures { Answers result (name_checks model.now) (names_of model.now) }

@@ -4,7 +4,7 @@ ghost use Rattle.cl_model.specs.Place as place;
 
 use cl_model::{Part, Place};
 
-/// An entry of a section.
+/// Returns the place of an entry of a section. Entries count from 0.
 pub fn entry_of(section: Part, item: usize) -> Place
     requires { item < 2 ^ 32 }
     ensures { result ≡ place.entry_of section item }
@@ -12,7 +12,7 @@ pub fn entry_of(section: Part, item: usize) -> Place
     section.section_place().at_item(item as u32)
 }
 
-/// A runnable of the task that stands at a place.
+/// Returns the place of a runnable of the task at `task`.
 pub(crate) fn at_sub(task: Place, sub: usize) -> Place
     requires { sub < 2 ^ 32 }
     ensures { result ≡ place.at_sub sub task }
@@ -20,7 +20,7 @@ pub(crate) fn at_sub(task: Place, sub: usize) -> Place
     task.at_sub(sub as u32)
 }
 
-/// A member of the array that stands at a place.
+/// Returns the place of a member of the array at `array`. Members count from 0.
 pub fn at_spot(array: Place, spot: usize) -> Place
     requires { spot < 2 ^ 32 }
     ensures { result ≡ place.at_spot spot array }

@@ -1,4 +1,4 @@
-//! Whether all counts and numbers of a model are in range.
+//! Checks whether all counts and numbers of a model are in range.
 ghost use Rattle.std.specs.Prelude.{◌≤◌, ◌↔◌, IsTrue, All, IfSome, length};
 ghost use Rattle.cl_model.specs.Ranges.{IsTime, IsBurstCount, IsKindInRange, IsRunnableInRange, IsTaskInRange, IsChainInRange, IsCountInRange, IsInRange};
 
@@ -9,14 +9,15 @@ use cl_model::{
     StimulusDef, StimulusKind, SystemModel, TaskDef,
 };
 
-/// Whether it is a time from 1 tick up. It takes no memory.
+/// Whether a time is from 1 tick to `MOST_TICKS`. It takes no memory.
 pub fn is_time(ticks: u64) -> bool
     ensures { IsTrue result ↔ IsTime ticks }
 {
     1 <= ticks && ticks <= MOST_TICKS
 }
 
-/// Whether a burst may have so many jobs. It takes no memory.
+/// Whether a burst may have `count` jobs: from `LEAST_JOBS_OF_BURST` to `MOST_JOBS_OF_BURST`. It
+/// takes no memory.
 pub fn is_burst_count(count: u64) -> bool
     ensures { IsTrue result ↔ IsBurstCount count }
 {
@@ -44,7 +45,7 @@ fn is_kind_in_range(kind: StimulusKind) -> bool
     }
 }
 
-/// Whether a deadline, where one is given, is a time from 1 tick up. It takes no memory.
+/// Whether a deadline, where one is given, is from 1 tick to `MOST_TICKS`. It takes no memory.
 pub fn is_deadline_in_range(deadline: Option<u64>) -> bool
     ensures { IsTrue result ↔ IfSome deadline IsTime }
 {
@@ -71,7 +72,8 @@ fn are_runnables_in_range(runnables: &[RunnableDef]) -> bool
         .all(|runnable| is_runnable_in_range(runnable))
 }
 
-/// Whether the numbers of a task and of its runnables are in range, and their lists not too long. It takes no memory.
+/// Whether the numbers of a task and of its runnables are in range, and their lists aren't too
+/// long. It takes no memory.
 pub fn is_task_in_range(task: &TaskDef) -> bool
     ensures { IsTrue result ↔ IsTaskInRange task.now }
 {
@@ -81,7 +83,8 @@ pub fn is_task_in_range(task: &TaskDef) -> bool
         && are_runnables_in_range(task.runnables.as_slice())
 }
 
-/// Whether the lists of a chain are not too long. It takes no memory.
+/// Whether a chain has at most `MOST_STEPS` runnables and at most `MOST_HOPS` labels. It takes no
+/// memory.
 pub fn is_chain_in_range(chain: &ChainDef) -> bool
     ensures { IsTrue result ↔ IsChainInRange chain.now }
 {
@@ -127,7 +130,8 @@ fn are_requirements_in_range(requirements: &[RequirementDef]) -> bool
         .all(|requirement| requirement.most <= MOST_REQUIRED)
 }
 
-/// Whether all counts and numbers of a model are in the ranges of the model file. It takes no memory.
+/// Whether all counts and numbers of a model are in the ranges that a model file allows. It takes
+/// no memory.
 pub fn in_range(model: &SystemModel) -> bool
     ensures { IsTrue result ↔ IsInRange model.now }
 {

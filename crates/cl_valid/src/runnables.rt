@@ -21,22 +21,23 @@ use cl_model::{
 use cl_time::NoMemory;
 use std::alloc::Global;
 
-/// So many labels are kept in a list, and compared pair by pair, sooner than they are put into a set.
+/// Up to this many labels stay in a list and are compared pair by pair, which is faster than
+/// putting them into a set.
 const FEW_LABELS: usize = 8;
 
-/// What one runnable reads and writes.
+/// The labels that one runnable reads and writes.
 #[derive(Drop)]
 pub struct LabelUse<'a> {
     pub reads: Labels<'a>,
     pub writes: Labels<'a>,
 }
 
-/// What the runnables so far read and write.
+/// What the runnables that have been checked so far read and write.
 #[derive(Drop)]
 pub struct LabelUses<'a> {
-    /// The labels that they write.
+    /// The labels that they write, in order.
     pub written: NameSet,
-    /// Each of them, in order.
+    /// What each of them reads and writes, in order.
     pub each: List<LabelUse<'a>>,
 }
 
@@ -60,7 +61,7 @@ fn check_writer(written: &NameSet, place: Place, k: usize, label: &Name) -> Resu
     refuse_when(written.contains(label), Code::M40, at_spot(place, k))
 }
 
-/// Checks that each label is known.
+/// Checks that each label is known, and refuses the first unknown one with this code.
 #[tactic(auto, using(cl_model::proofs::FirstRefusals::loop_faults))]
 fn check_known(known: &NameSet, code: Code, place: Place, labels: &[Name]) -> Result<(), ModelFault>
     requires { length labels.now < 2 ^ 32 }
@@ -72,7 +73,7 @@ fn check_known(known: &NameSet, code: Code, place: Place, labels: &[Name]) -> Re
     Ok(())
 }
 
-/// Checks that label k of a list doesn't stand earlier in it.
+/// Checks M39 for label `k` of a list: it isn't earlier in the list.
 fn check_apart(place: Place, labels: &[Name], k: usize, label: &Name) -> Result<(), ModelFault>
     requires within { k < length labels.now }
     requires few { length labels.now < 2 ^ 32 }
@@ -82,7 +83,7 @@ fn check_apart(place: Place, labels: &[Name], k: usize, label: &Name) -> Result<
     refuse_when(is_earlier, Code::M39, at_spot(place, k))
 }
 
-/// Checks M39 pair by pair.
+/// Checks M39 for each label of a list, pair by pair.
 #[tactic(auto, using(cl_model::proofs::FirstRefusals::loop_faults))]
 fn check_few(place: Place, labels: &[Name]) -> Result<(), ModelFault>
     requires { length labels.now < 2 ^ 32 }
@@ -94,7 +95,7 @@ fn check_few(place: Place, labels: &[Name]) -> Result<(), ModelFault>
     Ok(())
 }
 
-/// Checks M39 by a set of the labels so far: the set of all of them.
+/// Checks M39 for each label of a list by a set of those before it, and returns the set of all.
 fn distinct_many(alloc: Global, place: Place, labels: &[Name]) -> Result<NameSet, ModelFault>
     requires { length labels.now < 2 ^ 32 }
     ensures { Answers result (twice_check place labels.now) labels.now }
@@ -106,7 +107,7 @@ fn distinct_many(alloc: Global, place: Place, labels: &[Name]) -> Result<NameSet
     Ok(set)
 }
 
-/// Checks M39: the labels of a list, each of which stands there once.
+/// Checks M39 for each label of a list, and returns the labels.
 fn distinct<'a>(alloc: Global, place: Place, labels: &'a [Name]) -> Result<Labels<'a>, ModelFault>
     requires { length labels.now < 2 ^ 32 }
     ensures { Answers result (twice_check place labels.now) labels.now }
@@ -120,7 +121,7 @@ fn distinct<'a>(alloc: Global, place: Place, labels: &'a [Name]) -> Result<Label
     }
 }
 
-/// Checks M40: no label is written yet.
+/// Checks M40: no label of a list is written by an earlier runnable.
 #[tactic(auto, using(cl_model::proofs::FirstRefusals::loop_faults))]
 fn check_unwritten(written: &NameSet, place: Place, labels: &[Name]) -> Result<(), ModelFault>
     requires { length labels.now < 2 ^ 32 }
@@ -132,7 +133,7 @@ fn check_unwritten(written: &NameSet, place: Place, labels: &[Name]) -> Result<(
     Ok(())
 }
 
-/// Adds labels that are new.
+/// Adds labels, each of which must be new.
 fn add_written(written: &mut NameSet, labels: &[Name]) -> Result<(), NoMemory>
     requires { AreNew written.old labels.now }
     ensures { OnOk result (written.new ≡ written.old ++ labels.now) }
@@ -172,7 +173,8 @@ fn distinct_reads<'a>(
     runnable: &'a RunnableDef,
 ) -> Result<Labels<'a>, ModelFault>
     requires { IsRunnableInRange runnable.now }
-    ensures { Answers result (twice_check (at_key keys.Reads place) runnable.now.reads) runnable.now.reads }
+    ensures { Answers result
+        (twice_check (at_key keys.Reads place) runnable.now.reads) runnable.now.reads }
 {
     distinct(alloc, place.at_key(Key::Reads), runnable.reads.as_slice())
 }
@@ -183,7 +185,8 @@ fn distinct_writes<'a>(
     runnable: &'a RunnableDef,
 ) -> Result<Labels<'a>, ModelFault>
     requires { IsRunnableInRange runnable.now }
-    ensures { Answers result (twice_check (at_key keys.Writes place) runnable.now.writes) runnable.now.writes }
+    ensures { Answers result
+        (twice_check (at_key keys.Writes place) runnable.now.writes) runnable.now.writes }
 {
     distinct(alloc, place.at_key(Key::Writes), runnable.writes.as_slice())
 }
@@ -196,7 +199,7 @@ fn check_contest(written: &NameSet, place: Place, runnable: &RunnableDef) -> Res
     check_unwritten(written, place, runnable.writes.as_slice())
 }
 
-/// Checks M36 to M40 for the runnable at a place: what it reads and writes.
+/// Checks M36 to M40 for the runnable at `place` and returns what it reads and writes.
 #[tactic(auto, using(cl_model::proofs::FirstRefusals::faults), unfolding(cl_model::specs::ValidTasks::runnable_checks))]
 fn checked_use<'a>(
     alloc: Global,
@@ -206,7 +209,8 @@ fn checked_use<'a>(
     runnable: &'a RunnableDef,
 ) -> Result<LabelUse<'a>, ModelFault>
     requires { IsRunnableInRange runnable.now }
-    ensures checked { Answers result (runnable_checks known.now written.now place runnable.now) (use_of runnable.now) }
+    ensures checked { Answers result
+        (runnable_checks known.now written.now place runnable.now) (use_of runnable.now) }
     ensures new { OnOk result (AreNew written.now runnable.now.writes) }
 {
     check_times(place, runnable)?;
@@ -218,7 +222,9 @@ fn checked_use<'a>(
     Ok(LabelUse { reads, writes })
 }
 
-/// Checks M36 to M40 for each runnable of the task at a place.
+/// Checks M36 to M40 for each runnable of the task at `place` and adds what they read and write to
+/// `uses`. `known` are the labels of the model. Fails with the first refusal, or with `NoMemory`
+/// where memory runs out; then `uses` may have some of these runnables.
 pub fn check_body<'a>(
     alloc: Global,
     known: &NameSet,
@@ -228,7 +234,8 @@ pub fn check_body<'a>(
 ) -> Result<(), ModelFault>
     requires { IsTaskInRange task.now }
     ensures checked { Answers result (body_checks known.now uses.old.written place task.now) tt }
-    ensures written { OnOk result (uses.new.written ≡ uses.old.written ++ labels_written task.now.runnables) }
+    ensures written { OnOk result
+        (uses.new.written ≡ uses.old.written ++ labels_written task.now.runnables) }
     ensures each { OnOk result (uses.new.each ≡ uses.old.each ++ uses_of task.now.runnables) }
 {
     let runnables = task.runnables.as_slice();
@@ -240,8 +247,9 @@ pub fn check_body<'a>(
     Ok(())
 }
 
-/// Checks M36 to M40 for each runnable of the task at a place, where these labels are known, and these are written
-/// already.
+/// Checks M36 to M40 for each runnable of the task at `place`. `known` are the labels that exist,
+/// and `written` those that other runnables write already. Fails with the first refusal, or with
+/// `NoMemory` where memory runs out.
 pub fn check_runnables(
     alloc: Global,
     known: &NameSet,

@@ -1,4 +1,4 @@
-//! What the tasks take of each core.
+//! The shares that tasks have in their cores.
 ghost use Rattle.std.specs.Prelude.{◌≡◌, ◌<◌, ◌++◌, [], ◌∷◌, length, replicate, slice_set, slice_index_or, IfOk, OnOk, OnErr};
 
 use cl_model::StimulusKind;
@@ -6,14 +6,14 @@ use cl_time::NoMemory;
 use std::alloc::Global;
 use std::marker::Model;
 
-/// What a task takes of its core: its priority, and the kind of its stimulus.
+/// The share of a task in its core: its priority and the kind of its stimulus, where that is known.
 #[derive(Clone, Copy)]
 pub struct Share {
     pub priority: u64,
     pub kind: Option<StimulusKind>,
 }
 
-/// What the tasks of one core take of it.
+/// The shares of the tasks of one core, in file order.
 #[derive(Drop)]
 struct Shares {
     shares: Vec<Share>,
@@ -28,7 +28,7 @@ impl Model for Shares {
     ghost view = { λ shares. shares.shares.items };
 }
 
-/// What the tasks of each core take of it, by the core's number.
+/// The shares of the tasks of each core, by the core's number.
 #[derive(Drop)]
 pub struct SharesByCore {
     cores: Vec<Shares>,
@@ -53,7 +53,7 @@ impl Shares {
 }
 
 impl SharesByCore {
-    /// No tasks on so many cores.
+    /// Makes `count` cores without shares. Fails with `NoMemory` where memory runs out.
     pub fn new(alloc: Global, count: usize) -> Result<SharesByCore, NoMemory>
         ensures { IfOk result (λ by_core. by_core ≡ replicate count []) }
     {
@@ -66,7 +66,7 @@ impl SharesByCore {
         Ok(SharesByCore { cores })
     }
 
-    /// The shares of a core so far.
+    /// Returns the shares of a core so far, in the order in which they were put.
     pub fn on(&self, core: usize) -> &[Share]
         requires { core < length self.now }
         ensures { result.now ≡ slice_index_or self.now core [] }
@@ -74,10 +74,11 @@ impl SharesByCore {
         self.cores[core].shares.as_slice()
     }
 
-    /// One more share of a core.
+    /// Appends a share to those of a core. `NoMemory` leaves the shares as they were.
     pub fn put(&mut self, core: usize, share: Share) -> Result<(), NoMemory>
         requires { core < length self.old }
-        ensures { OnOk result (self.new ≡ slice_set self.old core (slice_index_or self.old core [] ++ share ∷ [])) }
+        ensures { OnOk result
+            (self.new ≡ slice_set self.old core (slice_index_or self.old core [] ++ share ∷ [])) }
     {
         self.cores[core].push(share)
     }

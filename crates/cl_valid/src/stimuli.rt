@@ -10,7 +10,7 @@ use cl_model::{
     Code, Key, ModelFault, Part, Place, StimulusDef, StimulusKind, SystemModel, refuse_when,
 };
 
-/// Whether the offset isn't below the period.
+/// Whether the kind has an offset, and that isn't less than the period.
 pub fn has_late_offset(kind: StimulusKind) -> bool
     ensures { result ≡ has_late_offset kind }
 {
@@ -21,7 +21,7 @@ pub fn has_late_offset(kind: StimulusKind) -> bool
     }
 }
 
-/// Whether the least distance exceeds the greatest.
+/// Whether the kind is sporadic, and its least distance exceeds the greatest.
 pub fn has_no_distance(kind: StimulusKind) -> bool
     ensures { result ≡ has_no_distance kind }
 {
@@ -31,7 +31,7 @@ pub fn has_no_distance(kind: StimulusKind) -> bool
     }
 }
 
-/// Whether a burst doesn't fit its period. A product past 64 bits is longer than any period.
+/// Whether `count` distances exceed the period. A product of more than 64 bits exceeds any period.
 fn is_longer(count: u64, distance: u64, period: u64) -> bool
     ensures { result ≡ nat_lt period (count * distance) }
 {
@@ -41,7 +41,7 @@ fn is_longer(count: u64, distance: u64, period: u64) -> bool
     }
 }
 
-/// Whether a burst doesn't fit its period.
+/// Whether the kind is a burst that doesn't fit its period: `count` distances exceed it.
 pub fn has_long_burst(kind: StimulusKind) -> bool
     ensures { result ≡ has_long_burst kind }
 {
@@ -113,7 +113,8 @@ fn check_bursts(stimuli: &[StimulusDef]) -> Result<(), ModelFault>
     Ok(())
 }
 
-/// Checks M27, M28 and M47.
+/// Checks M27 for each stimulus, then M28 for each, and then M47 for each. Fails with the first
+/// refusal.
 #[tactic(auto, using(cl_model::proofs::FirstRefusals::faults), unfolding(cl_model::specs::ValidNames::stimulus_checks))]
 pub fn check_stimuli(model: &SystemModel) -> Result<(), ModelFault>
     requires { IsInRange model.now }

@@ -19,14 +19,14 @@ use cl_model::{
 };
 use std::alloc::Global;
 
-/// What is kept of the tasks so far.
+/// What is kept of the tasks that have been checked so far.
 #[derive(Drop)]
 pub struct TasksSoFar<'a> {
     pub shares: SharesByCore,
     pub uses: LabelUses<'a>,
 }
 
-/// A key of task i.
+/// Returns the place of a key of task `i`.
 fn task_key(i: usize, key: Key) -> Place
     requires { i < 2 ^ 32 }
     ensures { result ≡ task_key i key }
@@ -34,7 +34,7 @@ fn task_key(i: usize, key: Key) -> Place
     entry_of(Part::Task, i).at_key(key)
 }
 
-/// Checks M29: the number of its core.
+/// Checks M29 for task `i` and returns the number of its core.
 fn core_for(cores: &NameSet, i: usize, task: &TaskDef) -> Result<usize, ModelFault>
     requires { i < 2 ^ 32 }
     ensures checked { Passes result (core_check cores.now i task.now) }
@@ -47,7 +47,7 @@ fn core_for(cores: &NameSet, i: usize, task: &TaskDef) -> Result<usize, ModelFau
     }
 }
 
-/// Checks M30: the kind of its stimulus.
+/// Checks M30 for task `i` and returns the kind of its stimulus.
 fn kind_for(
     model: &SystemModel,
     stimuli: &NameSet,
@@ -117,7 +117,7 @@ fn check_empty(i: usize, task: &TaskDef) -> Result<(), ModelFault>
     )
 }
 
-/// Checks M31 to M35 for task i, beside what the tasks before it take of its core.
+/// Checks M31 to M35 for task `i`. `others` are the shares of the earlier tasks of its core.
 #[tactic(auto, using(cl_model::proofs::FirstRefusals::faults))]
 fn check_share(
     others: &[Share],
@@ -136,7 +136,7 @@ fn check_share(
     Ok(())
 }
 
-/// Checks M29 to M35 for task i: the number of its core, and what it takes of it.
+/// Checks M29 to M35 for task `i` and returns the number of its core and its share in it.
 fn share_for(
     model: &SystemModel,
     names: &Names,
@@ -148,7 +148,8 @@ fn share_for(
     requires names { names.now ≡ names_of model.now }
     requires shares { shares.now ≡ shares_by_core model.now (take i model.now.tasks) }
     ensures checked { Passes result (naming_checks model.now i task.now) }
-    ensures core { IfOk result (λ found. index_of task.now.core (core_names model.now) ≡ Some found.0) }
+    ensures core { IfOk result
+        (λ found. index_of task.now.core (core_names model.now) ≡ Some found.0) }
     ensures within { IfOk result (λ found. found.0 < length shares.now) }
     ensures share { IfOk result (λ found. found.1 ≡ share_of model.now task.now) }
 {
@@ -162,7 +163,7 @@ fn share_for(
     Ok((core, share))
 }
 
-/// Checks M29 to M41 for task i.
+/// Checks M29 to M41 for task `i` and keeps what later checks need of it.
 fn check_task<'a>(
     alloc: Global,
     model: &SystemModel,
@@ -188,7 +189,8 @@ fn check_task<'a>(
     Ok(())
 }
 
-/// Checks M29 to M41 for each task.
+/// Checks M29 to M41 for each task and returns what is kept of all of them. Fails with the first
+/// refusal, or with `NoMemory` where memory runs out.
 pub fn kept_tasks<'a>(
     alloc: Global,
     model: &'a SystemModel,

@@ -17,7 +17,7 @@ use crate::tasks::{TasksSoFar, kept_tasks};
 use cl_model::{ModelFault, SystemModel, ValidModel};
 use std::alloc::Global;
 
-/// Checks M42 to M46, after the tasks.
+/// Checks M42 to M46, once the tasks have passed.
 #[tactic(auto, using(cl_model::proofs::FirstRefusals::faults))]
 fn check_links(
     alloc: Global,
@@ -37,7 +37,7 @@ fn check_links(
     Ok(())
 }
 
-/// Checks M27 to M47, after the names.
+/// Checks M27 to M47, once the names have passed.
 fn check_parts(alloc: Global, model: &SystemModel, names: &Names) -> Result<(), ModelFault>
     requires in_range { IsInRange model.now }
     requires apart { AreDistinctNames (core_names model.now) }
@@ -58,7 +58,9 @@ fn check(alloc: Global, model: &SystemModel) -> Result<(), ModelFault>
     check_parts(alloc, model, &names)
 }
 
-/// The valid model that a plain one is, or its first refusal. Where there is none, the same model comes back.
+/// Turns a model, which must be in range, into a `ValidModel`. Fails with the first refusal of the
+/// model, of M20 to M47, or with `NoMemory` where memory runs out, and then returns the model
+/// unchanged.
 pub fn validate(alloc: Global, model: SystemModel) -> Result<ValidModel, (SystemModel, ModelFault)>
     requires { IsInRange model }
     ensures same { IfOk result (λ valid. valid ≡ model) }

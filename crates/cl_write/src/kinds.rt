@@ -11,7 +11,7 @@ use cl_model::{Key, LengthKind, Name, StimulusKind};
 use cl_text::Text;
 use cl_time::NoMemory;
 
-/// The word of a kind of length.
+/// Returns the word of a kind of length.
 pub(crate) fn length_word(kind: LengthKind) -> &'static str
     ensures { result.now ≡ length_word kind }
 {
@@ -29,7 +29,8 @@ fn put_periodic(
     offset: u64,
     jitter: u64,
 ) -> Result<(), NoMemory>
-    ensures printed { OnOk result (text.new ≡ text.old ++ concat (lines_of_kind name.now (Periodic period offset jitter))) }
+    ensures printed { OnOk result
+        (text.new ≡ text.old ++ concat (lines_of_kind name.now (Periodic period offset jitter))) }
     ensures named { OnOk result (IsName name.now) }
 {
     put_unless_zero(text, Key::Jitter, jitter)?;
@@ -41,7 +42,8 @@ fn put_periodic(
 }
 
 fn put_sporadic(text: &mut Text, name: &Name, least: u64, greatest: u64) -> Result<(), NoMemory>
-    ensures printed { OnOk result (text.new ≡ text.old ++ concat (lines_of_kind name.now (Sporadic least greatest))) }
+    ensures printed { OnOk result
+        (text.new ≡ text.old ++ concat (lines_of_kind name.now (Sporadic least greatest))) }
     ensures named { OnOk result (IsName name.now) }
 {
     put_number(text, Key::Greatest, greatest)?;
@@ -59,7 +61,8 @@ fn put_burst(
     count: u64,
     distance: u64,
 ) -> Result<(), NoMemory>
-    ensures printed { OnOk result (text.new ≡ text.old ++ concat (lines_of_kind name.now (Burst period offset count distance))) }
+    ensures printed { OnOk result
+        (text.new ≡ text.old ++ concat (lines_of_kind name.now (Burst period offset count distance))) }
     ensures named { OnOk result (IsName name.now) }
 {
     put_number(text, Key::Count, count)?;
@@ -71,7 +74,7 @@ fn put_burst(
     Ok(())
 }
 
-/// Puts the lines of a stimulus of this name and kind.
+/// Appends the lines of a stimulus of this name and kind.
 pub(crate) fn put_kind(text: &mut Text, name: &Name, kind: StimulusKind) -> Result<(), NoMemory>
     ensures printed { OnOk result (text.new ≡ text.old ++ concat (lines_of_kind name.now kind)) }
     ensures named { OnOk result (IsName name.now) }

@@ -1,2 +1,2 @@
-//! What holds of models and texts, whatever is written.
+//! What holds of models and their texts.
 pub mod texts;

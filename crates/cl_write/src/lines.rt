@@ -1,4 +1,4 @@
-//! Single lines of a document, each behind a text.
+//! Single lines of a document, each of which is appended to a text.
 ghost use Rattle.std.specs.Prelude.{◌≡◌, ◌++◌, All, OnOk};
 ghost use Rattle.cl_model.specs.Name.{IsName};
 ghost use Rattle.cl_write.specs.Inner.Lines.{word_line, number_line, number_line_if, line_unless_zero, line_when_true, next_word, words_line, words_line_if};
@@ -8,7 +8,7 @@ use cl_model::{Key, List, Name};
 use cl_text::Text;
 use cl_time::NoMemory;
 
-/// Puts the line of a word that needs no escape.
+/// Appends the line of a key and a word, which must need no escape.
 #[tactic(auto, unfolding(crate::specs::Inner::Lines::word_line))]
 pub(crate) fn put_word(text: &mut Text, key: Key, word: &[u8]) -> Result<(), NoMemory>
     ensures { OnOk result (text.new ≡ text.old ++ word_line key word.now) }
@@ -19,7 +19,7 @@ pub(crate) fn put_word(text: &mut Text, key: Key, word: &[u8]) -> Result<(), NoM
     text.put(b"\"\n")
 }
 
-/// Puts the line of a name.
+/// Appends the line of a key and a name.
 pub(crate) fn put_name(text: &mut Text, key: Key, name: &Name) -> Result<(), NoMemory>
     ensures printed { OnOk result (text.new ≡ text.old ++ word_line key name.now) }
     ensures named { IsName name.now }
@@ -27,7 +27,7 @@ pub(crate) fn put_name(text: &mut Text, key: Key, name: &Name) -> Result<(), NoM
     put_word(text, key, name.as_slice())
 }
 
-/// Puts the line of a number.
+/// Appends the line of a key and a number.
 #[tactic(auto, unfolding(crate::specs::Inner::Lines::number_line))]
 pub(crate) fn put_number(text: &mut Text, key: Key, number: u64) -> Result<(), NoMemory>
     ensures { OnOk result (text.new ≡ text.old ++ number_line key number) }
@@ -38,7 +38,7 @@ pub(crate) fn put_number(text: &mut Text, key: Key, number: u64) -> Result<(), N
     text.put(b"\n")
 }
 
-/// Puts the line of a number, if one is given.
+/// Appends the line of a key and a number, if one is given.
 pub(crate) fn put_number_if(text: &mut Text, key: Key, number: Option<u64>) -> Result<(), NoMemory>
     ensures { OnOk result (text.new ≡ text.old ++ number_line_if key number) }
 {
@@ -48,7 +48,7 @@ pub(crate) fn put_number_if(text: &mut Text, key: Key, number: Option<u64>) -> R
     }
 }
 
-/// Puts the line of a number, unless it is 0.
+/// Appends the line of a key and a number, unless the number is 0.
 pub(crate) fn put_unless_zero(text: &mut Text, key: Key, number: u64) -> Result<(), NoMemory>
     ensures { OnOk result (text.new ≡ text.old ++ line_unless_zero key number) }
 {
@@ -59,7 +59,7 @@ pub(crate) fn put_unless_zero(text: &mut Text, key: Key, number: u64) -> Result<
     }
 }
 
-/// Puts the line of `true`, if it is.
+/// Appends the line of a key and `true`, if the value is true.
 #[tactic(auto, unfolding(crate::specs::Inner::Lines::true_line))]
 pub(crate) fn put_when_true(text: &mut Text, key: Key, value: bool) -> Result<(), NoMemory>
     ensures { OnOk result (text.new ≡ text.old ++ line_when_true key value) }
@@ -72,7 +72,8 @@ pub(crate) fn put_when_true(text: &mut Text, key: Key, value: bool) -> Result<()
     }
 }
 
-/// A name behind another one of an array, from the quote before its comma on.
+/// A name that follows another one in an array: the quote that closes the other, a comma, a quote
+/// and the name, but not the quote that closes it.
 impl Written for Name {
     ghost is_named = { IsName };
 
@@ -85,7 +86,7 @@ impl Written for Name {
     }
 }
 
-/// Puts the line of an array of a name and others.
+/// Appends the line of a key and an array of names, the first of which is `name`.
 #[tactic(auto, unfolding(crate::specs::Inner::Lines::words_line))]
 fn put_some_names(text: &mut Text, key: Key, name: &Name, names: &[Name]) -> Result<(), NoMemory>
     ensures printed { OnOk result (text.new ≡ text.old ++ words_line key name.now names.now) }
@@ -98,7 +99,7 @@ fn put_some_names(text: &mut Text, key: Key, name: &Name, names: &[Name]) -> Res
     text.put(b"\"]\n")
 }
 
-/// Puts the line of an array of names, unless there is none.
+/// Appends the line of a key and an array of names, unless there are none.
 pub(crate) fn put_names(text: &mut Text, key: Key, names: &List<Name>) -> Result<(), NoMemory>
     ensures printed { OnOk result (text.new ≡ text.old ++ words_line_if key names.now) }
     ensures named { OnOk result (All IsName names.now) }

@@ -96,7 +96,7 @@ impl Written for RequirementDef {
     }
 }
 
-/// Puts the lines of a runnable.
+/// Appends the lines of a runnable.
 fn put_runnable(text: &mut Text, runnable: &RunnableDef) -> Result<(), NoMemory>
     ensures printed { OnOk result (text.new ≡ text.old ++ concat (lines_of_runnable runnable.now)) }
     ensures named { OnOk result (IsRunnableNamed runnable.now) }
@@ -110,7 +110,7 @@ fn put_runnable(text: &mut Text, runnable: &RunnableDef) -> Result<(), NoMemory>
     Ok(())
 }
 
-/// Puts the lines of a task that stand before its runnables.
+/// Appends the lines of a task that come before its runnables.
 fn put_task(text: &mut Text, task: &TaskDef) -> Result<(), NoMemory>
     ensures printed { OnOk result (text.new ≡ text.old ++ concat (lines_of_task task.now)) }
     ensures name { OnOk result (IsName task.now.name) }
@@ -126,9 +126,10 @@ fn put_task(text: &mut Text, task: &TaskDef) -> Result<(), NoMemory>
     Ok(())
 }
 
-/// Puts the lines of a requirement.
+/// Appends the lines of a requirement.
 fn put_requirement(text: &mut Text, requirement: &RequirementDef) -> Result<(), NoMemory>
-    ensures printed { OnOk result (text.new ≡ text.old ++ concat (lines_of_requirement requirement.now)) }
+    ensures printed { OnOk result
+        (text.new ≡ text.old ++ concat (lines_of_requirement requirement.now)) }
     ensures named { OnOk result (IsRequirementNamed requirement.now) }
 {
     put_name(text, Key::Chain, &requirement.chain)?;

@@ -15,14 +15,15 @@ use cl_text::Text;
 use cl_time::NoMemory;
 use std::alloc::Global;
 
-/// The text of a model file, of version 2, that is read as the model. The model need not be valid, but its counts and
-/// numbers are in range.
+/// Writes a model as the text of a model file of version 2, which is read as that model. The model
+/// need not be valid, but its counts and numbers must be in range.
 ///
-/// The text is that of the document of the model as the crate `toml` prints it: tables under headers, one key a line,
-/// lists of names on one line, keys in alphabetic order. Keys whose value is the default are left out: an offset and a
-/// jitter of 0, `whole` where it is false, a deadline that isn't given, empty lists and empty sections.
+/// The text is that of the document of the model as the crate `toml` prints it: tables under
+/// headers, one key per line, lists of names on one line, keys in alphabetic order. Keys whose
+/// value is the default are left out: an offset and a jitter of 0, `whole` where it is false, a
+/// deadline that isn't given, empty lists and empty sections.
 ///
-/// `NoMemory` comes where there is no memory for the text; it leaves nothing.
+/// Fails with `NoMemory` where there is no memory for the text, of which nothing is left.
 pub fn write_model(alloc: Global, model: &SystemModel) -> Result<Text, NoMemory>
     requires { IsInRange model.now }
     ensures reads { IfOk result (λ text. model_of text ≡ Ok model.now) }
@@ -35,7 +36,7 @@ pub fn write_model(alloc: Global, model: &SystemModel) -> Result<Text, NoMemory>
     Ok(text)
 }
 
-/// Puts the lines of a model.
+/// Appends the lines of a model.
 #[tactic(auto, unfolding(crate::specs::Inner::Printed::model_text))]
 fn put_model(text: &mut Text, model: &SystemModel) -> Result<(), NoMemory>
     ensures printed { OnOk result (text.new ≡ text.old ++ model_text model.now) }
@@ -52,7 +53,7 @@ fn put_first_lines(text: &mut Text) -> Result<(), NoMemory>
     put_number(text, Key::Version, 2)
 }
 
-/// Puts the sections of a model in alphabetic order, as the crate `toml` does.
+/// Appends the sections of a model in alphabetic order, as the crate `toml` does.
 fn put_sections(text: &mut Text, model: &SystemModel) -> Result<(), NoMemory>
     ensures printed { OnOk result (text.new ≡ text.old ++ concat (model_sections model.now)) }
     ensures named { OnOk result (AreNamed model.now) }

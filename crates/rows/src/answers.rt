@@ -1,4 +1,4 @@
-//! What the command of a case answers.
+//! The answers of the commands of a case.
 ghost use Rattle.std.specs.Prelude.{◌≡◌, ◌<◌};
 
 use crate::asked::{asked, is_question};
@@ -13,21 +13,22 @@ use std::alloc::Global;
 use std::marker::Brand;
 use std::sync::ledger::{Blank, Ledger};
 
-/// A status, and all that was written.
+/// The status of a command, and all that it has written.
 #[derive(Drop)]
 pub(crate) struct Found {
     pub(crate) status: u8,
     pub(crate) text: Vec<u8>,
 }
 
-/// What a command answers over the files of a case.
+/// Runs a command or a question over the files of a case.
 pub(crate) fn answered(case: &Case, command: &str) -> Result<Found, Fault> {
     let words = words_of(case.alloc, command)?;
     answered_words(case.alloc, &words, case.files.as_slice(), case.limits)
 }
 
-/// The same, once the model, whose name stands behind the verb, is what `migrate` makes of it. Where it makes nothing
-/// of it, that is the answer.
+/// Runs a command or a question over the files of a case once the model, whose name is the second
+/// word, is what `migrate` makes of it. Where `migrate` doesn't end with status 0, its answer is
+/// returned.
 pub(crate) fn answered_migrated(mut case: Case, command: &str) -> Result<Found, Fault> {
     let name = model_name(case.alloc, command)?;
     let migration = format!(in case.alloc; "migrate {name}")?;
@@ -42,7 +43,7 @@ pub(crate) fn answered_migrated(mut case: Case, command: &str) -> Result<Found, 
     answered(&case, command)
 }
 
-/// The second word.
+/// Returns the second word, which names the model. Words without one are refused.
 fn model_name(alloc: Global, words: &str) -> Result<String, Fault> {
     match words.split_whitespace().nth(1) {
         Some(name) => Ok(String::from_str(alloc, name)?),
@@ -50,7 +51,7 @@ fn model_name(alloc: Global, words: &str) -> Result<String, Fault> {
     }
 }
 
-/// The words of a line.
+/// Splits a line into its words.
 fn words_of(alloc: Global, line: &str) -> Result<Words, Fault> {
     let mut words = Words::new(alloc);
     for word in line.split_whitespace() {
@@ -59,7 +60,7 @@ fn words_of(alloc: Global, line: &str) -> Result<Words, Fault> {
     Ok(words)
 }
 
-/// What words answer of these files.
+/// Runs a command or a question over these files.
 fn answered_words(
     alloc: Global,
     words: &Words,
@@ -73,7 +74,7 @@ fn answered_words(
     answered_over(alloc, words, &mut shelf, limits)
 }
 
-/// A shelf that holds these files.
+/// Makes a shelf that holds these files.
 fn shelf_of(alloc: Global, files: &[CaseFile]) -> Result<MemShelf, Fault> {
     let mut shelf = MemShelf::new(alloc);
     for file in files {
@@ -82,7 +83,7 @@ fn shelf_of(alloc: Global, files: &[CaseFile]) -> Result<MemShelf, Fault> {
     Ok(shelf)
 }
 
-/// What words answer over a shelf: a command, or a question to the libraries.
+/// Runs a command over a shelf, or asks a question.
 fn answered_over(
     alloc: Global,
     words: &Words,
@@ -96,7 +97,7 @@ fn answered_over(
     }
 }
 
-/// What a command answers over a shelf.
+/// Runs a command over a shelf, and returns its status and what it has written.
 fn commanded(
     alloc: Global,
     words: &Words,
@@ -109,7 +110,7 @@ fn commanded(
     Ok(Found { status, text })
 }
 
-/// A sink with these limits.
+/// Makes a sink with these limits.
 fn sink_of(alloc: Global, limits: Limits) -> Result<MemSink, Fault> {
     let mut sink = MemSink::new(alloc, limits.room, limits.step.max(1))?;
     if let Some(call) = limits.write {
@@ -123,7 +124,8 @@ fn run_here<S: Shelf, K: Sink>(alloc: Global, words: &Words, shelf: &mut S, sink
     run_uncounted::<S, K, Brand>(alloc, words, shelf, sink, Blank::new(1))
 }
 
-/// Runs a command with a counter on this blank; `Invariants.antt` of `run_here` picks the ledger of the blank.
+/// Runs a command with a counter on this blank; `Invariants.antt` of `run_here` picks the ledger of
+/// the blank.
 fn run_uncounted<S: Shelf, K: Sink, L: Ledger>(
     alloc: Global,
     words: &Words,

@@ -1,4 +1,4 @@
-//! What a question is answered, whose first word is `ask`.
+//! Answers to questions, whose first word is `ask`.
 ghost use Rattle.std.specs.Prelude.{◌≡◌, ◌<◌};
 
 use crate::answers::Found;
@@ -11,12 +11,12 @@ use std::alloc::Global;
 use std::marker::Brand;
 use std::sync::ledger::{Blank, Ledger};
 
-/// Whether words ask a question.
+/// Checks whether words ask a question.
 pub(crate) fn is_question(words: &Words) -> bool {
     words.at(0) == Some("ask")
 }
 
-/// The answer to a question over a shelf, with the status of a command that is done.
+/// Answers a question over a shelf, with the status of a command that did what it says.
 pub(crate) fn asked(alloc: Global, words: &Words, shelf: &mut MemShelf) -> Result<Found, Fault> {
     found(alloc, &ask_here(alloc, words, shelf)?)
 }
@@ -31,7 +31,8 @@ fn ask_here(alloc: Global, words: &Words, shelf: &mut MemShelf) -> Result<Text, 
     ask_uncounted::<Brand>(alloc, words, shelf, Blank::new(1))
 }
 
-/// Asks with a counter on this blank; `Invariants.antt` of `ask_here` picks the ledger of the blank.
+/// Asks with a counter on this blank; `Invariants.antt` of `ask_here` picks the ledger of the
+/// blank.
 fn ask_uncounted<L: Ledger>(
     alloc: Global,
     words: &Words,

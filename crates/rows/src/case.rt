@@ -9,7 +9,7 @@ use std::fs;
 use std::io::ErrorKind;
 use std::rt::Files;
 
-/// What a case is to come to: a status, and the whole text or its first line.
+/// What each command of a case has to come to: a status, and the whole text or its first line.
 #[derive(Clone, Drop)]
 pub(crate) struct Wanted {
     pub(crate) status: u8,
@@ -18,34 +18,36 @@ pub(crate) struct Wanted {
 }
 
 impl Wanted {
-    /// The text so many times.
+    /// Repeats the text, so that it stands `count` times, with the number of each time, from 0, in
+    /// place of each `@`.
     fn repeat(&mut self, alloc: Global, count: u64) -> Result<(), Fault> {
         self.text = numbered(alloc, self.text.as_slice(), b'@', count)?;
         Ok(())
     }
 }
 
-/// A case: the words of its commands, its files, what fails, and what each command is to come to.
+/// A case: the words of its commands, its files, which calls fail, and what each command has to
+/// come to.
 #[derive(Clone, Drop)]
 pub(crate) struct Case {
     pub(crate) alloc: Global,
     pub(crate) name: String,
     pub(crate) line: u64,
-    /// The words of each command that is to come to the same.
+    /// The words of each command. All commands have to come to the same.
     pub(crate) commands: Vec<String>,
-    /// Whether a line of this very case says words.
+    /// Whether a line of the case itself, and not of every case, says words.
     says_words: bool,
-    /// The last file is the one that hunks change.
+    /// The files, of which hunks change the last.
     pub(crate) files: Vec<CaseFile>,
     hunk: Hunk,
     pub(crate) limits: Limits,
     wanted: Option<Wanted>,
-    /// Whether a line of this very case says what is wanted.
+    /// Whether a line of the case itself, and not of every case, says what is wanted.
     wants: bool,
 }
 
 impl Case {
-    /// A case of no words and no files.
+    /// Makes a case of no words and no files.
     pub(crate) fn new(alloc: Global) -> Self {
         Case {
             alloc,
@@ -61,7 +63,7 @@ impl Case {
         }
     }
 
-    /// A case of this name, which begins with what belongs to every case.
+    /// Begins a case of this name, with what belongs to every case.
     pub(crate) fn begun(&self, name: &str, line: u64) -> Result<Case, Fault> {
         let mut case = self.clone()?;
         case.name.push_str(name)?;
@@ -71,7 +73,7 @@ impl Case {
         Ok(case)
     }
 
-    /// What the case is to come to.
+    /// Returns what the case has to come to. A case that doesn't say it is refused.
     pub(crate) fn wanted(&self) -> Result<&Wanted, Fault> {
         match &self.wanted {
             Some(wanted) => Ok(wanted),
@@ -79,7 +81,7 @@ impl Case {
         }
     }
 
-    /// Reads one line of the case. `last` is what the case before has written.
+    /// Reads one line of the case. `last` is what the last command before the case has written.
     pub(crate) fn read_line<R: Files + AllocGlobal>(
         &mut self,
         rt: &R,
@@ -139,7 +141,7 @@ impl Case {
         }
     }
 
-    /// Applies the hunk that ends here to the last file.
+    /// Applies the hunk that ends here to the last file, and begins another.
     pub(crate) fn end_hunk(&mut self) -> Result<(), Fault> {
         if self.hunk.is_empty() {
             return Ok(());
@@ -153,7 +155,7 @@ impl Case {
         Ok(())
     }
 
-    /// Adds a command. The first of a case stands in for those that belong to every case.
+    /// Adds a command. The first one of a case replaces those that belong to every case.
     fn add_command(&mut self, words: &str) -> Result<(), Fault> {
         if !self.says_words {
             self.commands.clear();
@@ -163,7 +165,7 @@ impl Case {
         Ok(())
     }
 
-    /// Each command gets a word more.
+    /// Adds a word to each command.
     fn add_word(&mut self, word: &str) -> Result<(), Fault> {
         for words in &mut self.commands {
             words.push_str(" ")?;
@@ -172,7 +174,7 @@ impl Case {
         Ok(())
     }
 
-    /// Each command loses its last word.
+    /// Removes the last word of each command.
     fn drop_words(&mut self) -> Result<(), Fault> {
         for words in &mut self.commands {
             *words = shortened(self.alloc, words.as_str())?;
@@ -180,13 +182,14 @@ impl Case {
         Ok(())
     }
 
-    /// A file is no longer there.
+    /// Removes a file.
     fn drop_file(&mut self, name: &str) -> Result<(), Fault> {
         remove_file(&mut self.files, name);
         Ok(())
     }
 
-    /// Adds a file, which is empty or what lies under the second name.
+    /// Adds a file that is empty or has the content of the file that the second word names, in
+    /// place of one with its name.
     fn add_file<R: Files + AllocGlobal>(&mut self, rt: &R, words: &str) -> Result<(), Fault> {
         let (name, base) = words.split_once(' ').unwrap_or((words, ""));
         let content = if base.is_empty() {
@@ -199,7 +202,8 @@ impl Case {
         Ok(())
     }
 
-    /// Sets the status, and the text as far as it stands in the same line.
+    /// Sets the status that is wanted, and the text as far as it stands in the same line. A case
+    /// that does so twice is refused.
     fn want(&mut self, words: &str, whole: bool) -> Result<(), Fault> {
         if self.wants {
             return Err(Fault::Refused("a second `wants`"));
@@ -229,7 +233,7 @@ impl Case {
         }
     }
 
-    /// Takes away the end of the last line of the hunk, or of the text that is wanted.
+    /// Removes the line end of the last line that the hunk adds, or of the text that is wanted.
     fn cut_line_end(&mut self) -> Result<(), Fault> {
         if !self.hunk.is_empty() {
             self.hunk.cut_line_end();
@@ -242,7 +246,8 @@ impl Case {
         Ok(())
     }
 
-    /// All lines of the hunk that come so far, or all lines that are wanted so far, so many times.
+    /// Repeats all lines that the hunk adds so far, or else all lines that are wanted so far, so
+    /// that they stand `count` times.
     fn repeat(&mut self, count: u64) -> Result<(), Fault> {
         if !self.hunk.is_empty() {
             return self.hunk.repeat(count);
@@ -254,7 +259,7 @@ impl Case {
     }
 }
 
-/// Words without the last one.
+/// Returns words without the last one. A single word is refused.
 fn shortened(alloc: Global, words: &str) -> Result<String, Fault> {
     match words.rsplit_once(' ') {
         Some((before, _)) => Ok(String::from_str(alloc, before)?),
@@ -262,7 +267,7 @@ fn shortened(alloc: Global, words: &str) -> Result<String, Fault> {
     }
 }
 
-/// The bytes of a base.
+/// Reads the bytes of a base.
 fn read_base<R: Files + AllocGlobal>(rt: &R, name: &str) -> Result<Vec<u8>, Fault> {
     match fs::read(rt, name) {
         Ok(content) => Ok(content),

@@ -3,14 +3,14 @@ use cl_time::NoMemory;
 use std::alloc::{AllocError, AllocFailed};
 use std::io;
 
-/// What stops a run.
+/// Why files of cases can't be run to their end.
 #[derive(Clone, Copy, Debug)]
 pub(crate) enum Fault {
     /// Memory ran out.
     NoMemory,
-    /// What is found can't be printed.
+    /// The output failed.
     Output,
-    /// A file of cases may not say what it says.
+    /// The arguments, a file of cases or a line of it is refused, for this reason.
     Refused(&'static str),
 }
 

@@ -3,14 +3,15 @@ use crate::fault::Fault;
 use crate::numbered::numbered;
 use std::alloc::Global;
 
-/// Lines that come several times, as far as they were read.
+/// The lines since `times`, which are added several times, as far as they were read.
 #[derive(Clone, Drop)]
 struct Times {
     count: u64,
     lines: Vec<u8>,
 }
 
-/// A hunk as far as it was read: the lines that must stand in the file, and those that come in their place.
+/// A hunk as far as it was read: the lines that have to stand in the file, and those that replace
+/// them.
 #[derive(Clone, Drop)]
 pub(crate) struct Hunk {
     alloc: Global,
@@ -20,7 +21,7 @@ pub(crate) struct Hunk {
 }
 
 impl Hunk {
-    /// A hunk of no lines.
+    /// Makes a hunk of no lines.
     pub(crate) fn new(alloc: Global) -> Self {
         Hunk {
             alloc,
@@ -30,22 +31,23 @@ impl Hunk {
         }
     }
 
+    /// Checks whether the hunk has no lines, and no `times` is open.
     pub(crate) fn is_empty(&self) -> bool {
         self.old.is_empty() && self.new.is_empty() && self.times.is_none()
     }
 
-    /// A line that stays.
+    /// Adds a line that is kept: it has to stand in the file, and stays.
     pub(crate) fn keep(&mut self, line: &[u8]) -> Result<(), Fault> {
         push_line(&mut self.old, line)?;
         self.add(line)
     }
 
-    /// A line that goes.
+    /// Adds a line that is removed: it has to stand in the file.
     pub(crate) fn remove(&mut self, line: &[u8]) -> Result<(), Fault> {
         push_line(&mut self.old, line)
     }
 
-    /// A line that comes.
+    /// Adds a line that is new in the file.
     pub(crate) fn add(&mut self, line: &[u8]) -> Result<(), Fault> {
         match &mut self.times {
             Some(times) => push_line(&mut times.lines, line),
@@ -53,7 +55,7 @@ impl Hunk {
         }
     }
 
-    /// Takes away the end of the last line that comes.
+    /// Removes the line end of the last new line.
     pub(crate) fn cut_line_end(&mut self) {
         match &mut self.times {
             Some(times) => cut_line_end(&mut times.lines),
@@ -61,13 +63,13 @@ impl Hunk {
         }
     }
 
-    /// A text that comes.
+    /// Adds a text that is new in the file.
     pub(crate) fn add_text(&mut self, text: &[u8]) -> Result<(), Fault> {
         self.new.extend_from_slice(text)?;
         Ok(())
     }
 
-    /// From here on lines come so many times.
+    /// Begins lines that are added `count` times. `times` inside `times` is refused.
     pub(crate) fn begin_times(&mut self, count: u64) -> Result<(), Fault> {
         if self.times.is_some() {
             return Err(Fault::Refused("`times` inside `times`"));
@@ -79,7 +81,8 @@ impl Hunk {
         Ok(())
     }
 
-    /// From here on lines come once again.
+    /// Adds the lines since `times` as often as it says, with the number of each time, from 0, in
+    /// place of each `#`. `once` without `times` is refused.
     pub(crate) fn end_times(&mut self) -> Result<(), Fault> {
         let Some(times) = self.times.take() else {
             return Err(Fault::Refused("`once` without `times`"));
@@ -88,14 +91,16 @@ impl Hunk {
         self.add_text(lines.as_slice())
     }
 
-    /// All lines that come so far, so many times.
+    /// Repeats all new lines so far, so that they stand `count` times, with the number of each
+    /// time, from 0, in place of each `@`.
     pub(crate) fn repeat(&mut self, count: u64) -> Result<(), Fault> {
         self.new = numbered(self.alloc, self.new.as_slice(), b'@', count)?;
         Ok(())
     }
 
-    /// The content with the hunk applied: its new lines at the end, where it has no old ones, and else in the place of
-    /// the old ones, which stand in the content once.
+    /// Applies the hunk to a content: puts its new lines at the end, where it has no old ones, and
+    /// else in the place of the old ones. Refused where a `times` is open, or where the old lines
+    /// don't stand in the content exactly once, from the beginning of a line on.
     pub(crate) fn applied(&self, content: &[u8]) -> Result<Vec<u8>, Fault> {
         if self.times.is_some() {
             return Err(Fault::Refused("`times` without `once`"));
@@ -108,19 +113,19 @@ impl Hunk {
     }
 }
 
-/// Adds a line.
+/// Appends a line and its line end.
 pub(crate) fn push_line(text: &mut Vec<u8>, line: &[u8]) -> Result<(), Fault> {
     text.extend_from_slice(line)?;
     text.push(b'\n')?;
     Ok(())
 }
 
-/// Takes away the end of the last line.
+/// Removes the last byte of a text, which is the end of its last line.
 pub(crate) fn cut_line_end(text: &mut Vec<u8>) {
     let _ = text.pop();
 }
 
-/// Three texts as one.
+/// Joins three texts.
 fn joined(alloc: Global, first: &[u8], second: &[u8], third: &[u8]) -> Result<Vec<u8>, Fault> {
     let mut text = Vec::from_slice(alloc, first)?;
     text.extend_from_slice(second)?;
@@ -128,7 +133,8 @@ fn joined(alloc: Global, first: &[u8], second: &[u8], third: &[u8]) -> Result<Ve
     Ok(text)
 }
 
-/// What stands before and behind the old lines, which begin at the beginning of a line, and stand there once.
+/// Finds what stands before and behind the old lines. Refused where these don't stand in the
+/// content exactly once, from the beginning of a line on.
 fn around<'a>(content: &'a [u8], old: &[u8]) -> Result<(&'a [u8], &'a [u8]), Fault> {
     let mut found = None;
     let mut begins = true;

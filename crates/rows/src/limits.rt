@@ -1,24 +1,24 @@
-//! What fails of the outside of a case, and what its sink has room for.
+//! Which fetch and which write of a case fail, and what its sink has room for.
 use crate::fault::Fault;
 
-/// The room of a sink, where a case says nothing of it.
+/// How many bytes a sink holds, where a case doesn't say.
 const ROOM: usize = 1 << 20;
 
-/// What fails, and the limits of the sink.
+/// Which calls fail, and the limits of the sink.
 #[derive(Clone, Copy)]
 pub(crate) struct Limits {
-    /// The fetch that fails, from 0.
+    /// The number of the fetch that fails, from 0.
     pub(crate) fetch: Option<u64>,
-    /// The write that fails, from 0.
+    /// The number of the write that fails, from 0.
     pub(crate) write: Option<u64>,
     /// How many bytes the sink holds.
     pub(crate) room: usize,
-    /// How many of them it takes at a time.
+    /// How many bytes it takes at a time.
     pub(crate) step: usize,
 }
 
 impl Limits {
-    /// Nothing fails.
+    /// Makes limits at which no call fails and the sink holds `ROOM` bytes, all at once.
     pub(crate) fn none() -> Self {
         Limits {
             fetch: None,
@@ -28,7 +28,8 @@ impl Limits {
         }
     }
 
-    /// Sets the one that the word names.
+    /// Sets the limit that the word names to the number that the rest spells. Another word and
+    /// another rest are refused.
     pub(crate) fn set(&mut self, word: &str, rest: &str) -> Result<(), Fault> {
         match word {
             "fetch" => self.fetch = Some(number_of(rest)?),
@@ -41,7 +42,7 @@ impl Limits {
     }
 }
 
-/// A number of a line.
+/// Reads a decimal number of a line. Any other text is refused.
 pub(crate) fn number_of(text: &str) -> Result<u64, Fault> {
     match text.parse::<u64>() {
         Ok(number) => Ok(number),

@@ -1,28 +1,34 @@
-//! Rows as data: whole commands over files in memory, with their answers, each a case of a file of cases.
+//! Rows as data: a program that runs whole commands over files in memory and compares their
+//! answers. Each row is a case of a file of cases.
 //!
-//! The arguments name the files of cases, one after the other. The word `migrated` before such a file runs its cases
-//! with each model put through `migrate` first. Where a case differs, its name, what was wanted and what came are
-//! printed, and the status is 1. Where a file of cases can't be read, its name, the line and why are printed, and the
-//! status is 2.
+//! The arguments name the files of cases, which are run one after the other. The word `migrated`
+//! before such a file runs its cases with each model put through `migrate` first. After each file,
+//! its name and how many commands of it were run are printed. Where a command's answer differs, the
+//! case, the words, what was wanted and what came are printed, and in the end the status is 1.
+//! Where a file of cases can't be run to its end (it can't be read, it has no case, a line of it is
+//! refused, memory runs out or the output fails), its name, the line and why are printed, no
+//! further file is run, and the status is 2.
 //!
-//! A file of cases is lines. Those before its first case belong to every case; those of a case stand in for them.
+//! A file of cases consists of lines. The lines before its first case belong to every case; the
+//! lines of a case add to them, and its words, wants, limits and files of the same name replace
+//! theirs.
 //!
 //! | Line | Meaning |
 //! |---|---|
 //! | `# ..` | a comment |
 //! | `case NAME` | a case begins |
-//! | `words ..` | the words of the command, or of a question, whose first word is `ask`; where such lines follow each other, each command is to come to the same |
-//! | `more WORD`, `fewer` | each command gets a word more, or loses its last one |
-//! | `file NAME BASE` | a file with what lies under BASE, or an empty one without BASE; hunks change the last file |
-//! | `without NAME` | the file is not there |
-//! | `-`, `+` and a blank in front | a hunk: lines that go, come and stay; a line of no sign at all ends it |
-//! | only `+` lines | they come at the end of the file |
-//! | `times N` .. `once` | the lines between come N times, with their number from 0 up in place of each `#` |
-//! | `again N` | all lines that come so far, or are wanted so far, N times, with their number in place of each `@` |
-//! | `last` | what the case before has written comes here |
-//! | `\` | the line above has no end |
-//! | `fetch N`, `write N` | the fetch or the write that fails, from 0 |
-//! | `room N`, `step N` | how many bytes the sink holds, and takes at a time |
+//! | `words ..` | the words of a command, or of a question, whose first word is `ask`; where a case has several such lines, each command has to give the same answer |
+//! | `more WORD`, `fewer` | each command gets one more word, or loses its last one |
+//! | `file NAME BASE` | a file with the content of the file BASE, or an empty one without BASE; hunks change the last file |
+//! | `without NAME` | there is no file of this name |
+//! | `-`, `+` and a blank in front | a hunk: lines that are removed, added and kept; an empty line ends it |
+//! | only `+` lines | they are added at the end of the file |
+//! | `times N` .. `once` | the lines between are added N times, with the number of each time, from 0, in place of each `#` |
+//! | `again N` | all lines that are added so far, or wanted so far, stand N times, with the number of each time, from 0, in place of each `@` |
+//! | `last` | what the last command of the case before has written is added |
+//! | `\` | the line above has no line end |
+//! | `fetch N`, `write N` | the number of the fetch or of the write that fails, from 0 |
+//! | `room N`, `step N` | how many bytes the sink holds, and how many it takes at a time |
 //! | `wants S TEXT`, or `wants S` and lines behind a bar | the status, and the whole text |
 //! | `begins S TEXT` | the status, and the first line of the text |
 #![tactic(auto)]
@@ -45,14 +51,14 @@ use std::process::ExitCode;
 use std::rt::{Env, Files};
 use tally::Tally;
 
-/// The word before a file whose models are migrated first.
+/// The argument before a file whose models are migrated first.
 const MIGRATED: &str = "migrated";
 
 fn main(rt: HostRuntime) -> ExitCode {
     ExitCode::from(status_of(&rt))
 }
 
-/// The status of all files of cases that the arguments name.
+/// Runs all files of cases that the arguments name, and returns the status of the program.
 fn status_of<R: Env + Files + Print + AllocGlobal>(rt: &R) -> u8 {
     let mut tally = Tally::new(rt.alloc());
     match run_arguments(rt, &mut tally) {

@@ -1,8 +1,8 @@
-//! Lines that come many times, each time with another number.
+//! Lines that stand many times, each time with another number.
 use crate::fault::Fault;
 use std::alloc::Global;
 
-/// The lines so many times, with their number from 0 up in place of each mark.
+/// Repeats the lines `count` times, with the number of each time, from 0, in place of each mark.
 pub(crate) fn numbered(
     alloc: Global,
     lines: &[u8],
@@ -17,7 +17,7 @@ pub(crate) fn numbered(
     Ok(text)
 }
 
-/// Adds the lines with the digits in place of each mark.
+/// Appends the lines with the digits in place of each mark.
 fn push_numbered(text: &mut Vec<u8>, lines: &[u8], mark: u8, digits: &[u8]) -> Result<(), Fault> {
     for byte in lines {
         if *byte == mark {

@@ -1,4 +1,4 @@
-//! A file of cases: each is run as soon as its lines are read.
+//! A file of cases. Each case is run as soon as its lines are read.
 ghost use Rattle.std.specs.Prelude.{◌≡◌, ◌↔◌, IsTrue};
 
 use crate::answers::{Found, answered, answered_migrated};
@@ -8,14 +8,15 @@ use crate::tally::Tally;
 use std::fs;
 use std::rt::Files;
 
-/// What belongs to every case of a file, and the case whose lines are read.
+/// What belongs to every case of a file, and the case whose lines are being read.
 #[derive(Drop)]
 struct Rows {
     every: Case,
     case: Option<Case>,
 }
 
-/// Runs all cases of the tally's file, and prints how many there are.
+/// Runs all cases of the tally's file, and prints how many commands they have. A file that can't be
+/// read and one without a case are refused.
 pub(crate) fn run_file<R: Files + Print + AllocGlobal>(
     rt: &R,
     tally: &mut Tally,
@@ -66,7 +67,8 @@ impl Rows {
         }
     }
 
-    /// Runs the case that ends here.
+    /// Runs the case that ends here; before the first case, ends the hunk that belongs to every
+    /// case.
     fn end_case<R: Print>(&mut self, rt: &R, tally: &mut Tally) -> Result<(), Fault> {
         match self.case.take() {
             Some(case) => run_case(rt, tally, case),
@@ -75,7 +77,7 @@ impl Rows {
     }
 }
 
-/// Runs each command of a case.
+/// Runs each command of a case. A case without words and one without wants are refused.
 fn run_case<R: Print>(rt: &R, tally: &mut Tally, mut case: Case) -> Result<(), Fault> {
     let here = tally.line;
     tally.line = case.line;
@@ -113,7 +115,7 @@ fn run_command<R: Print>(
     Ok(())
 }
 
-/// Whether a case came to what was wanted.
+/// Checks whether a command came to what was wanted.
 fn is_met(wanted: &Wanted, found: &Found) -> bool {
     let text = if wanted.whole {
         found.text.as_slice()
@@ -123,14 +125,14 @@ fn is_met(wanted: &Wanted, found: &Found) -> bool {
     is_same(wanted.status, wanted.text.as_slice(), found.status, text)
 }
 
-/// Whether both the statuses and the texts are equal.
+/// Checks whether both the statuses and the texts are equal.
 fn is_same(wanted_status: u8, wanted_text: &[u8], status: u8, text: &[u8]) -> bool
     ensures { IsTrue result ↔ ((status ≡ wanted_status) × (text.now ≡ wanted_text.now)) }
 {
     status == wanted_status && text == wanted_text
 }
 
-/// The first line of a text, with its end.
+/// Returns the first line of a text with its line end, or the whole text where no line ends.
 fn first_line(text: &[u8]) -> &[u8] {
     for (at, byte) in text.iter().enumerate() {
         if *byte == b'\n' {
@@ -140,12 +142,13 @@ fn first_line(text: &[u8]) -> &[u8] {
     text
 }
 
-/// A text that is printed.
+/// Returns a text as it is printed, which is `no text` for bytes that are none.
 fn printed(text: &[u8]) -> &str {
     str::from_utf8(text).unwrap_or("no text")
 }
 
-/// Prints a command that differs: the place and the name of its case, its words, what was wanted, and what came.
+/// Prints a command whose answer differs: the place and the name of its case, its words, what was
+/// wanted, and what came.
 fn print_difference(
     rt: &impl Print,
     tally: &Tally,
@@ -163,7 +166,7 @@ fn print_difference(
     Ok(())
 }
 
-/// Prints how many cases a file has.
+/// Prints how many commands of a file were run.
 fn print_count(rt: &impl Print, tally: &Tally) -> Result<(), Fault> {
     let (file, cases) = (tally.file.as_str(), tally.cases);
     if tally.migrated {

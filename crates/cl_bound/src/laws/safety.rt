@@ -6,9 +6,10 @@ ghost use Rattle.cl_bound.specs.Bounds.{bounds_of};
 ghost use Rattle.cl_bound.specs.Promises.{AreSafe};
 ghost use Rattle.cl_bound.specs.SettledChains.{IsSettledChain};
 
-/// The bounds of a settled chain are at least the reaction, the age and the reduced age of each of its complete chains
-/// in each legal run, of any length.
+/// The bounds of a settled chain are at least the reaction, the age and the reduced age of each of
+/// its complete job chains in each legal run, of any length.
 pub fn bounds_are_safe()
-    ensures { (system : System) → IsSound system → (groups : List Group) → IsSettledChain system groups
+    ensures { (system : System) → IsSound system → (groups : List Group)
+        → IsSettledChain system groups
         → AreSafe system groups (bounds_of system groups) }
 {}

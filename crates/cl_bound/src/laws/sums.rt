@@ -1,5 +1,6 @@
-//! The sums behind the bounds: they are the bounds, positive, no greater than two of the greatest distances for each
-//! group, the same for the reaction and the age, and no greater where responses aren't.
+//! The bounds of a settled chain are the sums that define them. They are positive and at most two
+//! of the greatest distances for each group, the same for the reaction and the age, and no greater
+//! where responses aren't.
 ghost use Rattle.std.specs.Prelude.{◌≡◌, ℕ, ◌*◌, ◌<◌, ◌≤◌, List, length, map, All};
 ghost use Rattle.cl_model.specs.declared.group.Group.{Group};
 ghost use Rattle.cl_runs.specs.TaskTiming.{System, IsSound};
@@ -9,48 +10,63 @@ ghost use Rattle.cl_bound.specs.Hops.{group_timing};
 ghost use Rattle.cl_bound.specs.NoGreater.{WritesNoLater, AreNoGreater};
 ghost use Rattle.cl_bound.specs.SettledChains.{IsSettledChain, AreWithin};
 
-/// What `bounds_of` gives for a settled chain are the signed sums themselves, and no other numbers are.
+/// The bounds that `bounds_of` gives for a settled chain are the sums over signed numbers that
+/// define them, and no other numbers are.
 pub fn bounds_are_sums()
-    ensures are { (system : System) → IsSound system → (groups : List Group) → IsSettledChain system groups
+    ensures are { (system : System) → IsSound system → (groups : List Group)
+        → IsSettledChain system groups
         → AreBoundsOf (settled_timings system groups) (bounds_of system groups) }
     ensures alone { (system : System) (groups : List Group) (bounds : Lengths)
         → AreBoundsOf (settled_timings system groups) bounds → bounds ≡ bounds_of system groups }
 {}
 
-/// Each bound of a settled chain with some group is 1 tick or more.
+/// Each bound of a settled chain of one group or more is 1 tick or more.
 pub fn bounds_are_positive()
-    ensures reaction { (system : System) → IsSound system → (groups : List Group) → IsSettledChain system groups
+    ensures reaction { (system : System) → IsSound system → (groups : List Group)
+        → IsSettledChain system groups
         → 0 < length groups → 1 ≤ (bounds_of system groups).reaction }
-    ensures age { (system : System) → IsSound system → (groups : List Group) → IsSettledChain system groups
+    ensures age { (system : System) → IsSound system → (groups : List Group)
+        → IsSettledChain system groups
         → 0 < length groups → 1 ≤ (bounds_of system groups).age }
-    ensures reduced { (system : System) → IsSound system → (groups : List Group) → IsSettledChain system groups
+    ensures reduced { (system : System) → IsSound system → (groups : List Group)
+        → IsSettledChain system groups
         → 0 < length groups → 1 ≤ (bounds_of system groups).reduced }
 {}
 
-/// The bounds of a settled chain are at most two of the greatest distances between arrivals for each group.
+/// Each bound of a settled chain is at most twice the number of its groups times the greatest
+/// distance between arrivals of any of them.
 pub fn bounds_are_limited()
-    ensures reaction { (system : System) → IsSound system → (groups : List Group) → IsSettledChain system groups → (most : ℕ)
-        → AreWithin system most groups → (bounds_of system groups).reaction ≤ 2 * length groups * most }
-    ensures age { (system : System) → IsSound system → (groups : List Group) → IsSettledChain system groups → (most : ℕ)
+    ensures reaction { (system : System) → IsSound system → (groups : List Group)
+        → IsSettledChain system groups → (most : ℕ)
+        → AreWithin system most groups → (bounds_of system groups).reaction
+        ≤ 2 * length groups * most }
+    ensures age { (system : System) → IsSound system → (groups : List Group)
+        → IsSettledChain system groups → (most : ℕ)
         → AreWithin system most groups → (bounds_of system groups).age ≤ 2 * length groups * most }
-    ensures reduced { (system : System) → IsSound system → (groups : List Group) → IsSettledChain system groups → (most : ℕ)
-        → AreWithin system most groups → (bounds_of system groups).reduced ≤ 2 * length groups * most }
+    ensures reduced { (system : System) → IsSound system → (groups : List Group)
+        → IsSettledChain system groups → (most : ℕ)
+        → AreWithin system most groups → (bounds_of system groups).reduced
+        ≤ 2 * length groups * most }
 {}
 
-/// The bound on the reaction equals the bound on the age: of all groups, whatever their timing, and so of each settled
-/// chain of a sound system.
+/// The bound on the reaction equals the bound on the age, for any groups with any timing, and so
+/// for the groups of any system.
 pub fn reaction_equals_age()
     ensures sums { (groups : List GroupTiming) → greatest_reaction groups ≡ greatest_age groups }
-    ensures bounds { (system : System) (groups : List Group) → (bounds_of system groups).reaction ≡ (bounds_of system groups).age }
+    ensures bounds { (system : System) (groups : List Group)
+        → (bounds_of system groups).reaction ≡ (bounds_of system groups).age }
 {}
 
-/// Bounds don't grow where responses don't: where these are no greater, groups write no later, and where groups are as
-/// others and write no later, no bound is greater.
+/// Smaller responses never make bounds greater: a group writes no later where the response of its
+/// task is no greater, and where groups differ from others at most in that they write earlier, none
+/// of their bounds is greater.
 pub fn bounds_grow_with_responses()
-    ensures writes { (system : System) (responses others : ℕ → ℕ) (group : Group) → responses group.task ≤ others group.task
+    ensures writes { (system : System) (responses others : ℕ → ℕ) (group : Group)
+        → responses group.task ≤ others group.task
         → WritesNoLater (group_timing system responses group) (group_timing system others group) }
     ensures bounds { (timing other : Group → GroupTiming) (groups : List Group)
         → All (λ (group : Group). WritesNoLater (timing group) (other group)) groups
-        → (bounds others : Lengths) → AreBoundsOf (map timing groups) bounds → AreBoundsOf (map other groups) others
+        → (bounds others : Lengths) → AreBoundsOf (map timing groups) bounds
+        → AreBoundsOf (map other groups) others
         → AreNoGreater bounds others }
 {}

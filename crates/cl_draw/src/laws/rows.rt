@@ -22,30 +22,35 @@ ghost use Rattle.cl_draw.specs.Picture.{window_between};
 ghost use Rattle.cl_draw.specs.RowLines.{bar_line};
 ghost use Rattle.cl_draw.specs.Rows.{IsRowOf};
 
-/// The bars of the bands of a row lie side by side, and so do those of its parts: none overlaps another, each is a whole
-/// unit wide or more, and all lie within the row.
+/// In the picture of a legal run of a valid model the bars of the bands of a row lie side by side,
+/// and so do those of its parts: none overlaps another, each is at least one unit wide, and all lie
+/// within the row.
 pub fn bars_of_a_row_lie_side_by_side()
-    ensures bands { (model : SystemModel) → IsValid model → (run : Run) → IsLegal (system_of model) run → (from to : ℕ) → from < to
+    ensures bands { (model : SystemModel) → IsValid model → (run : Run)
+        → IsLegal (system_of model) run → (from to : ℕ) → from < to
         → to ≤ run.table.ticks → (task : ℕ) → task < length model.tasks → (row : Row)
         → IsRowOf model run (window_between from to) task row → LieSideBySide row.bands }
-    ensures parts { (model : SystemModel) → IsValid model → (run : Run) → IsLegal (system_of model) run → (from to : ℕ) → from < to
+    ensures parts { (model : SystemModel) → IsValid model → (run : Run)
+        → IsLegal (system_of model) run → (from to : ℕ) → from < to
         → to ≤ run.table.ticks → (task : ℕ) → task < length model.tasks → (row : Row)
         → IsRowOf model run (window_between from to) task row → LieSideBySide row.parts }
 {}
 
-/// Each tick of the window in which a task runs lies under the bars of its parts: each place from the unit at or before the
-/// tick up to the one at or after its end.
+/// Each tick of the window in which a task runs lies under the bars of the parts in the row of the
+/// task, from the unit at or before the tick to the one at or after its end.
 pub fn ticks_lie_under_bars()
-    ensures { (model : SystemModel) → IsValid model → (run : Run) → IsLegal (system_of model) run → (from to : ℕ) → from < to
+    ensures { (model : SystemModel) → IsValid model → (run : Run) → IsLegal (system_of model) run
+        → (from to : ℕ) → from < to
         → to ≤ run.table.ticks → (task : ℕ) → task < length model.tasks → (row : Row)
         → IsRowOf model run (window_between from to) task row → (tick : ℕ) → from ≤ tick → tick < to
         → entry_at run (timing_at (system_of model) task).core tick ≡ Some task
-        → (place : ℕ) → low_of (window_between from to) tick ≤ place → place < high_of (window_between from to) (tick + 1)
+        → (place : ℕ) → low_of (window_between from to) tick ≤ place
+        → place < high_of (window_between from to) (tick + 1)
         → IsUnder row.parts place }
 {}
 
-/// The bars of a row show, in order and each of them once, the bands that share a tick with the window, and the parts that
-/// do.
+/// The bars of a row show each band and each part that shares a tick with the window once, and in
+/// order.
 pub fn rows_show_each_item()
     ensures bands { (model : SystemModel) (run : Run) (window : Window) (task : ℕ) (row : Row) (is : IsRowOf model run window task row)
         → AreBarsOf window
@@ -56,8 +61,8 @@ pub fn rows_show_each_item()
         row.parts }
 {}
 
-/// A bar that shows one item says its name and all else of it; one that shows several says the names of the first and the
-/// last of them, from when on the first lasts, and until when the last does.
+/// A bar that shows one item names its job and says all else of it. A bar that shows several names
+/// the jobs of the first and the last, and says when the first begins and when the last ends.
 pub fn bars_name_their_first_and_last_item()
     ensures { (window : Window) (opening : List ℕ) (task : TaskDef) (first : Item) (others : List Item) (bar : Bar)
         → IsBarOf window first others bar

@@ -8,24 +8,33 @@ ghost use Rattle.cl_edit.specs.declared.edit.Edit.TheVariants.{AddTask, DropTask
 ghost use Rattle.cl_edit.specs.Edited.{edit_checks, with_edit};
 ghost use Rattle.cl_edit.specs.FewListChecks.{new_task_checks, dropped_task_checks, new_chain_checks, dropped_chain_checks};
 
-/// A new chain is refused by the checks of its name and of its own parts alone.
+/// Where a chain is added to a valid model, the refusals of the changed model are those of the
+/// checks of its name (M25) and of its own parts (M43 to M45), in this order.
 pub fn new_chains_are_checked_alone()
-    ensures { (model : SystemModel) (chain : ChainDef) → IsValid model → refusals_of (with_edit model (AddChain chain)) ≡ new_chain_checks model chain }
+    ensures { (model : SystemModel) (chain : ChainDef) → IsValid model
+        → refusals_of (with_edit model (AddChain chain)) ≡ new_chain_checks model chain }
 {}
 
-/// A dropped chain is missed by requirements alone.
+/// Where a chain is dropped from a valid model, the refusals of the changed model are M46 for each
+/// requirement that names the chain.
 pub fn dropped_chains_are_missed_by_requirements()
-    ensures { (model : SystemModel) (chain : List ℕ) → IsValid model → edit_checks model (DropChain chain) ≡ []
+    ensures { (model : SystemModel) (chain : List ℕ) → IsValid model
+        → edit_checks model (DropChain chain) ≡ []
         → refusals_of (with_edit model (DropChain chain)) ≡ dropped_chain_checks model chain }
 {}
 
-/// A dropped task is missed by the chains that name one of its runnables alone.
+/// Where a task is dropped from a valid model, the refusals of the changed model are M44 for each
+/// step of a chain that is a runnable of the task.
 pub fn dropped_tasks_are_missed_by_chains()
-    ensures { (model : SystemModel) (task : List ℕ) → IsValid model → edit_checks model (DropTask task) ≡ []
+    ensures { (model : SystemModel) (task : List ℕ) → IsValid model
+        → edit_checks model (DropTask task) ≡ []
         → refusals_of (with_edit model (DropTask task)) ≡ dropped_task_checks model task }
 {}
 
-/// A new task is refused by the checks of its names, of its own parts and of the deadlines of the tasks below it alone.
+/// Where a task is added to a valid model, the refusals of the changed model are those of the
+/// checks of its names (M23 and M24), of its own parts (M29 to M41), of the deadlines of the tasks
+/// below it and of its own deadline (M42 for both), in this order.
 pub fn new_tasks_are_checked_alone()
-    ensures { (model : SystemModel) (task : TaskDef) → IsValid model → refusals_of (with_edit model (AddTask task)) ≡ new_task_checks model task }
+    ensures { (model : SystemModel) (task : TaskDef) → IsValid model
+        → refusals_of (with_edit model (AddTask task)) ≡ new_task_checks model task }
 {}

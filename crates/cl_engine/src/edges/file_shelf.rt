@@ -12,8 +12,8 @@ use std::io::{ErrorKind, Read};
 use std::rt::Files;
 use std::{fs, io};
 
-/// The files of the machine, as a runtime gives them. It tells nothing of what lies under a name, and hands the name to
-/// the runtime as it stands.
+/// The files of a runtime, as a shelf. It doesn't tell what lies under a name, and hands each name
+/// to the runtime as it stands.
 #[derive(Drop)]
 pub struct FileShelf<'a, R: Files> {
     files: &'a R,
@@ -21,7 +21,7 @@ pub struct FileShelf<'a, R: Files> {
 }
 
 impl<'a, R: Files> FileShelf<'a, R> {
-    /// A shelf on which each number of each name is 0. Takes no memory.
+    /// Makes a shelf on which both numbers of every name are 0. Takes no memory.
     pub fn new(alloc: Global, files: &'a R) -> Self
         ensures faults { SameAtEach (λ _. 0) (⟦<FileShelf<'a, R> as Shelf>⟧.faults result) }
         ensures longest { SameAtEach (λ _. 0) (⟦<FileShelf<'a, R> as Shelf>⟧.longest result) }
@@ -50,7 +50,7 @@ impl<R: Files> Shelf for FileShelf<'_, R> {
     }
 }
 
-/// What the runtime gives of the file of that very name.
+/// Reads the file of exactly this name, where it has at most `limit` bytes.
 fn fetched<R: Files>(
     files: &R,
     alloc: Global,
@@ -62,14 +62,15 @@ fn fetched<R: Files>(
     read_opened(alloc, fs::open(files, name), limit)
 }
 
-/// What a fetch answers, by what the opening of the file answered. Want of memory stays want of memory, and every other
-/// error is a fault of reading.
+/// Reads an opened file, where it has at most `limit` bytes. Where the opening failed, want of
+/// memory gives `NoMemory`, and every other error `Failed`.
 fn read_opened<T: Read + Drop>(
     alloc: Global,
     answer: io::Result<T>,
     limit: u64,
 ) -> Result<Vec<u8>, FetchFault>
-    ensures opened { IfOk answer (λ reader. IfSome (T.remaining reader) (λ left. ReadsWithin left limit result)) }
+    ensures opened { IfOk answer
+        (λ reader. IfSome (T.remaining reader) (λ left. ReadsWithin left limit result)) }
     ensures unopened { IfErr answer (λ error. IsErrAnd result (IsFaultOfError error)) }
     ensures within { IsWithin limit result }
 {
@@ -79,7 +80,8 @@ fn read_opened<T: Read + Drop>(
     }
 }
 
-/// Notes what a fetch answered in the numbers of its name.
+/// Records the answer of a fetch in the numbers of its name: how many bytes were taken, or one more
+/// fault, or nothing for want of memory.
 fn note(numbers: &mut NameNumbers, name: &str, answer: &Result<Vec<u8>, FetchFault>)
     requires { IsEntered numbers.old name.now }
     ensures faults { RisesAlone name.now (faults_of numbers.old) (faults_of numbers.new) }
@@ -95,7 +97,8 @@ fn note(numbers: &mut NameNumbers, name: &str, answer: &Result<Vec<u8>, FetchFau
     }
 }
 
-/// What a fetch answers of a file, by any reader of it: a file that was read in part is never given as the whole.
+/// Reads all that a reader has left, where that is at most `limit` bytes. A file that was read in
+/// part is never given as the whole.
 fn read_within<T: Read + Drop>(alloc: Global, reader: T, limit: u64) -> Result<Vec<u8>, FetchFault>
     ensures reads { IfSome (T.remaining reader) (λ left. ReadsWithin left limit result) }
     ensures within { IsWithin limit result }
@@ -103,9 +106,10 @@ fn read_within<T: Read + Drop>(alloc: Global, reader: T, limit: u64) -> Result<V
     settle(read_past(alloc, reader, limit), limit)
 }
 
-/// The first bytes that the reader has left, up to one past the limit.
+/// Reads what the reader has left, but no more than one byte past the limit.
 fn read_past<T: Read + Drop>(alloc: Global, reader: T, limit: u64) -> io::Result<Vec<u8>>
-    ensures { IfSome (T.remaining reader) (λ left. IfOk result (λ bytes. bytes.items ≡ take (counted limit) left)) }
+    ensures { IfSome (T.remaining reader)
+        (λ left. IfOk result (λ bytes. bytes.items ≡ take (counted limit) left)) }
 {
     let mut bytes = Vec::new(alloc);
     reader
@@ -114,7 +118,8 @@ fn read_past<T: Read + Drop>(alloc: Global, reader: T, limit: u64) -> io::Result
     Ok(bytes)
 }
 
-/// What a fetch answers, by what the reading of the file answered.
+/// Converts what the reading of a file gave: its bytes, `Long` where they are more than the limit,
+/// or the fault of the error.
 fn settle(answer: io::Result<Vec<u8>>, limit: u64) -> Result<Vec<u8>, FetchFault>
     ensures { Settles answer limit result }
 {
@@ -130,7 +135,8 @@ fn settle(answer: io::Result<Vec<u8>>, limit: u64) -> Result<Vec<u8>, FetchFault
     }
 }
 
-/// The fault that an error of the system is: want of memory for want of memory alone.
+/// Converts an error of the system to a fault: want of memory to `NoMemory`, and every other to
+/// `Failed`.
 fn fault_of(error: &io::Error) -> FetchFault
     ensures { IsFaultOfError error.now result }
 {

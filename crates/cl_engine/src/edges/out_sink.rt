@@ -5,7 +5,7 @@ use cl_io::{Sink, SinkFault};
 use std::io;
 use std::io::Write;
 
-/// The standard output, as a runtime gives it. It tells nothing of what was written.
+/// The standard output of a runtime, as a sink. It doesn't tell what was written.
 #[derive(Drop)]
 pub struct OutSink<'a, P: Print> {
     out: &'a P,
@@ -14,7 +14,7 @@ pub struct OutSink<'a, P: Print> {
 }
 
 impl<'a, P: Print> OutSink<'a, P> {
-    /// A sink that has not failed yet. Takes no memory.
+    /// Makes a sink of which no write has failed yet. Takes no memory.
     pub fn new(out: &'a P) -> Self
         ensures faults { ⟦<OutSink<'a, P> as Sink>⟧.faults result ≡ 0 }
         ensures last { ⟦<OutSink<'a, P> as Sink>⟧.last_failed result ≡ false }
@@ -44,7 +44,8 @@ impl<P: Print> Sink for OutSink<'_, P> {
     }
 }
 
-/// What a write of a piece of so many bytes answers, by what the output answered.
+/// Converts the output's answer to a write of `len` bytes: an error is a failure, and so is taking
+/// nothing of a piece that isn't empty.
 fn taken_of(answer: io::Result<usize>, len: usize) -> Result<usize, SinkFault>
     ensures { TakesAsAnswered answer len result }
 {
@@ -55,7 +56,7 @@ fn taken_of(answer: io::Result<usize>, len: usize) -> Result<usize, SinkFault>
     }
 }
 
-/// Writes the first bytes of a piece and flushes them, and says how many.
+/// Writes the first bytes of a piece, flushes them, and returns how many were written.
 fn write_through<P: Print>(out: &P, piece: &[u8]) -> io::Result<usize>
     ensures { IfOk result (λ taken. taken ≤ length piece.now) }
 {

@@ -1,4 +1,5 @@
-//! Exact lengths themselves: a chain has one of each, with one witness.
+//! Exact lengths themselves: each chain of timed and periodic tasks has one of each kind, with one
+//! witness.
 ghost use Rattle.std.specs.Prelude.{◌≡◌, ◌⊎◌, ◌↔◌, ℕ, ◌<◌, ◌≤◌, true, List, length};
 ghost use Rattle.cl_model.specs.declared.model.SystemModel.{SystemModel};
 ghost use Rattle.cl_model.specs.Groups.{groups_at};
@@ -15,34 +16,40 @@ ghost use Rattle.cl_exact.specs.SteadyJobs.{first_steady_job, last_steady_job};
 ghost use Rattle.cl_exact.specs.SameArrivals.{HaveSameArrivals};
 ghost use Rattle.cl_exact.specs.Hyperperiod.{IsHyperperiod, IsWithinLimit, IsPastLimit};
 
-/// A chain has one exact length of each kind, and one witness of it.
+/// A chain has at most one exact length of each kind, with one witness.
 pub fn exact_lengths_are_unique()
     ensures { (system : System) (groups : List Group) (one other : Witnesses)
         → AreExactLengths system groups one → AreExactLengths system groups other → one ≡ other }
 {}
 
-/// A chain has one hyperperiod.
+/// A chain has at most one hyperperiod.
 pub fn one_hyperperiod()
     ensures { (system : System) (groups : List Group) (one other : ℕ)
         → IsHyperperiod system groups one → IsHyperperiod system groups other → one ≡ other }
 {}
 
-/// So its hyperperiod isn't both within the limit and past it; and that of each chain of a valid model whose tasks are
-/// all timed and periodic is one of both.
+/// The hyperperiod of a chain is never both within the limit and past it. That of each chain of a
+/// valid model whose tasks are all timed and periodic is one of the two.
 pub fn chains_are_within_the_limit_or_past_it()
-    ensures not_both { (system : System) (groups : List Group) → IsWithinLimit system groups → IsPastLimit system groups → ⊥ }
-    ensures either { (model : SystemModel) → IsValid model → (chain : ℕ) → chain < length model.chains
+    ensures not_both { (system : System) (groups : List Group) → IsWithinLimit system groups
+        → IsPastLimit system groups → ⊥ }
+    ensures either { (model : SystemModel) → IsValid model → (chain : ℕ)
+        → chain < length model.chains
         → is_timed_periodic_chain model chain ≡ true
-        → IsWithinLimit (system_of model) (groups_at model chain) ⊎ IsPastLimit (system_of model) (groups_at model chain) }
+        → IsWithinLimit (system_of model) (groups_at model chain)
+        ⊎ IsPastLimit (system_of model) (groups_at model chain) }
 {}
 
-/// A chain of a valid model whose tasks are all timed and periodic has exact lengths, whatever its hyperperiod.
+/// A chain of a valid model whose tasks are all timed and periodic has exact lengths, whatever its
+/// hyperperiod.
 pub fn exact_lengths_exist()
     ensures { (model : SystemModel) → IsValid model → (chain : ℕ) → chain < length model.chains
-        → is_timed_periodic_chain model chain ≡ true → HasExactLengths (system_of model) (groups_at model chain) }
+        → is_timed_periodic_chain model chain ≡ true
+        → HasExactLengths (system_of model) (groups_at model chain) }
 {}
 
-/// Its exact reaction equals its exact age, and its exact reduced age is that age less the last period, with the same
+/// The exact reaction of a chain of a valid model whose tasks are all timed and periodic equals its
+/// exact age. Its exact reduced age is that age less the period of its last task, with the same
 /// jobs.
 pub fn exact_lengths_are_tied()
     ensures { (model : SystemModel) → IsValid model → (chain : ℕ) → chain < length model.chains
@@ -51,10 +58,11 @@ pub fn exact_lengths_are_tied()
         → AreTied (system_of model) (groups_at model chain) exact }
 {}
 
-/// Exact lengths, and whether the hyperperiod is within the limit, depend on the arrival patterns and the deadlines of
-/// tasks alone.
+/// Exact lengths, and whether the hyperperiod is within the limit, depend only on the arrival
+/// patterns and the deadlines of tasks.
 pub fn same_arrivals_have_same_lengths()
-    ensures lengths { (one other : System) → HaveSameArrivals one other → (groups : List Group) (exact : Witnesses)
+    ensures lengths { (one other : System) → HaveSameArrivals one other
+        → (groups : List Group) (exact : Witnesses)
         → AreExactLengths one groups exact → AreExactLengths other groups exact }
     ensures within { (one other : System) → HaveSameArrivals one other → (groups : List Group)
         → IsWithinLimit one groups → IsWithinLimit other groups }
@@ -62,10 +70,12 @@ pub fn same_arrivals_have_same_lengths()
         → IsPastLimit one groups → IsPastLimit other groups }
 {}
 
-/// The forward chains that count are those whose first job is a number or later, and the backward chains that count
-/// those whose last job is.
+/// Where the tasks of a chain of a valid model are all timed and periodic, a complete forward chain
+/// counts for its exact lengths exactly where its first job is `first_steady_job` or later, and a
+/// complete backward chain exactly where its last job is `last_steady_job` or later.
 pub fn steady_chains_have_late_jobs()
-    ensures forward { (model : SystemModel) → IsValid model → (chain : ℕ) → chain < length model.chains
+    ensures forward { (model : SystemModel) → IsValid model → (chain : ℕ)
+        → chain < length model.chains
         → is_timed_periodic_chain model chain ≡ true
         → (jobs : JobChain) → IsForwardChain (ideal_moments (system_of model)) (groups_at model chain) jobs
         → (IsSteadyForward (system_of model) (groups_at model chain) jobs)
@@ -75,7 +85,8 @@ pub fn steady_chains_have_late_jobs()
         → (jobs : JobChain) → IsAgeChain (ideal_moments (system_of model)) (groups_at model chain) jobs
         → (IsSteadyAge (system_of model) (groups_at model chain) jobs)
         ↔ (last_steady_job (system_of model) (groups_at model chain) ≤ last_job jobs) }
-    ensures reduced { (model : SystemModel) → IsValid model → (chain : ℕ) → chain < length model.chains
+    ensures reduced { (model : SystemModel) → IsValid model → (chain : ℕ)
+        → chain < length model.chains
         → is_timed_periodic_chain model chain ≡ true
         → (jobs : JobChain) → IsReducedChain (ideal_moments (system_of model)) (groups_at model chain) jobs
         → (IsSteadyReduced (system_of model) (groups_at model chain) jobs)

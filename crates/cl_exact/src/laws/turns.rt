@@ -1,4 +1,4 @@
-//! One hyperperiod of first jobs shows all lengths.
+//! The first jobs of one hyperperiod show all lengths.
 ghost use Rattle.std.specs.Prelude.{◌≡◌, ℕ, ◌<◌, ◌≤◌, true, length};
 ghost use Rattle.cl_model.specs.declared.model.SystemModel.{SystemModel};
 ghost use Rattle.cl_model.specs.Groups.{groups_at};
@@ -10,8 +10,10 @@ ghost use Rattle.cl_exact.specs.Hyperperiod.{IsMultipleOfPeriods};
 ghost use Rattle.cl_exact.specs.ExactLengths.{IsSteadyForward};
 ghost use Rattle.cl_exact.specs.Turns.{HasEarlyTwin};
 
-/// Each forward chain that counts has the length of one that begins less than a hyperperiod, or any other common
-/// multiple of the periods, after the first of them. So the greatest over one hyperperiod is the greatest over all.
+/// Where the tasks of a chain of a valid model are all timed and periodic, each forward chain that
+/// counts for its exact reaction is as long as one that begins less than a hyperperiod, or any
+/// other common multiple of the periods, after the first that counts. So the greatest reaction over
+/// one hyperperiod is the greatest over all.
 pub fn one_hyperperiod_shows_all()
     ensures { (model : SystemModel) → IsValid model → (chain : ℕ) → chain < length model.chains
         → is_timed_periodic_chain model chain ≡ true

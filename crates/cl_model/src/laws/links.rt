@@ -1,4 +1,5 @@
-//! What the names in a valid model link: parts of tasks, labels of runnables, steps of chains, chains of requirements.
+//! What the names in a valid model refer to: the cores and stimuli of tasks, the labels of
+//! runnables, the steps of chains, and the chains of requirements.
 ghost use Rattle.std.specs.Prelude.{◌≡◌, ◌≤◌, ℕ, List, length, All, Contains};
 ghost use Rattle.cl_model.specs.declared.chain.RequirementDef.{RequirementDef};
 ghost use Rattle.cl_model.specs.declared.group.Step.{Step};
@@ -9,22 +10,28 @@ ghost use Rattle.cl_model.specs.KnownNames.{HasKnownParts, HasKnownLabels, IsLin
 ghost use Rattle.cl_model.specs.Named.{chain_names};
 ghost use Rattle.cl_model.specs.Validity.{IsValid};
 
-/// The core and the stimulus of each task are known, and the chain of each requirement.
+/// The core and the stimulus that a task of a valid model names exist, and so does the chain that a
+/// requirement names.
 pub fn parts_are_known()
     ensures tasks { (model : SystemModel) → IsValid model → All (HasKnownParts model) model.tasks }
     ensures requirements { (model : SystemModel) → IsValid model
         → All (λ (requirement : RequirementDef). Contains (chain_names model) requirement.chain) model.requirements }
 {}
 
-/// A runnable reads and writes known labels, each once in its list, and no two runnables write one label.
+/// A runnable of a valid model reads and writes labels of the model, each once in its list, and no
+/// two runnables write the same label.
 pub fn labels_are_known()
-    ensures known { (model : SystemModel) → IsValid model → (step : Step) → IsStepOf model step → HasKnownLabels model (runnable_at model step) }
-    ensures one_writer { (model : SystemModel) → IsValid model → (step other : Step) → IsStepOf model step → IsStepOf model other
-        → (label : List ℕ) → Contains (runnable_at model step).writes label → Contains (runnable_at model other).writes label → step ≡ other }
+    ensures known { (model : SystemModel) → IsValid model → (step : Step) → IsStepOf model step
+        → HasKnownLabels model (runnable_at model step) }
+    ensures one_writer { (model : SystemModel) → IsValid model → (step other : Step)
+        → IsStepOf model step → IsStepOf model other
+        → (label : List ℕ) → Contains (runnable_at model step).writes label
+        → Contains (runnable_at model other).writes label → step ≡ other }
 {}
 
-/// A chain has one label fewer than steps, which are known runnables, and each step writes the label that the next one
-/// reads.
+/// A chain of a valid model has at least one step, and one label fewer than steps. Each step is a
+/// runnable of the model, and each label is written by the step before it and read by the step
+/// after it.
 pub fn chains_are_linked()
     ensures { (model : SystemModel) → IsValid model → All (IsLinked model) model.chains }
 {}

@@ -1,4 +1,4 @@
-//! The names in a valid model: apart in each section, and found by look-up.
+//! The names in a valid model, which differ within each section and are found by look-up.
 ghost use Rattle.std.specs.Prelude.{◌≡◌, ◌<◌, ℕ, List, [], Some, length, slice_index_or, All, Contains};
 ghost use Rattle.cl_model.specs.declared.group.Step.{Step};
 ghost use Rattle.cl_model.specs.declared.model.SystemModel.{SystemModel};
@@ -11,35 +11,47 @@ ghost use Rattle.cl_model.specs.Named.{core_names, stimulus_names, label_names, 
 ghost use Rattle.cl_model.specs.NameSets.{AreDistinctNames};
 ghost use Rattle.cl_model.specs.Validity.{IsValid};
 
-/// The names of a section are apart, and so are those of all runnables.
+/// In a valid model the entries of a section have different names, and so have all runnables.
 pub fn names_are_apart()
     ensures cores { (model : SystemModel) → IsValid model → AreDistinctNames (core_names model) }
-    ensures stimuli { (model : SystemModel) → IsValid model → AreDistinctNames (stimulus_names model) }
+    ensures stimuli { (model : SystemModel) → IsValid model
+        → AreDistinctNames (stimulus_names model) }
     ensures labels { (model : SystemModel) → IsValid model → AreDistinctNames (label_names model) }
     ensures tasks { (model : SystemModel) → IsValid model → AreDistinctNames (task_names model) }
-    ensures runnables { (model : SystemModel) → IsValid model → AreDistinctNames (runnable_names (all_runnables model.tasks)) }
+    ensures runnables { (model : SystemModel) → IsValid model
+        → AreDistinctNames (runnable_names (all_runnables model.tasks)) }
     ensures chains { (model : SystemModel) → IsValid model → AreDistinctNames (chain_names model) }
-    ensures requirements { (model : SystemModel) → IsValid model → AreDistinctNames (requirement_names model) }
+    ensures requirements { (model : SystemModel) → IsValid model
+        → AreDistinctNames (requirement_names model) }
 {}
 
-/// Of names that are apart, two places with one name are one, and a look-up finds each name at its own place.
+/// In a list of different names no name has two indices. A look-up finds each name at its own
+/// index, and the index that it gives is one at which the name stands.
 pub fn apart_names_are_found()
-    ensures one_place { (names : List (List ℕ)) → AreDistinctNames names → (k j : ℕ) → k < length names → j < length names
+    ensures one_place { (names : List (List ℕ)) → AreDistinctNames names → (k j : ℕ)
+        → k < length names → j < length names
         → slice_index_or names k [] ≡ slice_index_or names j [] → k ≡ j }
     ensures found { (names : List (List ℕ)) → AreDistinctNames names → AreFound names }
 {}
 
-/// What a name finds has the name, each entry of a valid model is found by its name, and a task has the core and the
-/// kind of stimulus that it names.
+/// Each task, chain and stimulus of a valid model is found by its name, and whatever is found by a
+/// name has that name. A task of a valid model has the core that it names, and the kind of the
+/// stimulus that it names.
 pub fn entries_are_found()
-    ensures task { (model : SystemModel) → IsValid model → (i : ℕ) → i < length model.tasks → task_named model (task_at model i).name ≡ Some i }
-    ensures task_named { (model : SystemModel) → (name : List ℕ) (i : ℕ) → task_named model name ≡ Some i → (task_at model i).name ≡ name }
-    ensures chain { (model : SystemModel) → IsValid model → (chain : ℕ) → chain < length model.chains
+    ensures task { (model : SystemModel) → IsValid model → (i : ℕ) → i < length model.tasks
+        → task_named model (task_at model i).name ≡ Some i }
+    ensures task_named { (model : SystemModel) → (name : List ℕ) (i : ℕ)
+        → task_named model name ≡ Some i → (task_at model i).name ≡ name }
+    ensures chain { (model : SystemModel) → IsValid model → (chain : ℕ)
+        → chain < length model.chains
         → chain_named model (chain_at model chain).name ≡ Some chain }
-    ensures chain_named { (model : SystemModel) → (name : List ℕ) (chain : ℕ) → chain_named model name ≡ Some chain
+    ensures chain_named { (model : SystemModel) → (name : List ℕ) (chain : ℕ)
+        → chain_named model name ≡ Some chain
         → (chain_at model chain).name ≡ name }
-    ensures stimulus { (model : SystemModel) → IsValid model → All (λ (s : StimulusDef). kind_named model s.name ≡ Some s.kind) model.stimuli }
-    ensures stimulus_named { (model : SystemModel) → (name : List ℕ) (kind : StimulusKind) → kind_named model name ≡ Some kind
+    ensures stimulus { (model : SystemModel) → IsValid model
+        → All (λ (s : StimulusDef). kind_named model s.name ≡ Some s.kind) model.stimuli }
+    ensures stimulus_named { (model : SystemModel) → (name : List ℕ) (kind : StimulusKind)
+        → kind_named model name ≡ Some kind
         → Contains model.stimuli (record { name = name; kind = kind }) }
     ensures core { (model : SystemModel) → IsValid model → (i : ℕ) → i < length model.tasks
         → slice_index_or (core_names model) (core_of model i) [] ≡ (task_at model i).core }
@@ -47,19 +59,23 @@ pub fn entries_are_found()
         → Contains model.stimuli (record { name = (task_at model i).stimulus; kind = stimulus_of model i }) }
 {}
 
-/// A name finds the core, the stimulus or the label of a valid model that has it.
+/// Each core, stimulus and label of a valid model is found by its name, and whatever is found by a
+/// name has that name.
 pub fn sections_are_found()
     ensures cores { (model : SystemModel) → IsValid model → AreFound (core_names model) }
     ensures stimuli { (model : SystemModel) → IsValid model → AreFound (stimulus_names model) }
     ensures labels { (model : SystemModel) → IsValid model → AreFound (label_names model) }
 {}
 
-/// The name of a runnable of a valid model stands for its step, and what a known name stands for is a step with that
-/// name.
+/// The name of a runnable of a valid model stands for the step of that runnable. In any model, a
+/// name that some runnable has stands for a step of the model whose runnable has that name.
 pub fn runnables_are_found()
-    ensures own { (model : SystemModel) → IsValid model → (step : Step) → IsStepOf model step → step_named model (runnable_at model step).name ≡ step }
-    ensures known { (model : SystemModel) → (name : List ℕ) → Contains (runnable_names (all_runnables model.tasks)) name
+    ensures own { (model : SystemModel) → IsValid model → (step : Step) → IsStepOf model step
+        → step_named model (runnable_at model step).name ≡ step }
+    ensures known { (model : SystemModel) → (name : List ℕ)
+        → Contains (runnable_names (all_runnables model.tasks)) name
         → IsStepOf model (step_named model name) }
-    ensures named { (model : SystemModel) → (name : List ℕ) → Contains (runnable_names (all_runnables model.tasks)) name
+    ensures named { (model : SystemModel) → (name : List ℕ)
+        → Contains (runnable_names (all_runnables model.tasks)) name
         → (runnable_at model (step_named model name)).name ≡ name }
 {}

@@ -5,8 +5,11 @@ ghost use Rattle.cl_model.specs.AreNamed.{AreNamed};
 ghost use Rattle.cl_model.specs.Ranges.{IsInRange};
 ghost use Rattle.cl_model.specs.Reading.{model_of};
 
-/// The counts and the numbers of a model that is read are in range, and its names are of the name grammar.
+/// The counts and numbers of each model that is read are in range, and its names are of the name
+/// grammar.
 pub fn read_models_are_plain()
-    ensures in_range { (bytes : List ℕ) (model : SystemModel) → model_of bytes ≡ Ok model → IsInRange model }
-    ensures named { (bytes : List ℕ) (model : SystemModel) → model_of bytes ≡ Ok model → AreNamed model }
+    ensures in_range { (bytes : List ℕ) (model : SystemModel) → model_of bytes ≡ Ok model
+        → IsInRange model }
+    ensures named { (bytes : List ℕ) (model : SystemModel) → model_of bytes ≡ Ok model
+        → AreNamed model }
 {}

@@ -8,7 +8,8 @@ use cl_time::NoMemory;
 impl<T> List<T> {
     ghost use Rattle.cl_model.specs.ListLends.{lends_item};
 
-    /// The item at a place, counted from 0, to be changed. The others stay.
+    /// Returns the item at index `place`, counted from 0, to be changed. The others stay as they
+    /// are.
     pub fn item_mut(&mut self, place: usize) -> &mut T
         requires { place < length self.old }
         ensures* writes_back { sem 𝓛 (lends_item T.row self.entry place result) }
@@ -17,7 +18,7 @@ impl<T> List<T> {
         &mut self.items[place]
     }
 
-    /// Takes the item at a place, counted from 0, out of the list. The others keep their order.
+    /// Removes and returns the item at index `place`, counted from 0. The others keep their order.
     pub fn remove(&mut self, place: usize) -> T
         requires { place < length self.old }
         ensures item { slice_get self.old place ≡ Some result }
@@ -28,8 +29,8 @@ impl<T> List<T> {
 }
 
 impl<T: Drop> List<T> {
-    /// Puts an item at a place, counted from 0, before those from there on. Where there is no memory for it, the list
-    /// stays as it was and the item is dropped.
+    /// Inserts an item at index `place`, counted from 0, before the items from there on. Where
+    /// there is no memory for it, the list stays as it was and the item is dropped.
     pub fn insert(&mut self, place: usize, item: T) -> Result<(), NoMemory>
         requires { place ≤ length self.old }
         ensures ok { OnOk result (self.new ≡ insert self.old place item) }

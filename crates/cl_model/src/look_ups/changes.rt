@@ -1,4 +1,4 @@
-//! Changes of what is kept beside a model. Where memory runs out, what is kept is of no model any more.
+//! Changes of the tables beside a model. After `NoMemory` they may be those of no model.
 ghost use Rattle.std.specs.Prelude.{◌≡◌, ◌<◌, ◌^◌, true, [], length, remove, insert, slice_index, slice_index_or, slice_set, OnOk, All};
 ghost use Rattle.cl_model.specs.Named.{has_name, runnable_names};
 ghost use Rattle.cl_model.specs.NameSets.{AreNew};
@@ -16,9 +16,11 @@ use cl_time::NoMemory;
 use std::alloc::Global;
 
 impl LookUps {
-    /// Adds what is kept of a chain behind the others, of runnables that are known.
+    /// Appends a chain, whose runnables must be known. After `NoMemory` the tables may be those of
+    /// no model.
     pub fn add_chain(&mut self, alloc: Global, chain: &ChainDef) -> Result<(), NoMemory>
-        requires known { All (λ name. has_name name self.old.steps.names ≡ true) chain.now.runnables }
+        requires known { All
+            (λ name. has_name name self.old.steps.names ≡ true) chain.now.runnables }
         requires paired { length self.old.steps.steps.items ≡ length self.old.steps.names }
         ensures { OnOk result (ChainAdded chain.now self.old self.new) }
     {
@@ -28,7 +30,7 @@ impl LookUps {
         Ok(())
     }
 
-    /// Takes what is kept of a chain out. The others keep their order.
+    /// Removes a chain. The others keep their order.
     pub fn drop_chain(&mut self, chain: usize)
         requires { chain < length self.old.groups.items }
         ensures { ChainDropped chain self.old self.new }
@@ -37,7 +39,8 @@ impl LookUps {
         self.names.chains.remove(chain);
     }
 
-    /// Adds what is kept of a task behind the others, where its core and its stimulus have these numbers.
+    /// Appends a task, whose core and stimulus have these numbers. After `NoMemory` the tables may
+    /// be those of no model.
     pub fn add_task(&mut self, task: &TaskDef, core: u32, stimulus: u32) -> Result<(), NoMemory>
         requires in_range { IsTaskInRange task.now }
         requires new { AreNew self.old.steps.names (runnable_names task.now.runnables) }
@@ -52,8 +55,8 @@ impl LookUps {
         Ok(())
     }
 
-    /// Takes what is kept of a task out, whose runnables have the numbers from `first` to before `last` and are in no
-    /// chain. The tasks behind it move up.
+    /// Removes a task that no chain names. Its runnables have the numbers from `first` up to, but
+    /// not including, `last`. The tasks after it get numbers that are one less.
     pub fn drop_task(&mut self, task: u32, first: usize, last: usize)
         requires row { HasRow self.old.tasks task }
         requires steps { HasSteps self.old.steps first last }
@@ -66,7 +69,7 @@ impl LookUps {
     }
 }
 
-/// The place of a task among others that stand in file order.
+/// Counts the tasks before `task` among others in file order: its index there.
 fn place_among(tasks: &[u32], task: u32) -> usize
     ensures { result ≡ place_among tasks.now task }
 {
@@ -75,7 +78,8 @@ fn place_among(tasks: &[u32], task: u32) -> usize
 
 fn take_out(lists: &mut Vec<List<u32>>, core: usize, task: u32)
     requires core { core < length lists.old.items }
-    requires listed { place_among (slice_index_or lists.old.items core []) task < length (slice_index_or lists.old.items core []) }
+    requires listed { place_among (slice_index_or lists.old.items core []) task
+        < length (slice_index_or lists.old.items core []) }
     ensures { lists.new.items ≡ slice_set lists.old.items core (remove (slice_index_or lists.old.items core []) (place_among (slice_index_or lists.old.items core []) task)) }
 {
     let tasks = &mut lists[core];
@@ -85,7 +89,8 @@ fn take_out(lists: &mut Vec<List<u32>>, core: usize, task: u32)
 
 fn put_in(lists: &mut Vec<List<u32>>, core: usize, task: u32) -> Result<(), NoMemory>
     requires { core < length lists.old.items }
-    ensures { OnOk result (lists.new.items ≡ slice_set lists.old.items core (insert (slice_index_or lists.old.items core []) (place_among (slice_index_or lists.old.items core []) task) task)) }
+    ensures { OnOk result
+        (lists.new.items ≡ slice_set lists.old.items core (insert (slice_index_or lists.old.items core []) (place_among (slice_index_or lists.old.items core []) task) task)) }
 {
     let tasks = &mut lists[core];
     let place = place_among(tasks.as_slice(), task);
@@ -93,7 +98,7 @@ fn put_in(lists: &mut Vec<List<u32>>, core: usize, task: u32) -> Result<(), NoMe
 }
 
 impl TaskTables {
-    /// Adds a task of this core, this stimulus and this execution time behind the others.
+    /// Appends a task of this core, this stimulus and this execution time.
     fn add_task(&mut self, core: u32, stimulus: u32, time: u64) -> Result<(), NoMemory>
         requires core { core < length self.old.on_cores.items }
         requires few { length self.old.cores.items < 2 ^ 32 }
@@ -107,7 +112,7 @@ impl TaskTables {
         Ok(())
     }
 
-    /// Puts a task on a core, and takes it from the one that it was on.
+    /// Moves a task to a core, from the one that it is on. After `NoMemory` no core lists the task.
     pub fn move_task(&mut self, task: u32, core: u32) -> Result<(), NoMemory>
         requires task { task < length self.old.cores.items }
         requires core { core < length self.old.on_cores.items }
@@ -121,7 +126,7 @@ impl TaskTables {
         Ok(())
     }
 
-    /// Takes a task out. The tasks behind it move up.
+    /// Removes a task. The tasks after it get numbers that are one less.
     fn drop_task(&mut self, task: u32)
         requires { HasRow self.old task }
         ensures { RowDropped task self.old self.new }

@@ -1,4 +1,5 @@
-//! Chains that are added to a valid model, or taken out of it: what is kept beside it is mended, not made again.
+//! Chains that are added to a valid model or removed from it. The tables beside it are updated, not
+//! made anew.
 ghost use Rattle.std.specs.Prelude.{◌≡◌, ◌<◌, length, IfOk};
 ghost use Rattle.cl_model.specs.Changes.{with_new_chain, without_chain};
 ghost use Rattle.cl_model.specs.Validity.{IsValid};
@@ -9,7 +10,8 @@ use cl_time::NoMemory;
 use std::alloc::Global;
 
 impl ValidModel {
-    /// The model with one more chain behind the others. Where memory runs out, nothing is left of the model.
+    /// Returns the model with one more chain after the others. Where memory runs out, nothing is
+    /// left of the model.
     pub fn with_chain(self, alloc: Global, chain: ChainDef) -> Result<ValidModel, NoMemory>
         requires { IsValid (with_new_chain self chain) }
         ensures { IfOk result (λ changed. changed ≡ with_new_chain self chain) }
@@ -21,7 +23,7 @@ impl ValidModel {
         Ok(ValidModel { model, look_ups })
     }
 
-    /// The model without a chain. The others keep their order.
+    /// Returns the model without a chain. The others keep their order.
     pub fn without_chain(self, chain: u32) -> ValidModel
         requires chain { chain < length self.chains }
         requires valid { IsValid (without_chain self chain) }

@@ -1,4 +1,5 @@
-//! Changes of a valid model that stays valid: what is kept beside it is mended, not made again. Times are in ticks.
+//! Changes of a valid model that stays valid. The tables beside it are updated, not made anew.
+//! Times are in ticks.
 ghost use Rattle.std.specs.Prelude.{◌≡◌, ◌<◌, length};
 ghost use Rattle.cl_model.specs.Groups.{IsStepOf};
 ghost use Rattle.cl_model.specs.Changes.{with_range, with_whole, with_kind, with_deadline, with_swap, with_access};
@@ -11,7 +12,7 @@ use crate::task::AccessKind;
 use crate::valid_model::ValidModel;
 
 impl ValidModel {
-    /// The model in which a runnable has these execution times.
+    /// Returns the model in which a runnable has this least and this greatest execution time.
     pub fn with_range(self, step: Step, least: u64, greatest: u64) -> ValidModel
         requires step { IsStepOf self step }
         requires valid { IsValid (with_range self step least greatest) }
@@ -25,7 +26,8 @@ impl ValidModel {
         ValidModel { model, look_ups }
     }
 
-    /// The model in which a runnable runs to its end without a break, or not.
+    /// Returns the model in which a runnable can't be preempted once it has begun, or can, as
+    /// `whole` says.
     pub fn with_whole(self, step: Step, whole: bool) -> ValidModel
         requires step { IsStepOf self step }
         requires valid { IsValid (with_whole self step whole) }
@@ -39,7 +41,7 @@ impl ValidModel {
         }
     }
 
-    /// The model in which a stimulus is of this kind.
+    /// Returns the model in which a stimulus is of this kind.
     pub fn with_kind(self, stimulus: u32, kind: StimulusKind) -> ValidModel
         requires stimulus { stimulus < length self.stimuli }
         requires valid { IsValid (with_kind self stimulus (λ _. kind)) }
@@ -53,7 +55,8 @@ impl ValidModel {
         }
     }
 
-    /// The model in which a task has this deadline.
+    /// Returns the model in which a task has this deadline from arrival, or none of its own where
+    /// `deadline` is `None`.
     pub fn with_deadline(self, task: u32, deadline: Option<u64>) -> ValidModel
         requires task { task < length self.tasks }
         requires valid { IsValid (with_deadline self task deadline) }
@@ -67,7 +70,7 @@ impl ValidModel {
         }
     }
 
-    /// The model in which two tasks have each other's priority.
+    /// Returns the model in which two tasks have exchanged their priorities.
     pub fn with_swap(self, one: u32, other: u32) -> ValidModel
         requires one { one < length self.tasks }
         requires other { other < length self.tasks }
@@ -82,7 +85,7 @@ impl ValidModel {
         }
     }
 
-    /// The model in which a task has this kind of access.
+    /// Returns the model in which a task has this kind of access.
     pub fn with_access(self, task: u32, access: AccessKind) -> ValidModel
         requires task { task < length self.tasks }
         requires valid { IsValid (with_access self task access) }

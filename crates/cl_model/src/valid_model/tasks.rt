@@ -1,4 +1,5 @@
-//! Tasks that are moved, added to a valid model or taken out of it: what is kept beside it is mended, not made again.
+//! Tasks that are moved, added to a valid model or removed from it. The tables beside it are
+//! updated, not made anew.
 ghost use Rattle.std.specs.Prelude.{◌≡◌, ◌+◌, ◌<◌, ◌^◌, length, take, sum_by, IfOk};
 ghost use Rattle.cl_model.specs.ByNumber.{task_at};
 ghost use Rattle.cl_model.specs.Changes.{with_place, with_new_task, without_task};
@@ -18,7 +19,8 @@ fn count_runnables(tasks: &[TaskDef]) -> usize
     tasks.iter().map(|task| task.runnables.len()).sum()
 }
 
-/// The number of the first runnable of a task, counted over all tasks, and that of the one behind its last.
+/// Returns the number of the first runnable of a task, counted over all tasks, and the number after
+/// that of its last one.
 fn runnables_of(model: &SystemModel, task: usize) -> (usize, usize)
     requires valid { IsValid model.now }
     requires task { task < length model.now.tasks }
@@ -31,7 +33,8 @@ fn runnables_of(model: &SystemModel, task: usize) -> (usize, usize)
 }
 
 impl ValidModel {
-    /// The model in which a task has this core and this priority. Where memory runs out, nothing is left of the model.
+    /// Returns the model in which a task has this core and this priority. Where memory runs out,
+    /// nothing is left of the model.
     pub fn with_place(self, task: u32, core: &Name, priority: u64) -> Result<ValidModel, NoMemory>
         requires task { task < length self.tasks }
         requires valid { IsValid (with_place self task core.now priority) }
@@ -47,7 +50,8 @@ impl ValidModel {
         Ok(ValidModel { model, look_ups })
     }
 
-    /// The model with one more task behind the others. Where memory runs out, nothing is left of the model.
+    /// Returns the model with one more task after the others. Where memory runs out, nothing is
+    /// left of the model.
     pub fn with_task(self, task: TaskDef) -> Result<ValidModel, NoMemory>
         requires { IsValid (with_new_task self task) }
         ensures { IfOk result (λ changed. changed ≡ with_new_task self task) }
@@ -65,7 +69,7 @@ impl ValidModel {
         Ok(ValidModel { model, look_ups })
     }
 
-    /// The model without a task, which no chain names. The others keep their order.
+    /// Returns the model without a task, which no chain names. The others keep their order.
     pub fn without_task(self, task: u32) -> ValidModel
         requires task { task < length self.tasks }
         requires valid { IsValid (without_task self task) }

@@ -3,7 +3,8 @@ use Rattle.std.specs.Prelude.{◌≡◌, ℤ, pos, List, [], ◌∷◌}
 use Rattle.cl_model.specs.declared.limits.TheConstants.{MOST_TICKS}
 use Rattle.cl_model.specs.declared.group.Group.{Group}
 use Rattle.cl_runs.specs.TaskTiming.{System}
-use Rattle.cl_bound.specs.Hops.{group_timing, delay, IsIntegerWithin}
+use Rattle.cl_stim.specs.Integers.{IsIntegerWithin}
+use Rattle.cl_bound.specs.Hops.{group_timing, lag}
 use Rattle.cl_bound.specs.declared.group_timing.GroupTiming.{GroupTiming}
 use Rattle.cl_phase.specs.declared.course.Course.{Course}
 use Rattle.cl_phase.specs.TightAnswers.{tight_response}
@@ -15,10 +16,10 @@ use Rattle.cl_phase.specs.Inner.Keeping.{AreKeptIn}
 abbrev pub tight_timing : System → Group → GroupTiming
 tight_timing system group = group_timing system (tight_response system) group
 
--- the delay from a group to the next one, 0 where there is none
-abbrev pub delay_from : System → GroupTiming → (later : List Group) → ℤ
-delay_from system timing [] = pos 0
-delay_from system timing (next ∷ later) = delay timing (tight_timing system next)
+-- the lag from a group to the next one, 0 where there is none
+abbrev pub lag_from : System → GroupTiming → (later : List Group) → ℤ
+lag_from system timing [] = pos 0
+lag_from system timing (next ∷ later) = lag timing (tight_timing system next)
 
 -- the next one, or the group itself where there is none
 abbrev pub next_from : System → GroupTiming → (later : List Group) → GroupTiming

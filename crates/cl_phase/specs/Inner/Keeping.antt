@@ -2,13 +2,13 @@
 use Rattle.std.specs.Prelude.{◌≡◌, ℕ, ◌-◌, ◌^◌, ◌≤◌, nat_le, min, Bool, true, false, List, [], ◌∷◌, map, All}
 use Rattle.cl_model.specs.declared.stimulus.StimulusKind.{StimulusKind}
 use Rattle.cl_model.specs.Timing.{greatest_distance}
-use Rattle.cl_phase.specs.declared.pace.Phase.{Phase}
+use Rattle.cl_stim.specs.declared.phase.Phase.{Phase}
+use Rattle.cl_stim.specs.Phase.{IsPhaseInRange, phase_of, arrivals_in}
 use Rattle.cl_phase.specs.declared.pace.Pace.{Pace}
 use Rattle.cl_phase.specs.declared.pace.Pace.TheVariants.{Kept, Free}
 use Rattle.cl_phase.specs.declared.stop.Stop.{Stop}
 use Rattle.cl_phase.specs.declared.keeping.Keeping.{Keeping}
-use Rattle.cl_phase.specs.Phase.{IsPhaseInRange, phase_of}
-use Rattle.cl_phase.specs.Kept.{hyperperiod_of, arrivals_in, come_round_soon, phase_beside, kept_with, pace_with, phases_in}
+use Rattle.cl_phase.specs.Kept.{hyperperiod_of, come_round_soon, phase_beside, kept_with, pace_with, phases_in}
 use Rattle.cl_phase.specs.TightBounds.{hyperperiod_in}
 use Rattle.cl_phase.specs.Inner.Ranges.{MOST_HYPERPERIOD, IsPaceInRange}
 

@@ -1,22 +1,15 @@
 -- How far the moments of walks lie from 0, so that 64 signed bits hold them. Times are in ticks.
-use Rattle.std.specs.Prelude.{ℕ, ◌*◌, ◌<◌, ◌≤◌, ℤ, List, length}
+use Rattle.std.specs.Prelude.{ℕ, ◌*◌, ◌<◌, ◌≤◌, List, length}
 use Rattle.cl_model.specs.declared.limits.TheConstants.{MOST_TICKS, MOST_STEPS}
-use Rattle.cl_bound.specs.Hops.{IsIntegerWithin}
+use Rattle.cl_stim.specs.Integers.{IsIntegerWithin}
+use Rattle.cl_stim.specs.Phase.{IsPhaseInRange}
 use Rattle.cl_phase.specs.declared.pace.TheConstants.{MOST_ARRIVALS}
 use Rattle.cl_phase.specs.declared.pace.Pace.{Pace}
 use Rattle.cl_phase.specs.declared.pace.Pace.TheVariants.{Kept, Free}
 use Rattle.cl_phase.specs.declared.stop.Stop.{Stop}
-use Rattle.cl_phase.specs.Phase.{IsPhaseInRange}
-use Rattle.cl_phase.specs.Walks.{pace_at, delay_at}
+use Rattle.cl_phase.specs.Walks.{pace_at, lag_at}
 
--- all moments of walks lie at most so far from 0
-abbrev pub FARTHEST : ℕ
-FARTHEST = 3000000000000000000
-
-abbrev pub IsMoment : ℤ → Type 0
-IsMoment moment = IsIntegerWithin FARTHEST moment
-
--- and those from which walks start
+-- the moments from which walks start lie at most so far from 0
 abbrev pub FARTHEST_START : ℕ
 FARTHEST_START = 2000000000000000000
 
@@ -38,4 +31,4 @@ pub record AreStopsInRange (stops : List Stop) : Type 0 where
   pub some : 0 < length stops
   pub few : length stops ≤ MOST_STEPS
   pub paces : (place : ℕ) → place < length stops → IsPaceInRange (pace_at stops place)
-  pub delays : (place : ℕ) → place < length stops → IsIntegerWithin MOST_TICKS (delay_at stops place)
+  pub lags : (place : ℕ) → place < length stops → IsIntegerWithin MOST_TICKS (lag_at stops place)

@@ -13,21 +13,25 @@ pub fn questions_are_in_range()
         → IsQuestionInRange (question_of (system_of model) (timing_at (system_of model) task)) }
 {}
 
-/// So is its tight question.
+/// The tight question of each task of a valid model is in range.
 pub fn tight_questions_are_in_range()
     ensures { (model : SystemModel) → IsValid model → (task : ℕ) → task < length model.tasks
         → IsQuestionInRange (tight_question_of (system_of model) (timing_at (system_of model) task)) }
 {}
 
-/// The question of a task and its tight one both ask enough of it for their responses to hold.
+/// The question of a task and its tight question both ask enough of the task for their responses to
+/// hold.
 pub fn questions_ask_enough()
-    ensures plain { (system : System) (task : ℕ) → AsksEnough system (timing_at system task) (question_of system (timing_at system task)) }
-    ensures tight { (system : System) (task : ℕ) → AsksEnough system (timing_at system task) (tight_question_of system (timing_at system task)) }
+    ensures plain { (system : System) (task : ℕ)
+        → AsksEnough system (timing_at system task) (question_of system (timing_at system task)) }
+    ensures tight { (system : System) (task : ℕ)
+        → AsksEnough system (timing_at system task) (tight_question_of system (timing_at system task)) }
 {}
 
 /// The tight question of a task asks no more than its question.
 pub fn tight_questions_ask_no_more()
-    ensures { (system : System) (task : Timing) → AsksNoMore (tight_question_of system task) (question_of system task) }
+    ensures { (system : System) (task : Timing)
+        → AsksNoMore (tight_question_of system task) (question_of system task) }
 {}
 
 /// Each task of a sound system takes 1 tick or more.

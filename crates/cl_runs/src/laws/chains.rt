@@ -1,4 +1,4 @@
-//! Complete chains: each is determined by its first or last job, and ends after it begins.
+//! Complete job chains: each is determined by its first or last job, and ends after it begins.
 ghost use Rattle.std.specs.Prelude.{◌≡◌, ◌<◌, List, Option};
 ghost use Rattle.cl_runs.specs.TaskTiming.{System, IsSound};
 ghost use Rattle.cl_runs.specs.Run.{Run};
@@ -11,64 +11,85 @@ ghost use Rattle.cl_runs.specs.RunChains.{run_moments, ideal_moments};
 ghost use Rattle.cl_runs.specs.MomentOrder.{AreGroupsOf};
 ghost use Rattle.cl_runs.specs.Measured.{Measured, IsMeasured, IsMeasuredBy};
 
-/// A run has at most one complete forward chain for a first job, and at most one complete backward chain for a last
-/// job.
+/// Over the same groups a run has at most one complete forward chain with a given first job, and at
+/// most one complete backward chain with a given last job, be it for the age or for the reduced
+/// age.
 pub fn complete_chains_are_unique()
     ensures forward { (system : System) (run : Run) (groups : List Group) (one other : JobChain)
-        → IsForwardChain (run_moments system run) groups one → IsForwardChain (run_moments system run) groups other
+        → IsForwardChain (run_moments system run) groups one
+        → IsForwardChain (run_moments system run) groups other
         → first_job one ≡ first_job other → one ≡ other }
     ensures age { (system : System) (run : Run) (groups : List Group) (one other : JobChain)
-        → IsAgeChain (run_moments system run) groups one → IsAgeChain (run_moments system run) groups other
+        → IsAgeChain (run_moments system run) groups one
+        → IsAgeChain (run_moments system run) groups other
         → last_job one ≡ last_job other → one ≡ other }
     ensures reduced { (system : System) (run : Run) (groups : List Group) (one other : JobChain)
-        → IsReducedChain (run_moments system run) groups one → IsReducedChain (run_moments system run) groups other
+        → IsReducedChain (run_moments system run) groups one
+        → IsReducedChain (run_moments system run) groups other
         → last_job one ≡ last_job other → one ≡ other }
 {}
 
-/// A complete chain of a legal run ends after it begins, so that its length is the difference of its ends.
+/// A complete chain of a legal run ends after it begins, so its length is the difference of its
+/// ends.
 pub fn complete_chains_end_later()
-    ensures forward { (system : System) → IsSound system → (run : Run) → IsLegal system run → (steps : List Step) (chain : JobChain)
+    ensures forward { (system : System) → IsSound system → (run : Run) → IsLegal system run
+        → (steps : List Step) (chain : JobChain)
         → IsForwardChain (run_moments system run) (groups steps) chain → chain.from < chain.to }
-    ensures age { (system : System) → IsSound system → (run : Run) → IsLegal system run → (steps : List Step) (chain : JobChain)
+    ensures age { (system : System) → IsSound system → (run : Run) → IsLegal system run
+        → (steps : List Step) (chain : JobChain)
         → IsAgeChain (run_moments system run) (groups steps) chain → chain.from < chain.to }
-    ensures reduced { (system : System) → IsSound system → (run : Run) → IsLegal system run → (steps : List Step) (chain : JobChain)
+    ensures reduced { (system : System) → IsSound system → (run : Run) → IsLegal system run
+        → (steps : List Step) (chain : JobChain)
         → IsReducedChain (run_moments system run) (groups steps) chain → chain.from < chain.to }
 {}
 
-/// So are chains over the ideal moments of periodic timed tasks.
+/// Over the ideal moments of periodic timed tasks the same groups have at most one complete forward
+/// chain with a given first job, and at most one complete backward chain with a given last job, be
+/// it for the age or for the reduced age.
 pub fn ideal_chains_are_unique()
     ensures forward { (system : System) (groups : List Group) (one other : JobChain)
-        → IsForwardChain (ideal_moments system) groups one → IsForwardChain (ideal_moments system) groups other
+        → IsForwardChain (ideal_moments system) groups one
+        → IsForwardChain (ideal_moments system) groups other
         → first_job one ≡ first_job other → one ≡ other }
     ensures age { (system : System) (groups : List Group) (one other : JobChain)
-        → IsAgeChain (ideal_moments system) groups one → IsAgeChain (ideal_moments system) groups other
+        → IsAgeChain (ideal_moments system) groups one
+        → IsAgeChain (ideal_moments system) groups other
         → last_job one ≡ last_job other → one ≡ other }
     ensures reduced { (system : System) (groups : List Group) (one other : JobChain)
-        → IsReducedChain (ideal_moments system) groups one → IsReducedChain (ideal_moments system) groups other
+        → IsReducedChain (ideal_moments system) groups one
+        → IsReducedChain (ideal_moments system) groups other
         → last_job one ≡ last_job other → one ≡ other }
 {}
 
-/// And they end after they begin.
+/// A complete chain over the ideal moments of periodic timed tasks ends after it begins.
 pub fn ideal_chains_end_later()
-    ensures forward { (system : System) → IsSound system → (groups : List Group) → AreGroupsOf system groups → (chain : JobChain)
+    ensures forward { (system : System) → IsSound system → (groups : List Group)
+        → AreGroupsOf system groups → (chain : JobChain)
         → IsForwardChain (ideal_moments system) groups chain → chain.from < chain.to }
-    ensures age { (system : System) → IsSound system → (groups : List Group) → AreGroupsOf system groups → (chain : JobChain)
+    ensures age { (system : System) → IsSound system → (groups : List Group)
+        → AreGroupsOf system groups → (chain : JobChain)
         → IsAgeChain (ideal_moments system) groups chain → chain.from < chain.to }
-    ensures reduced { (system : System) → IsSound system → (groups : List Group) → AreGroupsOf system groups → (chain : JobChain)
+    ensures reduced { (system : System) → IsSound system → (groups : List Group)
+        → AreGroupsOf system groups → (chain : JobChain)
         → IsReducedChain (ideal_moments system) groups chain → chain.from < chain.to }
 {}
 
-/// What is measured in a run is unique.
+/// The measured chains of a run over given groups and the numbers of its complete chains are
+/// unique.
 pub fn what_is_measured_is_unique()
     ensures { (system : System) (run : Run) (groups : List Group) (one other : Measured)
-        → IsMeasured (run_moments system run) groups one → IsMeasured (run_moments system run) groups other → one ≡ other }
+        → IsMeasured (run_moments system run) groups one
+        → IsMeasured (run_moments system run) groups other → one ≡ other }
 {}
 
-/// Over the ideal moments, which no run ends, the longest chain of each kind is unique. How many there are isn't asked.
+/// Over the ideal moments, which no run ends, the longest complete chain of each kind is unique:
+/// among equals it is the one with the least first job for a forward chain, and with the least last
+/// job for a backward chain.
 pub fn longest_ideal_chains_are_unique()
     ensures forward { (system : System) (groups : List Group) (one other : Option JobChain)
         → IsMeasuredBy (IsForwardChain (ideal_moments system) groups) first_job one
-        → IsMeasuredBy (IsForwardChain (ideal_moments system) groups) first_job other → one ≡ other }
+        → IsMeasuredBy (IsForwardChain (ideal_moments system) groups) first_job other
+        → one ≡ other }
     ensures age { (system : System) (groups : List Group) (one other : Option JobChain)
         → IsMeasuredBy (IsAgeChain (ideal_moments system) groups) last_job one
         → IsMeasuredBy (IsAgeChain (ideal_moments system) groups) last_job other → one ≡ other }

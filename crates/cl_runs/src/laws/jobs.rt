@@ -6,35 +6,50 @@ ghost use Rattle.cl_runs.specs.Table.{job_at};
 ghost use Rattle.cl_runs.specs.Run.{Run, jobs_of};
 ghost use Rattle.cl_runs.specs.Legal.{IsLegal};
 
-/// Each later job of a task arrives at least the least distance later, and so at or after the deadline of the earlier.
+/// A later job of a task arrives at least the least distance after an earlier one, and so at or
+/// after the deadline of that one.
 pub fn jobs_arrive_apart()
-    ensures distance { (system : System) → IsSound system → (run : Run) → IsLegal system run → (i : ℕ) → i < length system.tasks
+    ensures distance { (system : System) → IsSound system → (run : Run) → IsLegal system run
+        → (i : ℕ) → i < length system.tasks
         → (k l : ℕ) → k < l → l < length (jobs_of run i)
-        → (job_at (jobs_of run i) k).arrival + least_distance (timing_at system i).pattern ≤ (job_at (jobs_of run i) l).arrival }
-    ensures deadline { (system : System) → IsSound system → (run : Run) → IsLegal system run → (i : ℕ) → i < length system.tasks
+        → (job_at (jobs_of run i) k).arrival + least_distance (timing_at system i).pattern
+        ≤ (job_at (jobs_of run i) l).arrival }
+    ensures deadline { (system : System) → IsSound system → (run : Run) → IsLegal system run
+        → (i : ℕ) → i < length system.tasks
         → (k l : ℕ) → k < l → l < length (jobs_of run i)
-        → (job_at (jobs_of run i) k).arrival + (timing_at system i).deadline ≤ (job_at (jobs_of run i) l).arrival }
+        → (job_at (jobs_of run i) k).arrival + (timing_at system i).deadline
+        ≤ (job_at (jobs_of run i) l).arrival }
 {}
 
-/// The next job of a task arrives within the greatest distance, and is in the table where that distance ends in the
-/// run.
+/// The next job of a task arrives at most the greatest distance after a job, and it is in the table
+/// where that distance ends within the run.
 pub fn next_jobs_arrive()
-    ensures within { (system : System) → IsSound system → (run : Run) → IsLegal system run → (i : ℕ) → i < length system.tasks
+    ensures within { (system : System) → IsSound system → (run : Run) → IsLegal system run → (i : ℕ)
+        → i < length system.tasks
         → (k : ℕ) → suc k < length (jobs_of run i)
-        → (job_at (jobs_of run i) (suc k)).arrival ≤ (job_at (jobs_of run i) k).arrival + greatest_distance (timing_at system i).pattern }
-    ensures due { (system : System) → IsSound system → (run : Run) → IsLegal system run → (i : ℕ) → i < length system.tasks
+        → (job_at (jobs_of run i) (suc k)).arrival
+        ≤ (job_at (jobs_of run i) k).arrival + greatest_distance (timing_at system i).pattern }
+    ensures due { (system : System) → IsSound system → (run : Run) → IsLegal system run → (i : ℕ)
+        → i < length system.tasks
         → (k : ℕ) → k < length (jobs_of run i)
-        → (job_at (jobs_of run i) k).arrival + greatest_distance (timing_at system i).pattern < run.table.ticks
+        → (job_at (jobs_of run i) k).arrival + greatest_distance (timing_at system i).pattern
+        < run.table.ticks
         → suc k < length (jobs_of run i) }
 {}
 
 /// The jobs of a task are released in order, each at its arrival or at most the jitter later.
 pub fn jobs_are_released_in_order()
-    ensures order { (system : System) → IsSound system → (run : Run) → IsLegal system run → (i : ℕ) → i < length system.tasks
-        → (k l : ℕ) → k ≤ l → l < length (jobs_of run i) → (job_at (jobs_of run i) k).release ≤ (job_at (jobs_of run i) l).release }
-    ensures not_early { (system : System) → IsSound system → (run : Run) → IsLegal system run → (i : ℕ) → i < length system.tasks
-        → (k : ℕ) → k < length (jobs_of run i) → (job_at (jobs_of run i) k).arrival ≤ (job_at (jobs_of run i) k).release }
-    ensures not_late { (system : System) → IsSound system → (run : Run) → IsLegal system run → (i : ℕ) → i < length system.tasks
+    ensures order { (system : System) → IsSound system → (run : Run) → IsLegal system run → (i : ℕ)
+        → i < length system.tasks
+        → (k l : ℕ) → k ≤ l → l < length (jobs_of run i)
+        → (job_at (jobs_of run i) k).release ≤ (job_at (jobs_of run i) l).release }
+    ensures not_early { (system : System) → IsSound system → (run : Run) → IsLegal system run
+        → (i : ℕ) → i < length system.tasks
         → (k : ℕ) → k < length (jobs_of run i)
-        → (job_at (jobs_of run i) k).release ≤ (job_at (jobs_of run i) k).arrival + greatest_jitter (timing_at system i).pattern }
+        → (job_at (jobs_of run i) k).arrival ≤ (job_at (jobs_of run i) k).release }
+    ensures not_late { (system : System) → IsSound system → (run : Run) → IsLegal system run
+        → (i : ℕ) → i < length system.tasks
+        → (k : ℕ) → k < length (jobs_of run i)
+        → (job_at (jobs_of run i) k).release
+        ≤ (job_at (jobs_of run i) k).arrival + greatest_jitter (timing_at system i).pattern }
 {}

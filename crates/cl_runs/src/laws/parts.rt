@@ -7,8 +7,9 @@ ghost use Rattle.cl_model.specs.Groups.{group_at};
 ghost use Rattle.cl_runs.specs.Chains.{JobChain, IsForwardChain};
 ghost use Rattle.cl_runs.specs.RunChains.{run_moments};
 
-/// Consecutive groups of a complete forward chain, with the jobs at their places, are one themselves: from a read of the job
-/// before the first of these jobs to a write of the last of them.
+/// Consecutive groups of a complete forward chain, with their jobs, form a complete forward chain
+/// of their own: from a read of the job before the first of these jobs to a write of the last of
+/// them.
 pub fn parts_of_chains_are_complete()
     ensures { (system : System) (run : Run) (groups : List Group) (chain : JobChain)
         → IsForwardChain (run_moments system run) groups chain

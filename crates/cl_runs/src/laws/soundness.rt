@@ -6,7 +6,8 @@ ghost use Rattle.cl_model.specs.Validity.{IsValid};
 ghost use Rattle.cl_runs.specs.TaskTiming.{timing_at, IsSound};
 ghost use Rattle.cl_runs.specs.SystemOf.{timing_of, system_of};
 
-/// The system of a model has the timing of each task at the task's place, and the model's number of cores.
+/// The system of a model has as many cores and tasks as the model, and the timing of each task at
+/// the task's number.
 pub fn systems_have_the_tasks_of_their_models()
     ensures cores { (model : SystemModel) → (system_of model).cores ≡ length model.cores }
     ensures tasks { (model : SystemModel) → length (system_of model).tasks ≡ length model.tasks }
@@ -14,7 +15,7 @@ pub fn systems_have_the_tasks_of_their_models()
         → timing_at (system_of model) i ≡ timing_of model (task_at model i) }
 {}
 
-/// The timings of a valid model are sound.
+/// The system of a valid model is sound.
 pub fn valid_models_are_sound()
     ensures { (model : SystemModel) → IsValid model → IsSound (system_of model) }
 {}

@@ -7,14 +7,15 @@ use Rattle.cl_model.specs.Reading.{document_of, model_of}
 use Rattle.cl_model.specs.Validity.{refusal_of}
 use Rattle.cl_advice.specs.Advice.{advice_text, unread_text}
 use Rattle.cl_explain.specs.Accepted.{accepted_text}
+use Rattle.cl_explain.proofs.SafelyExplained.{safe_acceptance}
 use Rattle.cl_engine.specs.declared.files.Files.TheVariants as files
 use Rattle.cl_engine.specs.declared.outcome.Outcome.{Outcome}
 use Rattle.cl_engine.specs.declared.status.TheConstants.{DONE, MODEL_REFUSED}
-use Rattle.cl_engine.specs.Content.{of_bytes}
+use Rattle.cl_engine.specs.Content.{MeansModel, of_bytes}
 use Rattle.cl_engine.specs.Language.{MayEnd}
 use Rattle.cl_engine.specs.Outcome.{refusal_line}
-use Rattle.cl_top.specs.Commands.Check.{IsAdvised, ValidityChecks, ReadingChecks, IsChecked, ChecksTheSame, read_steps, checking}
-use Rattle.cl_top.specs.Meaning.{no_promise}
+use Rattle.cl_engine.proofs.Openings.{valid_read}
+use Rattle.cl_top.specs.Commands.Check.{IsAdvised, ValidityChecks, ReadingChecks, IsChecked, ChecksTheSame, read_steps, IsSafeAdvice, checking}
 use Rattle.cl_top.proofs.Meanings.{IsMeantWell, same_parts, done_some, done_once, bytes_well}
 
 -- ---- there is an outcome
@@ -68,7 +69,23 @@ reading_status document (Err refusal) found is = inr is.status_is
 check_content : (bytes : List ℕ) (found : Outcome) → IsChecked bytes found → MayEnd files.Content found.status
 check_content bytes found is = elim (reading_status (document_of bytes) (model_of bytes) found is) [ inl done ↦ inl (inl done) | inr refused ↦ inr refused ]
 
+-- ---- what it promises
+
+module _ (bytes : List ℕ) (found : Outcome) (done : found.status ≡ DONE) where
+  validity_safe : (document : Option Members) (model : SystemModel) (refusal : Option Refusal) → model_of bytes ≡ Ok model → refusal_of model ≡ refusal
+      → ValidityChecks document model refusal found → IsSafeAdvice bytes found.text
+  validity_safe document model None means none is =
+      let accepted : MeansModel bytes model = record { means = means; unrefused = none } in
+      let valid = valid_read bytes model accepted in
+      record { model = model; means = accepted; valid = valid; accepted = safe_acceptance model valid found.text is.text_is }
+  validity_safe document model (Some refusal) means some is = absurd (omega (arith, done, is.status_is))
+
+  reading_safe : (document : Option Members) (read : Result SystemModel Refusal) → model_of bytes ≡ read → ReadingChecks document read found → IsSafeAdvice bytes found.text
+  reading_safe document (Ok model) means is = validity_safe document model (refusal_of model) means refl is
+  reading_safe document (Err refusal) means is = absurd (omega (arith, done, is.status_is))
+
 pub checking_well : IsMeantWell files.Content checking (Unit {0})
-checking_well = bytes_well (of_bytes (λ bytes before after. after ≤ before + read_steps (model_of bytes)) (λ before after. ⊥)) no_promise ChecksTheSame (Unit {0}) (λ one other is. inl is) IsChecked
-    (λ bytes. reading_some (document_of bytes) (model_of bytes)) (λ bytes one other h k. reading_same one other (document_of bytes) (model_of bytes) h k) check_content
-    (λ bytes steps. omega arith) (λ bytes found is done. tt)
+checking_well = bytes_well (of_bytes (λ bytes before after. after ≤ before + read_steps (model_of bytes)) (λ before after. ⊥)) (of_bytes IsSafeAdvice (λ text. ⊥)) ChecksTheSame (Unit {0})
+    (λ one other is. inl is) IsChecked (λ bytes. reading_some (document_of bytes) (model_of bytes))
+    (λ bytes one other h k. reading_same one other (document_of bytes) (model_of bytes) h k) check_content
+    (λ bytes steps. omega arith) (λ bytes found is done. reading_safe bytes found done (document_of bytes) (model_of bytes) refl is)

@@ -1,5 +1,5 @@
 -- `edit`: the reports of a model as it is edited.
-use Rattle.std.proofs.Common.{◌≡◌, ℕ, ◌+◌, ◌<◌, inl, inr, List, [], get_or, ap, subst, arith}
+use Rattle.std.proofs.Common.{◌≡◌, ℕ, ◌+◌, ◌<◌, inl, inr, List, [], get_or, refl, sym, ◌∙◌, ap, subst, arith}
 use Rattle.std.specs.Prelude.{All}
 use Rattle.std.specs.List.{concat}
 use Rattle.cl_model.specs.declared.model.SystemModel.{SystemModel}
@@ -12,15 +12,15 @@ use Rattle.cl_edit.specs.Ranges.{IsEditInRange}
 use Rattle.cl_engine.specs.declared.files.Files.TheVariants as files
 use Rattle.cl_engine.specs.declared.files.TheConstants.{FILE_LIMIT}
 use Rattle.cl_engine.specs.declared.outcome.Outcome.{Outcome}
-use Rattle.cl_engine.specs.declared.status.TheConstants.{DONE}
+use Rattle.cl_engine.specs.declared.status.TheConstants.{DONE, EDITS_REFUSED}
 use Rattle.cl_engine.specs.Content.{of_both}
 use Rattle.cl_engine.specs.Language.{IsOfContent}
-use Rattle.cl_top.specs.Commands.Edit.{edits_refused, behind, IsWrittenBy, AreAccepted, IsOfEdits, IsSafePiece, AreSafeReports, editing}
+use Rattle.cl_top.specs.Commands.Edit.{edits_refused, refused_with, behind, IsWrittenBy, AreAccepted, IsOfEdits, IsSafePiece, AreSafeReports, StopsSafely, editing}
 use Rattle.cl_top.specs.Meaning.{promises_of_both, equal}
 use Rattle.cl_top.specs.Steps.{AreFewOfEdits}
 use Rattle.cl_top.proofs.EditSteps.{few_of_none}
 use Rattle.cl_top.proofs.EditsOnce.{listed_in_range, some_edits, one_edited}
-use Rattle.cl_top.proofs.Meanings.{IsMeantWell, both_well}
+use Rattle.cl_top.proofs.Meanings.{IsMeantWell, same_parts, both_well}
 use Rattle.cl_top.proofs.ReportLines.{valid_after}
 use Rattle.cl_top.proofs.SafeReport.{safe_report_of}
 
@@ -38,6 +38,10 @@ safe_pieces model made edits count pieces valid all are place below is_report =
 
 status_of : (found other : Outcome) → found ≡ other → found.status ≡ other.status
 status_of found other is = ap (λ (o : Outcome). o.status) is
+
+-- an outcome is its text with its status
+stopped : (found : Outcome) → found.status ≡ EDITS_REFUSED → refused_with found.text ≡ found
+stopped found seven = same_parts (refused_with found.text) found (sym seven) refl
 
 pub seven_content : (found : Outcome) → found.status ≡ 7 → IsOfContent found.status
 seven_content found seven = inr (inl (omega (arith, seven), omega (arith, seven)))
@@ -72,6 +76,24 @@ safe_reports model valid text found (inl listed) done = elim listed.edited_to.en
 ]
 safe_reports model valid text found (inr bad) done =
     absurd (omega (arith, done, status_of found (edits_refused bad.number (record { code = E1; place = top })) bad.printed))
+
+-- where the status says so, the reports before the refused line are safe
+pub stops_safely : (model : SystemModel) → IsValid model → (text : List ℕ) (found : Outcome) → IsOfEdits model text found → found.status ≡ EDITS_REFUSED → StopsSafely model text found.text
+stops_safely model valid text found (inl listed) seven = elim listed.edited_to.ends [
+  | inl all ↦ absurd (omega (arith, seven, status_of found (record { status = DONE; text = concat listed.edited_to.pieces }) all.printed))
+  | inr refused ↦ inl (record {
+    edits = listed.edits;
+    are = listed.are;
+    count = listed.edited_to.count;
+    pieces = listed.edited_to.pieces;
+    made = listed.edited_to.made;
+    accepted = listed.edited_to.are;
+    stops = record { one_more = refused.one_more; refusal = refused.refusal; refused = refused.refused; printed = stopped found seven ∙ refused.printed };
+    safe = safe_pieces model listed.edited_to.made listed.edits listed.edited_to.count listed.edited_to.pieces valid
+        (listed_in_range text listed.edits listed.are) listed.edited_to.are;
+  })
+]
+stops_safely model valid text found (inr bad) seven = inr (record { number = bad.number; bad = bad.bad; printed = stopped found seven ∙ bad.printed })
 
 pub editing_well : IsMeantWell (files.ModelAnd FILE_LIMIT) editing (Unit {0})
 editing_well = both_well (of_both AreFewOfEdits (λ before after. ⊥)) (promises_of_both AreSafeReports) equal (Unit {0}) (λ one other is. is) FILE_LIMIT IsOfEdits

@@ -4,10 +4,13 @@ use Rattle.cl_model.specs.declared.model.SystemModel.{SystemModel}
 use Rattle.cl_model.specs.Validity.{IsValid}
 use Rattle.cl_cut.proofs.OneCutAnswer.{all_safe, all_no_worse}
 use Rattle.cl_designs.specs.Cuts.{IsCutTextOf}
-use Rattle.cl_designs.specs.Orders.{IsOrderTextOf}
-use Rattle.cl_designs.specs.Headroom.{IsHeadroomTextOf}
+use Rattle.cl_designs.specs.Orders.{IsOrderTextOf, IsSafeOrderText}
+use Rattle.cl_designs.specs.Headroom.{IsHeadroomTextOf, IsSafeHeadroomText}
 use Rattle.cl_designs.proofs.OneText.{some_cut_text, some_order_text, some_headroom_text, one_cut_text, one_order_text, one_headroom_text}
+use Rattle.cl_designs.proofs.SafeTexts.{safe_order_text, safe_headroom_text}
 use Rattle.cl_explain.specs.Explanation.{explanation}
+use Rattle.cl_explain.specs.Promises.{IsSafeExplanation}
+use Rattle.cl_explain.proofs.SafelyExplained.{safe_explanation}
 use Rattle.cl_report.specs.Report.{IsReportOf}
 use Rattle.cl_report.specs.Tight.{tight_text, verify_text}
 use Rattle.cl_report.proofs.OneReport.{one_report}
@@ -65,11 +68,11 @@ cutting_well = printing_well IsCutTextOf any_steps (promises AreSafeCuts) some_c
 
 pub ordering_well : IsMeantWell files.Model (meaning_of command.Order) (Unit {0})
 unfolding meaning_of
-ordering_well = printing_well IsOrderTextOf any_steps no_promise some_order_text one_order_text (λ model steps. tt) (λ model valid text is. tt)
+ordering_well = printing_well IsOrderTextOf any_steps (promises IsSafeOrderText) some_order_text one_order_text (λ model steps. tt) safe_order_text
 
 pub headroom_well : IsMeantWell files.Model (meaning_of command.Headroom) (Unit {0})
 unfolding meaning_of
-headroom_well = printing_well IsHeadroomTextOf any_steps no_promise some_headroom_text one_headroom_text (λ model steps. tt) (λ model valid text is. tt)
+headroom_well = printing_well IsHeadroomTextOf any_steps (promises IsSafeHeadroomText) some_headroom_text one_headroom_text (λ model steps. tt) safe_headroom_text
 
 pub tightening_well : IsMeantWell files.Model (meaning_of command.Tighten) (Unit {0})
 unfolding meaning_of
@@ -78,7 +81,7 @@ tightening_well = writing_well tight_text (at_most task_steps) (promises IsSafeT
 
 pub explaining_well : IsMeantWell files.Model (meaning_of command.Explain) (Unit {0})
 unfolding meaning_of
-explaining_well = writing_well explanation (at_most entry_steps) no_promise (λ model steps. omega arith) (λ model valid text is. tt)
+explaining_well = writing_well explanation (at_most entry_steps) (promises IsSafeExplanation) (λ model steps. omega arith) safe_explanation
 
 pub verifying_well : IsMeantWell files.Model (meaning_of command.Verify) (Unit {0})
 unfolding meaning_of

@@ -4,15 +4,16 @@ use Rattle.toml.specs.Data.{Members}
 use Rattle.cl_model.specs.declared.model.SystemModel.{SystemModel}
 use Rattle.cl_model.specs.declared.refusal.Refusal.{Refusal}
 use Rattle.cl_model.specs.Reading.{document_of, model_of}
-use Rattle.cl_model.specs.Validity.{refusal_of}
+use Rattle.cl_model.specs.Validity.{refusal_of, IsValid}
 use Rattle.cl_advice.specs.Advice.{AddsUnread, AddsAdvice}
 use Rattle.cl_explain.specs.Accepted.{accepted_text}
+use Rattle.cl_explain.specs.Promises.{IsSafeAcceptance}
 use Rattle.cl_engine.specs.declared.outcome.Outcome.{Outcome}
 use Rattle.cl_engine.specs.declared.status.TheConstants.{MODEL_REFUSED}
-use Rattle.cl_engine.specs.Content.{of_bytes}
+use Rattle.cl_engine.specs.Content.{MeansModel, of_bytes}
 use Rattle.cl_engine.specs.Done.{HasStatusAndText, IsDone}
 use Rattle.cl_engine.specs.Outcome.{refusal_line}
-use Rattle.cl_top.specs.Meaning.{Meaning, on_bytes, no_promise}
+use Rattle.cl_top.specs.Meaning.{Meaning, on_bytes}
 
 -- the line of a refusal, and behind it what to mend in the document; of the model that it means, where it has one
 abbrev pub IsAdvised : Option Members → Option SystemModel → Refusal → Outcome → Type 0
@@ -44,11 +45,21 @@ abbrev pub read_steps : Result SystemModel Refusal → ℕ
 read_steps (Ok model) = length model.tasks
 read_steps (Err refusal) = 0
 
+-- ---- what is promised
+
+-- The bytes mean a valid model, of which the text says what to know: a task that it calls late has no response within its
+-- deadline by its tight question, and each other always finishes within its deadline.
+pub record IsSafeAdvice (bytes text : List ℕ) : Type 0 where
+  pub model : SystemModel
+  pub means : MeansModel bytes model
+  pub valid : IsValid model
+  pub accepted : IsSafeAcceptance model text
+
 -- what `check` means
 abbrev pub checking : Meaning
 checking = record {
   comes_to = on_bytes IsChecked;
   takes = of_bytes (λ bytes before after. after ≤ before + read_steps (model_of bytes)) (λ before after. ⊥);
-  safe = no_promise;
+  safe = of_bytes IsSafeAdvice (λ text. ⊥);
   same = ChecksTheSame;
 }

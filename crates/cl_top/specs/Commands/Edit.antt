@@ -19,12 +19,13 @@ use Rattle.cl_top.specs.Headline.{IsSafeReportOf}
 use Rattle.cl_top.specs.Meaning.{Meaning, on_both, promises_of_both, equal}
 use Rattle.cl_top.specs.Steps.{AreFewOfEdits}
 
+-- an outcome with the status of refused edits
+abbrev pub refused_with : (text : List ℕ) → Outcome
+refused_with text = record { status = EDITS_REFUSED; text = text }
+
 -- the line of this number is refused
 abbrev pub edits_refused : (number : ℕ) → Refusal → Outcome
-edits_refused number refusal = record {
-  status = EDITS_REFUSED;
-  text = line (codes "edits refused line " ++ decimal number ++ codes " " ++ refusal_text refusal);
-}
+edits_refused number refusal = refused_with (line (codes "edits refused line " ++ decimal number ++ codes " " ++ refusal_text refusal))
 
 -- an outcome, with a text before its own
 abbrev pub behind : List ℕ → Outcome → Outcome
@@ -92,6 +93,11 @@ pub record IsSafePiece (model : SystemModel) (edits : List Edit) (place : ℕ) (
   pub written : HasWrittenPiece model edits place piece
   pub report : IsSafeReportOf written.found piece
 
+-- the piece of each report line among the first so many edits is a safe report
+abbrev pub AreSafePieces : SystemModel → (edits : List Edit) (count : ℕ) (pieces : List (List ℕ)) → Type 0
+AreSafePieces model edits count pieces = (place : ℕ) → place < count → slice_index_or edits place Report ≡ Report
+    → IsSafePiece model edits place (slice_index_or pieces place [])
+
 -- The text is the pieces of the edits that are accepted, joined, and the piece of each report line is a safe report.
 pub record AreSafeReports (model : SystemModel) (listed text : List ℕ) : Type 0 where
   pub edits : List Edit
@@ -101,7 +107,23 @@ pub record AreSafeReports (model : SystemModel) (listed text : List ℕ) : Type 
   pub made : SystemModel
   pub accepted : AreAccepted model edits count pieces made
   pub printed : text ≡ concat pieces
-  pub safe : (place : ℕ) → place < count → slice_index_or edits place Report ≡ Report → IsSafePiece model edits place (slice_index_or pieces place [])
+  pub safe : AreSafePieces model edits count pieces
+
+-- The edit behind those that are accepted is refused: the text is their pieces, joined, with its line behind them, and the
+-- piece of each report line is a safe report.
+pub record StopsAtRefused (model : SystemModel) (listed text : List ℕ) : Type 0 where
+  pub edits : List Edit
+  pub are : AreEditsOf listed edits
+  pub count : ℕ
+  pub pieces : List (List ℕ)
+  pub made : SystemModel
+  pub accepted : AreAccepted model edits count pieces made
+  pub stops : EndsRefused made edits count (concat pieces) (refused_with text)
+  pub safe : AreSafePieces model edits count pieces
+
+-- what is written with status 7: safe reports and the line of a refused edit, or alone the line that is no edit
+abbrev pub StopsSafely : SystemModel → (listed text : List ℕ) → Type 0
+StopsSafely model listed text = StopsAtRefused model listed text ⊎ HasBadEditLine listed (refused_with text)
 
 -- what `edit` means
 abbrev pub editing : Meaning

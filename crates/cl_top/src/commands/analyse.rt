@@ -11,8 +11,8 @@ use cl_time::{NoMemory, Steps};
 use std::alloc::Global;
 use std::sync::ledger::Ledger;
 
-/// The outcome of `analyse` of a valid model: its report. It counts at most one step for each task and two for each
-/// chain.
+/// Finds the outcome of `analyse` for a valid model: its report. Counts at most one step for each
+/// task and two for each chain.
 #[tactic(auto, unfolding(crate::specs::Commands::meaning_of))]
 pub(super) fn analysed<L: Ledger>(
     alloc: Global,

@@ -16,8 +16,9 @@ use cl_text::Text;
 use cl_time::NoMemory;
 use std::alloc::Global;
 
-/// The outcome of `apply` of a valid model and of the text of a list of edits: a text of version 2 that is read as the
-/// model after all edits; or the first bad line of the text; or the first edit that is refused.
+/// Finds the outcome of `apply` for a valid model and the text of a list of edits: a text of
+/// version 2 that is read as the model after all edits; or the first bad line of the text; or the
+/// first edit that is refused.
 #[tactic(auto, unfolding(crate::specs::Commands::meaning_of))]
 pub(super) fn applied(alloc: Global, model: ValidModel, text: &[u8]) -> Result<Outcome, NoMemory>
     ensures { IfOk result (IsOutcomeOf Command.Apply (ModelAnd model text.now)) }
@@ -29,15 +30,16 @@ pub(super) fn applied(alloc: Global, model: ValidModel, text: &[u8]) -> Result<O
     }
 }
 
-/// What comes next of a model.
+/// What the next line of a list of edits makes of a model.
 #[derive(Drop)]
 enum Next {
-    /// The model after the next edit.
+    /// The model after the edit of that line.
     Changed(ValidModel),
-    /// No edit is left, and this is the model.
+    /// No line is left, and this is the model.
     Last(ValidModel),
 }
 
+/// Makes the edit of the next line, if one is left.
 fn apply_next(
     alloc: Global,
     model: ValidModel,
@@ -45,7 +47,8 @@ fn apply_next(
 ) -> Result<Next, ModelFault>
     requires { ListsSome lines.old }
     ensures made { IfOk result (MakesNext model lines.old lines.new) }
-    ensures refused { (refusal : ModelRefusal) → result ≡ Err (ModelFault.Refused refusal) → RefusesNext model lines.old lines.new refusal }
+    ensures refused { (refusal : ModelRefusal) → result ≡ Err (ModelFault.Refused refusal)
+        → RefusesNext model lines.old lines.new refusal }
 {
     match lines.next(alloc)? {
         Some(edit) => Ok(Next::Changed(edit_valid(alloc, model, &edit)?)),
@@ -53,14 +56,15 @@ fn apply_next(
     }
 }
 
-/// The refusal of the line of a number, with nothing before it.
+/// Makes the outcome whose whole text is the refusal of line `number`.
 fn refused_alone(alloc: Global, number: u64, refusal: Refusal) -> Result<Outcome, NoMemory>
     ensures { IfOk result (λ outcome. outcome ≡ edits_refused number refusal) }
 {
     refused(alloc, Text::new(alloc), number, refusal)
 }
 
-/// What the edits of these lines come to, of which the first is line 2 of its text.
+/// Makes the edits one after the other and writes the model after the last one, or only the first
+/// refusal. The first edit is line 2 of the file.
 fn apply_lines(alloc: Global, model: ValidModel, lines: EditLines<'_>) -> Result<Outcome, NoMemory>
     requires { ListsSome lines }
     ensures { IfOk result (LinesApplyTo 2 model lines.entry) }

@@ -21,8 +21,9 @@ use cl_valid::{ValidFault, validate};
 use std::alloc::Global;
 use std::sync::ledger::Ledger;
 
-/// The outcome of `check` of a model file of these bytes: what to mend where it is refused, and else what to know of the
-/// model. It counts at most one step for each task.
+/// Finds the outcome of `check` for a model file of these bytes: what to mend where it is refused,
+/// and else what to know of its model. Counts at most one step for each task of the model that is
+/// read, and none where none is read.
 #[tactic(auto, unfolding(crate::specs::Commands::meaning_of))]
 pub(super) fn checked<L: Ledger>(
     alloc: Global,
@@ -39,7 +40,7 @@ pub(super) fn checked<L: Ledger>(
     }
 }
 
-/// The outcome of a model that was read.
+/// Finds the outcome for a model that was read from these bytes.
 fn checked_model<L: Ledger>(
     alloc: Global,
     bytes: &[u8],
@@ -47,7 +48,8 @@ fn checked_model<L: Ledger>(
     steps: &mut Steps<L>,
 ) -> Result<Outcome, NoMemory>
     requires { IsInRange model }
-    ensures outcome { IfOk result (ValidityChecks (document_of bytes.now) model (refusal_of model)) }
+    ensures outcome { IfOk result
+        (ValidityChecks (document_of bytes.now) model (refusal_of model)) }
     ensures steps { steps.new ≤ steps.old + length model.tasks }
 {
     match validate(alloc, model) {
@@ -56,7 +58,7 @@ fn checked_model<L: Ledger>(
     }
 }
 
-/// What to mend in a model that validity refuses.
+/// Finds the outcome for a model that was read and isn't valid: what to mend.
 fn refused_model(
     alloc: Global,
     bytes: &[u8],
@@ -64,7 +66,8 @@ fn refused_model(
     fault: ValidFault,
 ) -> Result<Outcome, NoMemory>
     requires { IsFaultOf (refusals_of model.now) fault }
-    ensures { IfOk result (ValidityChecks (document_of bytes.now) model.now (refusal_of model.now)) }
+    ensures { IfOk result
+        (ValidityChecks (document_of bytes.now) model.now (refusal_of model.now)) }
 {
     match fault {
         ValidFault::Refused(refusal) => advised(alloc, bytes, Some(model), refusal),
@@ -72,7 +75,7 @@ fn refused_model(
     }
 }
 
-/// What to know of a valid model.
+/// Finds the outcome for a valid model: what to know of it. Counts at most one step for each task.
 fn accepted_model<L: Ledger>(
     alloc: Global,
     model: &ValidModel,
@@ -85,7 +88,7 @@ fn accepted_model<L: Ledger>(
     Ok(Outcome::done(text))
 }
 
-/// The line of a refusal, and behind it what to mend.
+/// Makes the outcome of a refusal: its line, and behind it what to mend.
 fn advised(
     alloc: Global,
     bytes: &[u8],

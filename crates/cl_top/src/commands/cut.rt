@@ -10,7 +10,7 @@ use cl_time::{NoMemory, Steps};
 use std::alloc::Global;
 use std::sync::ledger::Ledger;
 
-/// The outcome of `cut` of a valid model: the best cuts of its chains.
+/// Finds the outcome of `cut` for a valid model: the best cuts of its chains.
 #[tactic(auto, unfolding(crate::specs::Commands::meaning_of))]
 pub(super) fn cut<L: Ledger>(
     alloc: Global,

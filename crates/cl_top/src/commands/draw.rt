@@ -17,9 +17,9 @@ use cl_text::Text;
 use cl_time::NoMemory;
 use std::alloc::Global;
 
-/// The outcome of `draw` of a valid model and of the text of a trace, from one tick to another: the picture of its run,
-/// or the first bad line of the text, or the first rule that its run breaks, or the refusal of a window that doesn't lie
-/// within the run.
+/// Finds the outcome of `draw` for a valid model and the text of a trace, from one tick to another:
+/// the picture of its run; or the first bad line of the text; or the first rule that its run
+/// breaks; or the refusal of a window that doesn't lie within the run.
 #[tactic(auto, unfolding(crate::specs::Commands::meaning_of, crate::specs::Command::AsksForFew), using(crate::proofs::OfTrace::legal_answer, crate::proofs::OfTrace::stop_follows, crate::proofs::OfTrace::is_legal))]
 pub(super) fn drawn(
     alloc: Global,
@@ -37,7 +37,7 @@ pub(super) fn drawn(
     }
 }
 
-/// The picture of a legal run, or the refusal of the window.
+/// Draws a legal run, or refuses a window that doesn't lie within it.
 fn draw_legal(
     alloc: Global,
     model: &ValidModel,
@@ -57,7 +57,7 @@ fn draw_legal(
     }
 }
 
-/// A window that doesn't lie within a run of so many ticks.
+/// Makes the outcome of a window that doesn't lie within a run of `ticks` ticks.
 fn refused(alloc: Global, from: u64, to: u64, ticks: u64) -> Result<Outcome, NoMemory>
     ensures { IfOk result (λ outcome. outcome ≡ window_refused from to ticks) }
 {

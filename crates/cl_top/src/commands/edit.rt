@@ -21,10 +21,11 @@ use cl_time::{NoMemory, Steps};
 use std::alloc::Global;
 use std::sync::ledger::Ledger;
 
-/// The outcome of `edit` of a valid model and of the text of a list of edits: the reports, in order; or the first bad line
-/// of the text; or the reports before the first edit that is refused, and then its refusal. It counts at most one step for
-/// each task and two for each chain of the model, and where each line is an edit, as many for each question that an edit
-/// changes.
+/// Finds the outcome of `edit` for a valid model and the text of a list of edits: the reports, in
+/// order; or the first bad line of the text; or the reports before the first edit that is refused,
+/// and then its refusal. Counts at most one step for each task and two for each chain of the model;
+/// and, where each line is an edit, also one for each task and two for each chain whose question an
+/// edit changes.
 #[tactic(auto, unfolding(crate::specs::Commands::meaning_of))]
 pub(super) fn edited<L: Ledger>(
     alloc: Global,
@@ -42,7 +43,8 @@ pub(super) fn edited<L: Ledger>(
     }
 }
 
-/// The reports of a model as it is edited by the edits of these lines.
+/// Starts a session of the model, makes the edits of these lines one after the other and collects
+/// the reports.
 fn report_edited<L: Ledger>(
     alloc: Global,
     model: ValidModel,
@@ -57,7 +59,8 @@ fn report_edited<L: Ledger>(
     report_lines(alloc, &mut session, lines, steps)
 }
 
-/// The reports of a session's model as it is edited by the edits of these lines, of which the first is line 2 of its text.
+/// Makes the edits one after the other and collects the reports, up to the first edit that is
+/// refused. The first edit is line 2 of the file.
 fn report_lines<L: Ledger>(
     alloc: Global,
     session: &mut Session,
@@ -66,7 +69,8 @@ fn report_lines<L: Ledger>(
 ) -> Result<Outcome, NoMemory>
     requires { ListsSome lines }
     ensures outcome { IfOk result (LinesEditTo session.old.model lines.entry) }
-    ensures steps { OfLines lines.entry (λ edits. AskForChanges edits session.old.model steps.old steps.new) }
+    ensures steps { OfLines lines.entry
+        (λ edits. AskForChanges edits session.old.model steps.old steps.new) }
 {
     let mut lines = lines;
     let mut text = Text::new(alloc);
@@ -80,7 +84,8 @@ fn report_lines<L: Ledger>(
     Ok(Outcome::done(text))
 }
 
-/// Makes an edit of the session's model, and puts its report for a report line.
+/// Makes an edit of the session's model, and puts its report for a report line. An edit that is
+/// refused leaves the text as it was.
 fn make_edit<L: Ledger>(
     session: &mut Session,
     edit: Edit,
@@ -100,7 +105,9 @@ fn make_edit<L: Ledger>(
 
 /// Puts the report of the session's model for a report line, and nothing for any other edit.
 fn put_reported(session: &Session, edit: &Edit, text: &mut Text) -> Result<(), NoMemory>
-    ensures { OnOk result ((written : List ℕ) × IsWrittenBy session.now.model edit.now written × (text.new ≡ text.old ++ written)) }
+    ensures { OnOk result
+        ((written : List ℕ) × IsWrittenBy session.now.model edit.now written
+        × (text.new ≡ text.old ++ written)) }
 {
     match edit {
         Edit::Report => put_report(text, session.model(), session.findings()),
@@ -108,10 +115,12 @@ fn put_reported(session: &Session, edit: &Edit, text: &mut Text) -> Result<(), N
     }
 }
 
-/// The outcome of edits of which the one in the line of a number isn't made: where it is refused, the text so far, and
-/// behind it the refusal of that line.
+/// Makes the outcome where the edit in line `number` isn't made: the text so far and, behind it,
+/// the refusal of that line. `NoMemory` where memory ran out.
 fn stopped(alloc: Global, text: Text, number: u64, fault: ModelFault) -> Result<Outcome, NoMemory>
-    ensures { IfOk result (λ outcome. (refusal : Refusal) × (fault ≡ ModelFault.Refused refusal) × (outcome ≡ behind text (edits_refused number refusal))) }
+    ensures { IfOk result
+        (λ outcome. (refusal : Refusal) × (fault ≡ ModelFault.Refused refusal)
+        × (outcome ≡ behind text (edits_refused number refusal))) }
 {
     match fault {
         ModelFault::Refused(refusal) => refused(alloc, text, number, refusal),
@@ -119,7 +128,7 @@ fn stopped(alloc: Global, text: Text, number: u64, fault: ModelFault) -> Result<
     }
 }
 
-/// A text, and behind it the refusal of the line of a number.
+/// Makes the outcome of a text with the refusal of line `number` behind it.
 pub(super) fn refused(
     alloc: Global,
     text: Text,
@@ -140,9 +149,10 @@ pub(super) fn refused(
     })
 }
 
-/// The first line that is no edit.
+/// Makes the outcome of a list of edits whose first bad line is line `number`.
 pub(super) fn bad_line(alloc: Global, number: u64) -> Result<Outcome, NoMemory>
-    ensures { IfOk result (λ outcome. outcome ≡ edits_refused number (record { code = Code.E1; place = top })) }
+    ensures { IfOk result
+        (λ outcome. outcome ≡ edits_refused number (record { code = Code.E1; place = top })) }
 {
     let refusal = Refusal {
         code: Code::E1,

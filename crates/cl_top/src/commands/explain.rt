@@ -10,8 +10,8 @@ use cl_time::{NoMemory, Steps};
 use std::alloc::Global;
 use std::sync::ledger::Ledger;
 
-/// The outcome of `explain` of a valid model: what its responses and its bounds are the sums of. It counts at most one
-/// step for each task and one for each chain.
+/// Finds the outcome of `explain` for a valid model: what its responses and its bounds are the sums
+/// of. Counts at most one step for each task and one for each chain.
 #[tactic(auto, unfolding(crate::specs::Commands::meaning_of))]
 pub(super) fn explained<L: Ledger>(
     alloc: Global,

@@ -10,7 +10,8 @@ use cl_time::{NoMemory, Steps};
 use std::alloc::Global;
 use std::sync::ledger::Ledger;
 
-/// The outcome of `headroom` of a valid model: how far its execution times may grow.
+/// Finds the outcome of `headroom` for a valid model: how far its greatest execution times may
+/// grow.
 #[tactic(auto, unfolding(crate::specs::Commands::meaning_of))]
 pub(super) fn headroom<L: Ledger>(
     alloc: Global,

@@ -31,16 +31,17 @@ pub(super) fn named_version(alloc: Global) -> Result<Outcome, NoMemory>
 /// The version of the program, with which CHANGELOG.md begins.
 const VERSION: &str = "chainlat 1.0.0\n";
 
-/// What the commands are, with their files and numbers and the limits of these, and where to read more.
+/// What the commands are, with their files and numbers and the limits of these, and where to read
+/// more.
 const HELP: &str = "usage: chainlat COMMAND ARGUMENTS\n\
 \n\
 analyse MODEL               the report: responses, bounds, exact lengths and verdicts\n\
 tighten MODEL               the report by bounds that know the phases of tasks\n\
-verify MODEL                status 0 where every task is in time and every requirement met, else 13\n\
+verify MODEL                status 0 where every task is shown to be in time and every requirement met, else 13\n\
 explain MODEL               what the responses and the bounds are the sums of\n\
 check MODEL                 what to mend in a model, or what to know of it\n\
 cut MODEL                   the best cuts of the chains\n\
-order MODEL                 the best priorities of every core\n\
+order MODEL                 on every core the first priorities, in dictionary order, with which no task is late\n\
 headroom MODEL              how far the greatest execution times may grow\n\
 migrate MODEL               the model as a file of version 2\n\
 edit MODEL EDITS            a report for each line `report` of a list of edits\n\

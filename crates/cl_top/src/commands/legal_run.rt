@@ -15,16 +15,17 @@ use cl_time::NoMemory;
 use cl_trace::{TraceFault, read_trace};
 use std::alloc::Global;
 
-/// What the text of a trace gives.
+/// What the reading of a trace gave.
 #[derive(Drop)]
 pub(super) enum LegalRun {
+    /// The run of the trace, which is legal.
     Legal(RunData),
-    /// There is none, and this is the outcome of the command.
+    /// There is no legal run, and this is the outcome of the command.
     Stopped(Outcome),
 }
 
-/// The legal run of the text of a trace, or the outcome of the first bad line of the text or of the first rule that its
-/// run breaks.
+/// Reads the legal run of the text of a trace, or makes the outcome of the first bad line of the
+/// text or of the first rule that its run breaks.
 pub(super) fn legal_run(
     alloc: Global,
     model: &ValidModel,
@@ -39,7 +40,7 @@ pub(super) fn legal_run(
     }
 }
 
-/// A run where it is legal, or the outcome of the first rule that it breaks.
+/// Checks a run: gives it back where it is legal, or the outcome of the first rule that it breaks.
 fn checked_run(alloc: Global, model: &ValidModel, run: RunData) -> Result<LegalRun, NoMemory>
     requires { IsInForm (system_of model.now) run }
     ensures { IfOk result (IsCheckedAs model.now run) }
@@ -53,7 +54,7 @@ fn checked_run(alloc: Global, model: &ValidModel, run: RunData) -> Result<LegalR
     }
 }
 
-/// The first bad line of a text.
+/// Makes the outcome of a trace whose first bad line is line `number`.
 fn refused(alloc: Global, number: u64) -> Result<Outcome, NoMemory>
     ensures { IfOk result (λ outcome. outcome ≡ trace_refused number) }
 {
@@ -67,7 +68,8 @@ fn refused(alloc: Global, number: u64) -> Result<Outcome, NoMemory>
     })
 }
 
-/// The first rule that a run breaks.
+/// Makes the outcome of a run that first breaks `rule`, at a tick, by the core of number `place`
+/// for its schedule, and by the task of that number for every other rule.
 fn illegal(
     alloc: Global,
     model: &ValidModel,
@@ -90,7 +92,7 @@ fn illegal(
     })
 }
 
-/// The words of a rule.
+/// Returns the words of a rule, up to the name of the task or the core that breaks it.
 fn rule_words(rule: Rule) -> &'static [u8]
     ensures { result.now ≡ rule_words rule }
 {
@@ -103,7 +105,8 @@ fn rule_words(rule: Rule) -> &'static [u8]
     }
 }
 
-/// The name of the core, for its schedule, or of the task of a number, and nothing past the last one.
+/// Returns the name of what breaks a rule: for a schedule the core of number `place`, and for every
+/// other rule the task of that number. Empty past the last one.
 fn breaker(model: &ValidModel, rule: Rule, place: u32) -> &[u8]
     ensures { result.now ≡ breaker model.now rule place }
 {
@@ -114,7 +117,7 @@ fn breaker(model: &ValidModel, rule: Rule, place: u32) -> &[u8]
     }
 }
 
-/// The name of the core of a number, and nothing past the last one.
+/// Returns the name of the core of this number, empty past the last one.
 fn core_name(model: &ValidModel, core: u32) -> &[u8]
     ensures { result.now ≡ slice_index_or (core_names model.now) core [] }
 {
@@ -124,7 +127,7 @@ fn core_name(model: &ValidModel, core: u32) -> &[u8]
     }
 }
 
-/// The name of the task of a number, and nothing past the last one.
+/// Returns the name of the task of this number, empty past the last one.
 fn task_name(model: &ValidModel, task: u32) -> &[u8]
     ensures { result.now ≡ (task_at model.now task).name }
 {

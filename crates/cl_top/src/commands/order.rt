@@ -10,7 +10,7 @@ use cl_time::{NoMemory, Steps};
 use std::alloc::Global;
 use std::sync::ledger::Ledger;
 
-/// The outcome of `order` of a valid model: the best orders of its priorities.
+/// Finds the outcome of `order` for a valid model: the best orders of its priorities.
 #[tactic(auto, unfolding(crate::specs::Commands::meaning_of))]
 pub(super) fn ordered<L: Ledger>(
     alloc: Global,

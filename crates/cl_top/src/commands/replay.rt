@@ -16,8 +16,9 @@ use cl_time::{NoMemory, Steps};
 use std::alloc::Global;
 use std::sync::ledger::Ledger;
 
-/// The outcome of `replay` of a valid model and of the text of a trace: the replay of its run, or the first bad line of
-/// the text, or the first rule that its run breaks. It counts at most one step for each task and two for each chain.
+/// Finds the outcome of `replay` for a valid model and the text of a trace: the replay of its run;
+/// or the first bad line of the text; or the first rule that its run breaks. Counts at most one
+/// step for each task and two for each chain.
 #[tactic(auto, unfolding(crate::specs::Commands::meaning_of), using(crate::proofs::OfTrace::legal_answer, crate::proofs::OfTrace::stop_follows, crate::proofs::OfTrace::is_legal))]
 pub(super) fn replayed<L: Ledger>(
     alloc: Global,
@@ -34,7 +35,7 @@ pub(super) fn replayed<L: Ledger>(
     }
 }
 
-/// The replay of a legal run.
+/// Makes the replay of a legal run.
 fn replay_legal<L: Ledger>(
     alloc: Global,
     model: &ValidModel,

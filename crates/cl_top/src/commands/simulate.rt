@@ -16,8 +16,8 @@ use cl_text::Text;
 use cl_time::NoMemory;
 use std::alloc::Global;
 
-/// The outcome of `simulate` of a valid model: the trace of the legal run of the drawn table, or the refusal of one that
-/// is too large.
+/// Finds the outcome of `simulate` for a valid model: the trace of the legal run of the drawn
+/// table, or the refusal of a table that is too large.
 #[tactic(auto, unfolding(crate::specs::Commands::meaning_of, crate::specs::Command::AsksForFew))]
 pub(super) fn simulated(
     alloc: Global,
@@ -35,7 +35,7 @@ pub(super) fn simulated(
     }
 }
 
-/// The trace of the legal run of a table.
+/// Simulates the legal run of a table and writes its trace.
 fn traced(alloc: Global, model: &ValidModel, table: JobTable) -> Result<Outcome, NoMemory>
     requires { IsLawful (system_of model.now) table }
     ensures { IfOk result (IsTraceOfTable model.now table) }
@@ -45,7 +45,7 @@ fn traced(alloc: Global, model: &ValidModel, table: JobTable) -> Result<Outcome,
     Ok(Outcome::done(text))
 }
 
-/// So many executions of runnables are counted, which are too many.
+/// Makes the outcome of a run for which too many executions of runnables are counted.
 fn refused(alloc: Global, count: u64) -> Result<Outcome, NoMemory>
     ensures { IfOk result (λ outcome. outcome ≡ simulation_refused count) }
 {

@@ -15,8 +15,8 @@ use cl_time::{NoMemory, Steps};
 use std::alloc::Global;
 use std::sync::ledger::Ledger;
 
-/// The outcome of `survey`: the survey of the generated model. It counts at most one step for each task and two for each
-/// chain.
+/// Finds the outcome of `survey`: the survey of the generated model. Counts at most one step for
+/// each task and two for each chain.
 #[tactic(auto, unfolding(crate::specs::Commands::meaning_of, crate::specs::Command::AsksForFew))]
 pub(super) fn surveyed<L: Ledger>(
     alloc: Global,
@@ -35,7 +35,7 @@ pub(super) fn surveyed<L: Ledger>(
     }
 }
 
-/// The survey of a valid model.
+/// Makes the survey of a valid model.
 fn survey_of<L: Ledger>(
     alloc: Global,
     model: &ValidModel,

@@ -11,7 +11,8 @@ use cl_time::{NoMemory, Steps};
 use std::alloc::Global;
 use std::sync::ledger::Ledger;
 
-/// The outcome of `tighten` of a valid model: its report by tight bounds. It counts at most one step for each task.
+/// Finds the outcome of `tighten` for a valid model: its report by tight bounds. Counts at most one
+/// step for each task.
 #[tactic(auto, unfolding(crate::specs::Commands::meaning_of))]
 pub(super) fn tightened<L: Ledger>(
     alloc: Global,

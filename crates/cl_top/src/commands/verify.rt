@@ -13,8 +13,9 @@ use cl_time::{NoMemory, Steps};
 use std::alloc::Global;
 use std::sync::ledger::Ledger;
 
-/// The outcome of `verify` of a valid model: the tasks that are late and the verdicts, and whether that verifies it. It
-/// counts at most one step for each task.
+/// Finds the outcome of `verify` for a valid model: the text names the tasks that are late and the
+/// verdicts, and the status says whether the model is verified. Counts at most one step for each
+/// task.
 #[tactic(auto, unfolding(crate::specs::Commands::meaning_of))]
 pub(super) fn verified<L: Ledger>(
     alloc: Global,
@@ -31,7 +32,8 @@ pub(super) fn verified<L: Ledger>(
     })
 }
 
-/// What `verify` ends with, by what is found of the model.
+/// Returns the status of `verify` for a model with these findings: `DONE` where they verify it,
+/// else `NOT_VERIFIED`.
 fn status_of(model: &ValidModel, findings: &TightFindings) -> u8
     requires { findings.now ≡ tight_findings_of model.now }
     ensures { result ≡ verify_status model.now }

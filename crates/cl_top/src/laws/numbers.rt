@@ -1,4 +1,4 @@
-//! The numbers that the documents name: statuses and limits.
+//! Laws of the numbers that the documentation names: statuses and limits.
 ghost use Rattle.std.specs.Prelude.{◌≡◌};
 ghost use Rattle.cl_edit.specs.declared.limits.TheConstants.{MOST_EDITS, MOST_REPORTS};
 ghost use Rattle.cl_exact.specs.declared.limit.TheConstants.{MOST_FIRST_JOBS};
@@ -21,7 +21,10 @@ use crate::status::{
 };
 use crate::{FILE_LIMIT, TRACE_LIMIT};
 
-/// The number of each status.
+/// The statuses are 0 for a command that did what it says, 2 for refused words, 3 for a read fault,
+/// 4 for a long file, 5 for a refused model, 6 for a refused trace, 7 for refused edits, 8 for a
+/// refused simulation, 9 for a write fault, 10 for want of memory, 12 for an argument that isn't
+/// text, 13 for a model that isn't verified, and 14 for a refused window.
 pub fn statuses()
     ensures done { DONE ≡ 0 }
     ensures words_refused { WORDS_REFUSED ≡ 2 }
@@ -38,13 +41,17 @@ pub fn statuses()
     ensures window_refused { WINDOW_REFUSED ≡ 14 }
 {}
 
-/// The most bytes of a model file or a list of edits, and of a trace file.
+/// A model file and a list of edits have at most 16,777,216 bytes, and a trace file has at most
+/// 268,435,456.
 pub fn limits_of_files()
     ensures model { FILE_LIMIT ≡ 16777216 }
     ensures trace { TRACE_LIMIT ≡ 268435456 }
 {}
 
-/// The greatest numbers of the format.
+/// In the format a time is at most 1,000,000,000,000 ticks, the length of a requirement at most
+/// 1,000,000,000,000,000 ticks, and a priority at most 1,000,000. A deadline spans at most
+/// 1,000,000 least distances of a task of higher priority, a burst has from 2 to 1,000,000 jobs,
+/// and a name has at most 64 bytes.
 pub fn limits_of_numbers()
     ensures ticks { MOST_TICKS ≡ 1000000000000 }
     ensures required { MOST_REQUIRED ≡ 1000000000000000 }
@@ -55,7 +62,10 @@ pub fn limits_of_numbers()
     ensures name { LONGEST_NAME ≡ 64 }
 {}
 
-/// The greatest counts of the format.
+/// In the format a model has at most 64 cores, 1,024 stimuli, 8,192 labels, 1,024 tasks, 8,192
+/// runnables, 1,024 chains and 1,024 requirements. A core has at most 128 tasks, a task has at most
+/// 256 runnables, a runnable reads at most 256 labels and writes at most 256, and a chain has at
+/// most 64 runnables and 63 labels.
 pub fn limits_of_counts()
     ensures cores { MOST_CORES ≡ 64 }
     ensures stimuli { MOST_STIMULI ≡ 1024 }
@@ -71,7 +81,14 @@ pub fn limits_of_counts()
     ensures requirements { MOST_REQUIREMENTS ≡ 1024 }
 {}
 
-/// The limits of lists of edits, of simulations and traces, of exact lengths, of tight bounds, of headroom and of pictures.
+/// A list of edits has at most 4,096 edits, and at most 64 of them are reports. A run that is
+/// simulated has at most 1,000,000,000 ticks and 800,000 executions of runnables. A trace has at
+/// most 1,000,000,000 ticks, and arrivals, releases and execution times of at most
+/// 2,000,000,000,000. Exact lengths are sought where the hyperperiod of a chain is at most
+/// 1,000,000 times the lesser of its first and its last period, and tight bounds keep phases that
+/// come round within 1,000,000 arrivals of a group. Headroom is at most 1,000 percent. A window of
+/// a picture ends at tick 1,000,000,000 at the latest, and a row with marks has at most 120
+/// arrivals.
 pub fn limits_of_commands()
     ensures edits { MOST_EDITS ≡ 4096 }
     ensures reports { MOST_REPORTS ≡ 64 }

@@ -1,5 +1,5 @@
 use Rattle.cl_advice.specs.declared.shown.TheConstants.{MOST_SHOWN}
-use Rattle.cl_advice.proofs.CleanBytes.{text_printable, shown_short, shown_whole, string_printable, string_short}
+use Rattle.cl_advice.proofs.CleanBytes.{text_printable, shown_short, shown_whole, string_printable, string_short, string_whole}
 use Rattle.cl_advice.proofs.laws.bytes_are_shown_clean.Goals as goal
 
 pub returns-clause-printable : goal.returns-clause-printable
@@ -16,3 +16,6 @@ returns-clause-quoted_printable c = string_printable
 
 pub returns-clause-quoted_short : goal.returns-clause-quoted_short
 returns-clause-quoted_short c = string_short
+
+pub returns-clause-quoted_whole : goal.returns-clause-quoted_whole
+returns-clause-quoted_whole c = string_whole

@@ -5,4 +5,4 @@ use Rattle.cl_draw.proofs.chain_lines.put_chain.Goals as goal
 
 pub returns : goal.returns
 unfolding chain_lines
-returns c = IfOk-weaker c.put_line.result _ _ (λ _ is. more_elements _ _ _ _ _ (more_elements _ _ _ _ _ (c.in_ok-put_open.ensures) c.in_ok-put_shown.ensures) is) c.put_line.ensures
+returns c = IfOk-weaker c.put_line.result _ _ (λ _ is. more_elements _ _ _ _ _ (more_elements _ _ _ _ _ (c.in_ok-put_open.ensures) c.in_ok-put_shown.ensures) is) c.put_line.ensures.ok

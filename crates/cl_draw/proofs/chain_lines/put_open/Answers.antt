@@ -3,4 +3,4 @@ use Rattle.cl_picture.proofs.Printing.{more_elements}
 use Rattle.cl_draw.proofs.chain_lines.put_open.Goals as goal
 
 pub returns : goal.returns
-returns c = IfOk-weaker c.put_line.result _ _ (λ _ is. more_elements _ _ _ _ _ (c.in_ok-put_group.ensures) is) c.put_line.ensures
+returns c = IfOk-weaker c.put_line.result _ _ (λ _ is. more_elements _ _ _ _ _ (c.in_ok-put_group.ensures) is) c.put_line.ensures.ok

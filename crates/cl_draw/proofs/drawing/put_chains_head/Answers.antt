@@ -11,4 +11,4 @@ returns-then-chains-eq0 c = no_elements c.args.text.now
 pub returns : goal.returns
 returns c =
     rw (some_head c.args.model.now (length c.args.model.now.chains) (omega (arith, c.if-chains-eq0.false, c.chains.ensures.count)), ← c.cores.ensures.count, ← c.head.ensures.head)
-    c.put_line.ensures
+    c.put_line.ensures.ok

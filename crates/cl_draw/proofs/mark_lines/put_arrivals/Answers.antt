@@ -12,4 +12,4 @@ loop-arrival-preserved c = listed_pieces (arrival_pieces c.args.window) c.args.a
 
 pub returns : goal.returns
 returns c = IfOk-weaker c.put_line.result _ _ (λ _ is. line_behind _ _ _ _ _
-    (more_pieces _ _ _ _ _ c.in_ok-put_pieces.ensures (all_pieces (arrival_pieces c.args.window) c.args.arrivals.now _ _ c.loop-arrival.arrival-index (omega arith) c.loop-arrival.invariant)) is) c.put_line.ensures
+    (more_pieces _ _ _ _ _ c.in_ok-put_pieces.ensures.ok (all_pieces (arrival_pieces c.args.window) c.args.arrivals.now _ _ c.loop-arrival.arrival-index (omega arith) c.loop-arrival.invariant)) is) c.put_line.ensures.ok

@@ -12,4 +12,4 @@ loop-due-preserved c = listed_pieces (due_pieces c.args.window) c.args.dues.now 
 
 pub returns : goal.returns
 returns c = IfOk-weaker c.put_line.result _ _ (λ _ is. line_behind _ _ _ _ _
-    (more_pieces _ _ _ _ _ c.in_ok-put_pieces.ensures (all_pieces (due_pieces c.args.window) c.args.dues.now _ _ c.loop-due.due-index (omega arith) c.loop-due.invariant)) is) c.put_line.ensures
+    (more_pieces _ _ _ _ _ c.in_ok-put_pieces.ensures.ok (all_pieces (due_pieces c.args.window) c.args.dues.now _ _ c.loop-due.due-index (omega arith) c.loop-due.invariant)) is) c.put_line.ensures.ok

@@ -12,4 +12,4 @@ loop-wait-preserved c = listed_pieces (wait_pieces c.args.window) c.args.waits.n
 
 pub returns : goal.returns
 returns c = IfOk-weaker c.put_line.result _ _ (λ _ is. line_behind _ _ _ _ _
-    (more_pieces _ _ _ _ _ c.in_ok-put_pieces.ensures (all_pieces (wait_pieces c.args.window) c.args.waits.now _ _ c.loop-wait.wait-index (omega arith) c.loop-wait.invariant)) is) c.put_line.ensures
+    (more_pieces _ _ _ _ _ c.in_ok-put_pieces.ensures.ok (all_pieces (wait_pieces c.args.window) c.args.waits.now _ _ c.loop-wait.wait-index (omega arith) c.loop-wait.invariant)) is) c.put_line.ensures.ok

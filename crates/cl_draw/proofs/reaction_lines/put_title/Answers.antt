@@ -10,4 +10,4 @@ use Rattle.cl_draw.proofs.reaction_lines.put_title.Goals as goal
 pub returns : goal.returns
 returns c =
     let stops = c.in_ok-put_stops.ensures ∙ ap (λ (ss : List Stop). c.put_title_head.new.text ++ spelled (flat_map (stop_pieces c.args.model.now) ss)) c.as_slice.ensures in
-    IfOk-weaker c.put_line.result _ _ (λ _ is. line_behind _ _ _ _ _ (more_pieces _ _ _ _ _ c.in_ok-put_title_head.ensures stops) is) c.put_line.ensures
+    IfOk-weaker c.put_line.result _ _ (λ _ is. line_behind _ _ _ _ _ (more_pieces _ _ _ _ _ c.in_ok-put_title_head.ensures stops) is) c.put_line.ensures.ok

@@ -17,4 +17,4 @@ pub returns : goal.returns
 returns c =
     IfOk-weaker c.put_line.result _ _ (λ _ is. line_behind _ _ _ _ _ (more_pieces _ _ _ _ _ c.in_ok-put_steps_head.ensures
     (all_numbered_pieces (step_pieces_at c.args.model.now c.args.look c.args.reaction.now.stops) _ _ c.loop-k.k (length c.args.reaction.now.stops - 1)
-    (omega (arith, c.loop-k-test.false, c.loop-k.auto.k-end, ap length c.as_slice-stops.ensures)) c.loop-k.invariant)) is) c.put_line.ensures
+    (omega (arith, c.loop-k-test.false, c.loop-k.auto.k-end, ap length c.as_slice-stops.ensures)) c.loop-k.invariant)) is) c.put_line.ensures.ok

@@ -11,7 +11,7 @@ returns-then-from-to-le14000 c =
     let small : nat_le (x_of c.args.look.window c.args.reaction.now.from + x_of c.args.look.window c.args.reaction.now.to) 14000 ≡ true
     = le-leb _ _ (omega (arith, c.if-from-to-le14000.true, c.x-from.ensures.x, c.x-to.ensures.x)) in
     subst (λ (b : Bool). OnOk c.put_pieces.result (c.put_pieces.new.text ≡ c.args.text.now ++ spelled (if b then words_left c.args.look c.args.reaction.now else words_right c.args.look c.args.reaction.now)))
-    (sym small) (rw (← c.x-from.ensures.x) c.put_pieces.ensures)
+    (sym small) (rw (← c.x-from.ensures.x) c.put_pieces.ensures.ok)
 
 pub returns-else-from-to-le14000 : goal.returns-else-from-to-le14000
 returns-else-from-to-le14000 c =
@@ -19,4 +19,4 @@ returns-else-from-to-le14000 c =
     = lt-leb _ _ (omega (arith, c.if-from-to-le14000.false, c.x-from.ensures.x, c.x-to.ensures.x)) in
     subst (λ (b : Bool). OnOk c.put_pieces-else-from-to-le14000.result (c.put_pieces-else-from-to-le14000.new.text ≡ c.args.text.now
     ++ spelled (if b then words_left c.args.look c.args.reaction.now else words_right c.args.look c.args.reaction.now)))
-    (sym great) (rw (← c.x-to.ensures.x, ← c.saturating_sub.ensures) c.put_pieces-else-from-to-le14000.ensures)
+    (sym great) (rw (← c.x-to.ensures.x, ← c.saturating_sub.ensures) c.put_pieces-else-from-to-le14000.ensures.ok)

@@ -20,4 +20,4 @@ returns c =
     let parts = c.in_ok-put_bars-2.ensures ∙ ap (λ (bs : List Bar). c.put_bars.new.text ++ print (map (bar_line (codes "<rect class=\"e") c.task-task.result.now) bs)) c.as_slice-2.ensures
     ∙ ap (λ (t : TaskDef). c.put_bars.new.text ++ print (map (bar_line (codes "<rect class=\"e") t) c.args.row.now.parts)) c.task-task.ensures.task in
     let marks = c.in_ok-put_marks.ensures ∙ ap (λ (m : Marks). c.put_bars-2.new.text ++ print (mark_lines c.args.window m)) c.in_ok-marks.ensures in
-    IfOk-weaker c.put_line.result _ _ (λ _ is. more_elements _ _ _ _ _ (more_elements _ _ _ _ _ (more_elements _ _ _ _ _ (more_elements _ _ _ _ _ c.in_ok-put_shift.ensures bands) parts) marks) is) c.put_line.ensures
+    IfOk-weaker c.put_line.result _ _ (λ _ is. more_elements _ _ _ _ _ (more_elements _ _ _ _ _ (more_elements _ _ _ _ _ (more_elements _ _ _ _ _ c.in_ok-put_shift.ensures.ok bands) parts) marks) is) c.put_line.ensures.ok

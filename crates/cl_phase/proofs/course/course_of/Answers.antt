@@ -11,7 +11,7 @@ use Rattle.cl_bound.specs.declared.group_timing.GroupTiming.{GroupTiming}
 use Rattle.cl_phase.specs.declared.stop.Stop.{Stop}
 use Rattle.cl_phase.specs.TightAnswers.{tight_response}
 use Rattle.cl_phase.specs.TightBounds.{span_of}
-use Rattle.cl_phase.specs.Inner.Course.{tight_timing, delay_from, next_from}
+use Rattle.cl_phase.specs.Inner.Course.{tight_timing, lag_from, next_from}
 use Rattle.cl_phase.proofs.course.course_of.Goals as goal
 
 pub beside-pace-requires-clause-range : goal.beside-pace-requires-clause-range
@@ -29,8 +29,8 @@ loop-i-init c =
     c.new-stops.ensures c.new-keeping.ensures c.timing_of-timing.ensures.timing c.timing_of-timing.ensures.near
 
 -- the groups after one
-pub hop_to_next-delay-requires-clause-of_tasks : goal.hop_to_next-delay-requires-clause-of_tasks
-hop_to_next-delay-requires-clause-of_tasks c = rw (rest_from c.args.groups.now (c.loop-i.i + 1))
+pub hop_to_next-lag-requires-clause-of_tasks : goal.hop_to_next-lag-requires-clause-of_tasks
+hop_to_next-lag-requires-clause-of_tasks c = rw (rest_from c.args.groups.now (c.loop-i.i + 1))
     (All-drop (IsGroupOf c.args.model.now) (c.loop-i.i + 1) c.args.groups.now c.requires.of_tasks)
 
 pub loop-i-preserved : goal.loop-i-preserved
@@ -41,13 +41,13 @@ loop-i-preserved c =
     let known = (c.requires.of_tasks c.loop-i.i _ c.loop-i-test.true).known in
     let kind = c.stimulus_of.ensures ∙ sym (ap (λ (t : Timing). t.pattern) (timing_is c.args.model.now _ known)) in
     let later = rest_from groups (c.loop-i.i + 1) in
-    let hop = c.hop_to_next-delay in
+    let hop = c.hop_to_next-lag in
     let small : to_z w64 (of_z w64 hop.result.0) ≡ hop.result.0 = omega (arith, ints, hop.ensures.small) in
     subst (λ (stops : List Stop). IsCourseTo system groups (c.loop-i.i + 1) stops c.beside-pace.result.1 hop.result.1) (sym c.push.ensures.items)
     (course_goes_on system groups c.requires.some c.loop-i.i c.loop-i.stops.items c.loop-i.keeping c.loop-i.timing c.loop-i.invariant c.loop-i-test.true
     c.stimulus_of.result c.beside-pace.result.0 c.beside-pace.result.1 (to_z w64 (of_z w64 hop.result.0)) hop.result.1
     kind (c.beside-pace.ensures.beside _ c.loop-i.invariant.kept) c.beside-pace.ensures.some
-    (small ∙ hop.ensures.delay ∙ ap (delay_from system c.loop-i.timing) later) (omega (arith, ints, hop.ensures.small), omega (arith, ints, hop.ensures.small))
+    (small ∙ hop.ensures.lag ∙ ap (lag_from system c.loop-i.timing) later) (omega (arith, ints, hop.ensures.small), omega (arith, ints, hop.ensures.small))
     (hop.ensures.next ∙ ap (next_from system c.loop-i.timing) later) hop.ensures.near)
 
 pub returns-clause-course : goal.returns-clause-course

@@ -1,7 +1,7 @@
 use Rattle.std.proofs.Common.{◌≡◌, pos, ◌+ℤ◌, ◌≤ℤ◌, ◌<ℤ◌, ap, sym, subst, ◌∙◌, arith, to_z, of_z, w64, ℤ}
 use Rattle.std.proofs.lemmas.Int.{ints}
+use Rattle.cl_stim.specs.Phase.{first_arrival}
 use Rattle.cl_phase.specs.declared.pace.Pace.TheVariants.{Kept}
-use Rattle.cl_phase.specs.Phase.{first_arrival}
 use Rattle.cl_phase.specs.TightBounds.{starts}
 use Rattle.cl_phase.specs.Inner.Longest.{longer_of, longest_of}
 use Rattle.cl_phase.proofs.LongestWalks.{IsScannedTo, phase_in_range, scan_begins, scan_goes_on, scan_ends}

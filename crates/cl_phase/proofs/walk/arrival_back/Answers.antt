@@ -1,10 +1,10 @@
 use Rattle.std.proofs.Common.{◌≡◌, ◌+◌, ◌-◌, ◌*◌, ◌<◌, ◌≤◌, length, ◌-ℤ◌, ap, sym, ◌∙◌, subst, arith, slice_index_or, to_z, of_z, w64}
 use Rattle.std.proofs.lemmas.Int.{ints}
+use Rattle.cl_stim.specs.Integers.{IsIntegerWithin}
 use Rattle.cl_phase.specs.Pace.{previous}
 use Rattle.cl_phase.specs.Walks.{pace_at, back}
-use Rattle.cl_bound.specs.Hops.{IsIntegerWithin}
 use Rattle.cl_phase.specs.Inner.Ranges.{FARTHEST_START}
-use Rattle.cl_phase.proofs.WalkRanges.{HOP, unset, pace_here, delay_here, pace_in_range, delay_in_range, given_back, comes_back, comes_before, walked_near, leads_back}
+use Rattle.cl_phase.proofs.WalkRanges.{HOP, unset, pace_here, lag_here, pace_in_range, lag_in_range, given_back, comes_back, comes_before, walked_near, leads_back}
 use Rattle.cl_phase.proofs.walk.arrival_back.Goals as goal
 
 pub previous-moment-requires-clause-pace : goal.previous-moment-requires-clause-pace
@@ -33,7 +33,7 @@ pub overflow_sub-moment : goal.overflow_sub-moment
 overflow_sub-moment c =
     let few : c.args.place + 1 - c.loop-here.here ≤ 65 = omega (arith, c.requires.place, c.requires.stops.few) in
     let before : c.loop-here.here - 1 < length c.args.stops.now = omega (arith, c.loop-here.invariant.within, c.requires.place) in
-    let small = delay_in_range c.args.stops.now c.requires.stops (c.loop-here.here - 1) before in
+    let small = lag_in_range c.args.stops.now c.requires.stops (c.loop-here.here - 1) before in
     let given = given_back (c.args.place + 1 - c.loop-here.here) _ _ few c.loop-here.invariant.near small in
     omega (arith, ints, given, small)
 
@@ -45,7 +45,7 @@ pub last_by-moment-requires-clause-moment : goal.last_by-moment-requires-clause-
 last_by-moment-requires-clause-moment c =
     let few : c.args.place + 1 - c.loop-here.here ≤ 65 = omega (arith, c.requires.place, c.requires.stops.few) in
     let before : c.loop-here.here - 1 < length c.args.stops.now = omega (arith, c.loop-here.invariant.within, c.requires.place) in
-    let small = delay_in_range c.args.stops.now c.requires.stops (c.loop-here.here - 1) before in
+    let small = lag_in_range c.args.stops.now c.requires.stops (c.loop-here.here - 1) before in
     let given = given_back (c.args.place + 1 - c.loop-here.here) _ _ few c.loop-here.invariant.near small in
     (omega (arith, ints, given, small), omega (arith, ints, given, small))
 
@@ -56,9 +56,9 @@ loop-here-preserved c =
     let moment = to_z w64 c.loop-here.moment-bits in
     let few : c.args.place + 1 - here ≤ 65 = omega (arith, c.requires.place, c.requires.stops.few) in
     let before : here - 1 < length stops = omega (arith, c.loop-here.invariant.within, c.requires.place) in
-    let small = delay_in_range stops c.requires.stops (here - 1) before in
+    let small = lag_in_range stops c.requires.stops (here - 1) before in
     let given = given_back (c.args.place + 1 - here) _ _ few c.loop-here.invariant.near small in
-    let near = comes_back (c.args.place + 1 - here) moment (slice_index_or stops (here - 1) unset).delay c.last_by-moment.result
+    let near = comes_back (c.args.place + 1 - here) moment (slice_index_or stops (here - 1) unset).lag c.last_by-moment.result
     c.last_by-moment.ensures.not_after c.last_by-moment.ensures.near (omega (arith, ints, given, small)) c.loop-here.invariant.near small in
     let count : c.args.place + 1 - here + 1 ≡ c.args.place + 1 - (here - 1) = omega (arith, c.loop-here.invariant.within, c.loop-here-test.true) in
     let there = subst (λ n. IsIntegerWithin (FARTHEST_START + n * HOP) c.last_by-moment.result) count near in
@@ -68,7 +68,7 @@ loop-here-preserved c =
       leads = leads_back stops c.args.place _ here moment (omega (arith, c.loop-here-test.true)) c.loop-here.invariant.within c.loop-here.invariant.leads
           (pace_here stops c.requires.stops (here - 1) before)
           (omega (arith, ints, near) ∙ c.last_by-moment.ensures.last)
-          (omega (arith, ints, given, small) ∙ ap (λ d. moment -ℤ d) (delay_here stops c.requires.stops (here - 1) before));
+          (omega (arith, ints, given, small) ∙ ap (λ d. moment -ℤ d) (lag_here stops c.requires.stops (here - 1) before));
       near = (omega (arith, ints, there), omega (arith, ints, there));
     }
 

@@ -1,7 +1,7 @@
 use Rattle.std.proofs.Common.{◌≡◌, ◌+◌, ◌-◌, ◌*◌, ◌≤◌}
+use Rattle.cl_stim.specs.Integers.{IsIntegerWithin}
 use Rattle.cl_phase.specs.Pace.{previous}
 use Rattle.cl_phase.specs.Walks.{pace_at, back}
-use Rattle.cl_bound.specs.Hops.{IsIntegerWithin}
 use Rattle.cl_phase.specs.Inner.Ranges.{FARTHEST_START}
 use Rattle.cl_phase.proofs.WalkRanges.{HOP}
 use Rattle.cl_phase.proofs.walk.arrival_back.Given as goal

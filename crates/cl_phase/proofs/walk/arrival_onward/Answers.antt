@@ -1,7 +1,7 @@
 use Rattle.std.proofs.Common.{◌≡◌, ◌+◌, ◌-◌, ◌<◌, ◌≤◌, length, ◌+ℤ◌, ap, sym, ◌∙◌, arith, slice_index_or, to_z, of_z, w64}
 use Rattle.std.proofs.lemmas.Int.{ints}
 use Rattle.cl_phase.specs.Walks.{onward}
-use Rattle.cl_phase.proofs.WalkRanges.{unset, pace_here, delay_here, pace_in_range, delay_in_range, given_onward, comes_onward, leads_on}
+use Rattle.cl_phase.proofs.WalkRanges.{unset, pace_here, lag_here, pace_in_range, lag_in_range, given_onward, comes_onward, leads_on}
 use Rattle.cl_phase.proofs.walk.arrival_onward.Goals as goal
 
 pub loop-i-init : goal.loop-i-init
@@ -16,7 +16,7 @@ loop-i-init c =
 pub overflow_add-moment : goal.overflow_add-moment
 overflow_add-moment c =
     let few : c.loop-i.i ≤ 65 = omega (arith, c.loop-i-test.true, c.requires.to, c.requires.stops.few) in
-    let small = delay_in_range c.args.stops.now c.requires.stops (c.loop-i.i - 1) (omega (arith, c.loop-i-test.true, c.requires.to)) in
+    let small = lag_in_range c.args.stops.now c.requires.stops (c.loop-i.i - 1) (omega (arith, c.loop-i-test.true, c.requires.to)) in
     let given = given_onward c.loop-i.i _ _ few c.loop-i.invariant.near small in
     omega (arith, ints, given, small)
 
@@ -26,7 +26,7 @@ first_from-moment-requires-clause-pace c = pace_in_range c.args.stops.now c.requ
 pub first_from-moment-requires-clause-moment : goal.first_from-moment-requires-clause-moment
 first_from-moment-requires-clause-moment c =
     let few : c.loop-i.i ≤ 65 = omega (arith, c.loop-i-test.true, c.requires.to, c.requires.stops.few) in
-    let small = delay_in_range c.args.stops.now c.requires.stops (c.loop-i.i - 1) (omega (arith, c.loop-i-test.true, c.requires.to)) in
+    let small = lag_in_range c.args.stops.now c.requires.stops (c.loop-i.i - 1) (omega (arith, c.loop-i-test.true, c.requires.to)) in
     let given = given_onward c.loop-i.i _ _ few c.loop-i.invariant.near small in
     (omega (arith, ints, given, small), omega (arith, ints, given, small))
 
@@ -35,14 +35,14 @@ loop-i-preserved c =
     let stops = c.args.stops.now in
     let few : c.loop-i.i ≤ 65 = omega (arith, c.loop-i-test.true, c.requires.to, c.requires.stops.few) in
     let before : c.loop-i.i - 1 < length stops = omega (arith, c.loop-i-test.true, c.requires.to) in
-    let small = delay_in_range stops c.requires.stops (c.loop-i.i - 1) before in
+    let small = lag_in_range stops c.requires.stops (c.loop-i.i - 1) before in
     let given = given_onward c.loop-i.i _ _ few c.loop-i.invariant.near small in
-    let near = comes_onward c.loop-i.i (to_z w64 c.loop-i.moment-bits) (slice_index_or stops (c.loop-i.i - 1) unset).delay c.first_from-moment.result
+    let near = comes_onward c.loop-i.i (to_z w64 c.loop-i.moment-bits) (slice_index_or stops (c.loop-i.i - 1) unset).lag c.first_from-moment.result
     c.first_from-moment.ensures.not_before c.first_from-moment.ensures.near (omega (arith, ints, given, small)) c.loop-i.invariant.near small in
     record {
       leads = leads_on stops c.args.place _ c.loop-i.i (to_z w64 c.loop-i.moment-bits) (omega (arith, c.loop-i.auto.i)) c.loop-i.invariant.leads
           (pace_here stops c.requires.stops c.loop-i.i (omega (arith, c.loop-i-test.true, c.requires.to)))
           (omega (arith, ints, near) ∙ c.first_from-moment.ensures.first)
-          (omega (arith, ints, given, small) ∙ ap (λ d. to_z w64 c.loop-i.moment-bits +ℤ d) (delay_here stops c.requires.stops (c.loop-i.i - 1) before));
+          (omega (arith, ints, given, small) ∙ ap (λ d. to_z w64 c.loop-i.moment-bits +ℤ d) (lag_here stops c.requires.stops (c.loop-i.i - 1) before));
       near = (omega (arith, ints, near), omega (arith, ints, near));
     }

@@ -1,8 +1,8 @@
 use Rattle.std.proofs.Common.{◌≡◌, pos, ℤ, ◌+ℤ◌, ◌≤ℤ◌, ◌<ℤ◌, eq-eqb, ap, sym, ◌∙◌, arith, to_z, of_z, w64}
 use Rattle.std.proofs.lemmas.Int.{ints}
+use Rattle.cl_stim.specs.Phase.{first_arrival}
 use Rattle.cl_phase.specs.declared.walk.Longest.{Longest}
 use Rattle.cl_phase.specs.declared.pace.Pace.TheVariants.{Kept}
-use Rattle.cl_phase.specs.Phase.{first_arrival}
 use Rattle.cl_phase.specs.TightBounds.{ticks_of, length_from, starts}
 use Rattle.cl_phase.specs.Walked.{start_among}
 use Rattle.cl_phase.proofs.LongestWalks.{phase_in_range}

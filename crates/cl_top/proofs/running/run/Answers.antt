@@ -1,4 +1,4 @@
-use Rattle.cl_top.proofs.Answers.{printed_safe, proves_in_time, reports_some, reports_told}
+use Rattle.cl_top.proofs.Answers.{printed_safe, stopped_safely, proves_in_time, reports_some, reports_told}
 use Rattle.cl_top.proofs.running.run.Goals as goal
 
 pub returns-clause-ends : goal.returns-clause-ends
@@ -15,3 +15,6 @@ returns-clause-verified g c = λ done verify bytes tells. proves_in_time _ _ _ _
 
 pub returns-clause-safe : goal.returns-clause-safe
 returns-clause-safe g c = λ done asked is contents tells. printed_safe _ _ _ _ _ _ _ _ c.run.ensures done asked is contents tells
+
+pub returns-clause-stopped : goal.returns-clause-stopped
+returns-clause-stopped g c = λ seven edit contents tells. stopped_safely _ _ _ _ _ _ _ _ c.run.ensures seven edit contents tells

@@ -1,7 +1,7 @@
 use Rattle.std.proofs.Common.{◌≡◌, ◌-◌, ◌*◌, ◌/◌, ◌^◌, ◌<◌, ◌≤◌, min, arith, sym, ap, subst, ◌∙◌, inl, inr}
 use Rattle.std.proofs.lemmas.Bool.{cases_lt}
 use Rattle.cl_time.specs.Divisors.{IsLcm}
-use Rattle.cl_phase.specs.Kept.{arrivals_in}
+use Rattle.cl_stim.specs.Phase.{arrivals_in}
 use Rattle.cl_phase.specs.Inner.Ranges.{MOST_HYPERPERIOD}
 use Rattle.cl_phase.specs.Inner.Keeping.{AreKeptWith}
 use Rattle.cl_phase.proofs.KeptPhases.{too_long, not_soon, soon}

@@ -1,0 +1,66 @@
+-- What an explanation shows is safe, and which tasks are called late.
+use Rattle.std.proofs.Common.{◌≡◌, ℕ, ◌+◌, ◌<◌, ◌≤◌, true, false, List, length, sym, ap, ◌∙◌, subst, arith}
+use Rattle.std.proofs.lemmas.List.{get_or-map}
+use Rattle.cl_model.specs.declared.model.SystemModel.{SystemModel}
+use Rattle.cl_model.specs.ByNumber.{no_chain, chain_at}
+use Rattle.cl_model.specs.Groups.{groups_at}
+use Rattle.cl_model.specs.Validity.{IsValid}
+use Rattle.cl_runs.specs.TaskTiming.{timing_at}
+use Rattle.cl_runs.specs.SystemOf.{system_of}
+use Rattle.cl_runs.specs.Responses.{AlwaysFinishesWithin}
+use Rattle.cl_resp.specs.Question.{tight_question_of}
+use Rattle.cl_resp.specs.Response.{HasNoFixpoint}
+use Rattle.cl_bound.specs.declared.answer.TaskAnswer.TheVariants as answer
+use Rattle.cl_bound.specs.declared.group_timing.GroupTiming.{GroupTiming}
+use Rattle.cl_bound.specs.Answers.{answers_of, answer_at, is_late}
+use Rattle.cl_bound.specs.Bounds.{Lengths, AreBoundsOf}
+use Rattle.cl_phase.specs.TightAnswers.{tight_answers_of, tight_response}
+use Rattle.cl_analyse.specs.declared.findings.ChainAnswer.TheVariants.{Bounds, Late}
+use Rattle.cl_analyse.proofs.LateTasks.{late_question}
+use Rattle.cl_analyse.proofs.SafeFindings.{responses_hold, bounds_hold, bounds_found, answer_of_chain}
+use Rattle.cl_tight.specs.TightFindings.{tight_chain_answer_of}
+use Rattle.cl_tight.proofs.TightChains.{timely_task, tight_bounds_hold}
+use Rattle.cl_explain.specs.Accepted.{accepted_text}
+use Rattle.cl_explain.specs.Explanation.{explanation}
+use Rattle.cl_explain.specs.Promises.{IsSafelyExplained, IsSafeExplanation, AreRightlyLate, IsSafeAcceptance}
+use Rattle.cl_explain.proofs.AddedUp.{settled_parts, late_parts, groups_sum}
+use Rattle.cl_explain.proofs.LongestWalk.{shows_walk}
+use Rattle.cl_explain.proofs.TightTasks.{tight_answer_is}
+
+module _ (model : SystemModel) (valid : IsValid model) where
+  safely_explained : IsSafelyExplained model
+  safely_explained = record {
+    responses = λ task response within is. (responses_hold model valid task response within is, settled_parts model valid task within response is);
+    late = λ task within is. late_parts model valid task within is;
+    bounds = λ chain bounds within is. bounds_hold model valid chain bounds within (answer_of_chain model chain within ∙ is);
+    sums = λ chain bounds within is first later are.
+        groups_sum first later bounds (subst (λ (timings : List GroupTiming). AreBoundsOf timings bounds) are (bounds_found model valid chain bounds within (answer_of_chain model chain within ∙ is)));
+    tight = λ chain bounds within is. (
+      tight_bounds_hold model valid chain within bounds (get_or-map (tight_chain_answer_of model) model.chains chain no_chain (Late 0) within ∙ is),
+      shows_walk model chain bounds is,
+    );
+  }
+
+  -- a task that isn't called late always finishes within its deadline
+  in_deadline : (task : ℕ) → task < length model.tasks → is_late (answer_at (tight_answers_of (system_of model)) task) ≡ false
+      → AlwaysFinishesWithin (system_of model) task (timing_at (system_of model) task).deadline
+  in_deadline task within timely run legal =
+      let is = timely_task model valid task within timely in
+      let early = is.by_deadline in
+      record {
+        each = λ job known lasts.
+            let (finish, finishes, soon) = (is.always run legal).each job known (omega (arith, early, lasts)) in
+            (finish, finishes, omega (arith, early, soon));
+      }
+
+  rightly_late : AreRightlyLate model
+  rightly_late = record {
+    late = λ task within is. late_question (tight_question_of (system_of model) (timing_at (system_of model) task)) (sym (ap is_late (tight_answer_is model task within)) ∙ is);
+    timely = in_deadline;
+  }
+
+  pub safe_explanation : (text : List ℕ) → text ≡ explanation model → IsSafeExplanation model text
+  safe_explanation text is = record { printed = is; safe = safely_explained }
+
+  pub safe_acceptance : (text : List ℕ) → text ≡ accepted_text model → IsSafeAcceptance model text
+  safe_acceptance text is = record { printed = is; late = rightly_late }
