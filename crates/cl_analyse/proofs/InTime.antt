@@ -1,5 +1,5 @@
 -- A valid model none of whose tasks is late meets its deadlines, and is in time where each requirement is met.
-use Rattle.std.proofs.Common.{◌≡◌, ℕ, ◌<◌, true, false, None, List, length, refl, sym, ap, ◌∙◌, subst, arith}
+use Rattle.std.proofs.Common.{◌≡◌, ℕ, ◌<◌, true, false, None, length, refl, ap, ◌∙◌, subst, arith}
 use Rattle.std.specs.Prelude.{All}
 use Rattle.std.proofs.Math.ListN.{length-map}
 use Rattle.cl_model.specs.declared.model.SystemModel.{SystemModel}

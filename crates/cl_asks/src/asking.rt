@@ -2,7 +2,7 @@
 ghost use Rattle.cl_model.specs.Ranges.{IsInRange};
 
 use crate::words::{refused, said, word};
-use crate::{designs, exact_lengths, plain_models, runs, sessions, tables, valid_models};
+use crate::{designs, exact_lengths, phases, plain_models, runs, sessions, tables, valid_models};
 use cl_io::{FetchFault, Shelf, Words};
 use cl_model::{SystemModel, ValidModel};
 use cl_read::read_model;
@@ -123,6 +123,7 @@ fn of_copy(alloc: Global, words: &Words, model: &ValidModel) -> Result<Text, NoM
         "group" => valid_models::group_line(alloc, words, model),
         "table" => tables::table_lines(alloc, words, model),
         "draw" => tables::draw_line(alloc, words, model),
+        "phases" => phases::phases_lines(alloc, model),
         _ => said(alloc, "no such question"),
     }
 }

@@ -6,6 +6,7 @@ mod asking;
 mod designs;
 mod exact_lengths;
 mod job_chains;
+mod phases;
 mod plain_models;
 mod runs;
 mod sessions;

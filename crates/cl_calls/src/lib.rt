@@ -5,6 +5,8 @@
 #[cfg(test)]
 mod access;
 #[cfg(test)]
+mod cycles;
+#[cfg(test)]
 mod generated_models;
 #[cfg(test)]
 mod lanes;

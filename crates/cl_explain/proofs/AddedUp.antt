@@ -25,7 +25,7 @@ use Rattle.cl_bound.specs.Bounds.{Lengths, AreBoundsOf}
 use Rattle.cl_explain.specs.Parts.{time_above, time_over}
 use Rattle.cl_explain.specs.Promises.{sum_of_parts, AddUpToResponse, AddUpPastDeadline, AddUpToBounds}
 use Rattle.cl_explain.proofs.SettledWindows.{settled_window, settled_response, late_window}
-use Rattle.cl_explain.proofs.TightTasks.{answer_is}
+use Rattle.cl_explain.proofs.AnswersByNumber.{answer_is}
 
 -- what the tasks above a task take, as the demand counts it
 abbrev taken_in : (width : ℕ) → Above → ℕ

@@ -4,10 +4,12 @@ pub mod TasksByNumber
 pub mod Blockers
 pub mod MarkedLabels
 pub mod SettledWindows
-pub mod TightTasks
+pub mod AnswersByNumber
 pub mod PartsOfTasks
 pub mod AddedUp
 pub mod LongestWalk
 pub mod LateChains
 pub mod WalksWithin
+pub mod Unanswered
+pub mod NoResponses
 pub mod SafelyExplained

@@ -17,7 +17,7 @@ use Rattle.cl_phase.specs.declared.stop.Stop.{Stop}
 use Rattle.cl_phase.specs.Pace.{previous}
 use Rattle.cl_phase.specs.TightAnswers.{tight_response}
 use Rattle.cl_phase.specs.Walks.{pace_at, last_place, onward, back}
-use Rattle.cl_phase.specs.TightBounds.{stops_of, span_of, slowest, hyperperiod_in, starts, ticks_of, length_from, bounds_from, tight_bounds}
+use Rattle.cl_phase.specs.TightBounds.{stops_of, span_of, slowest, hyperperiod_in, starts, ticks_or_none, length_from, bounds_from, tight_bounds}
 use Rattle.cl_phase.specs.Walked.{start_among, walk_start, missed, taken, walked_of}
 use Rattle.cl_analyse.specs.declared.findings.ChainAnswer.TheVariants.{Bounds}
 use Rattle.cl_analyse.specs.ChainAnswers.{chain_answer}
@@ -47,21 +47,21 @@ attained f r a (x ∷ xs) below is =
     lesser : (a n r : ℕ) → a < r → max a n ≤ r → (n ≡ r → ⊥) → max a n < r
     lesser a n r below up differ = omega (arith, below, up, differ)
 
-long_as : (z : ℤ) (r : ℕ) → 1 ≤ r → ticks_of z ≡ r → z ≡ pos r
+long_as : (z : ℤ) (r : ℕ) → 1 ≤ r → ticks_or_none z ≡ r → z ≡ pos r
 long_as (pos n) r some is = ap pos is
 long_as (negsuc n) r some is = absurd (omega (arith, some, is))
 
 -- ---- the walk
 
 module _ (stops : List Stop) (span : ℤ) (place reaction : ℕ) (some : 1 ≤ reaction)
-    (is : greatest_by (λ arrival. ticks_of (length_from stops span place (pos arrival))) (starts (pace_at stops place) (hyperperiod_in stops)) ≡ reaction) where
+    (is : greatest_by (λ arrival. ticks_or_none (length_from stops span place (pos arrival))) (starts (pace_at stops place) (hyperperiod_in stops)) ≡ reaction) where
   abbrev start : ℤ
   start = pos (walk_start stops span place reaction)
 
   start_lasts : length_from stops span place start ≡ pos reaction
   unfolding start_among
   start_lasts = long_as (length_from stops span place start) reaction some
-      (attained (λ arrival. ticks_of (length_from stops span place (pos arrival))) reaction 0 (starts (pace_at stops place) (hyperperiod_in stops)) some is)
+      (attained (λ arrival. ticks_or_none (length_from stops span place (pos arrival))) reaction 0 (starts (pace_at stops place) (hyperperiod_in stops)) some is)
 
   abbrev missing : ℕ → ℤ
   missing group = back stops place (previous (pace_at stops place) start) (place - group)

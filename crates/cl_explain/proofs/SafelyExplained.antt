@@ -1,22 +1,18 @@
 -- What an explanation shows is safe, and which tasks are called late.
-use Rattle.std.proofs.Common.{◌≡◌, ℕ, ◌+◌, ◌<◌, ◌≤◌, true, false, List, length, sym, ap, ◌∙◌, subst, arith}
+use Rattle.std.proofs.Common.{◌≡◌, ℕ, ◌<◌, false, List, length, ◌∙◌, subst, arith}
 use Rattle.std.proofs.lemmas.List.{get_or-map}
 use Rattle.cl_model.specs.declared.model.SystemModel.{SystemModel}
-use Rattle.cl_model.specs.ByNumber.{no_chain, chain_at}
-use Rattle.cl_model.specs.Groups.{groups_at}
+use Rattle.cl_model.specs.ByNumber.{no_chain}
 use Rattle.cl_model.specs.Validity.{IsValid}
 use Rattle.cl_runs.specs.TaskTiming.{timing_at}
 use Rattle.cl_runs.specs.SystemOf.{system_of}
+use Rattle.cl_runs.proofs.ModelSystem.{count_is, system_sound}
 use Rattle.cl_runs.specs.Responses.{AlwaysFinishesWithin}
-use Rattle.cl_resp.specs.Question.{tight_question_of}
-use Rattle.cl_resp.specs.Response.{HasNoFixpoint}
-use Rattle.cl_bound.specs.declared.answer.TaskAnswer.TheVariants as answer
 use Rattle.cl_bound.specs.declared.group_timing.GroupTiming.{GroupTiming}
-use Rattle.cl_bound.specs.Answers.{answers_of, answer_at, is_late}
-use Rattle.cl_bound.specs.Bounds.{Lengths, AreBoundsOf}
-use Rattle.cl_phase.specs.TightAnswers.{tight_answers_of, tight_response}
-use Rattle.cl_analyse.specs.declared.findings.ChainAnswer.TheVariants.{Bounds, Late}
-use Rattle.cl_analyse.proofs.LateTasks.{late_question}
+use Rattle.cl_bound.specs.Answers.{answer_at, is_late}
+use Rattle.cl_bound.specs.Bounds.{AreBoundsOf}
+use Rattle.cl_phase.specs.TightAnswers.{tight_answers_of}
+use Rattle.cl_analyse.specs.declared.findings.ChainAnswer.TheVariants.{Late}
 use Rattle.cl_analyse.proofs.SafeFindings.{responses_hold, bounds_hold, bounds_found, answer_of_chain}
 use Rattle.cl_tight.specs.TightFindings.{tight_chain_answer_of}
 use Rattle.cl_tight.proofs.TightChains.{timely_task, tight_bounds_hold}
@@ -25,7 +21,7 @@ use Rattle.cl_explain.specs.Explanation.{explanation}
 use Rattle.cl_explain.specs.Promises.{IsSafelyExplained, IsSafeExplanation, AreRightlyLate, IsSafeAcceptance}
 use Rattle.cl_explain.proofs.AddedUp.{settled_parts, late_parts, groups_sum}
 use Rattle.cl_explain.proofs.LongestWalk.{shows_walk}
-use Rattle.cl_explain.proofs.TightTasks.{tight_answer_is}
+use Rattle.cl_explain.proofs.NoResponses.{late_by_phase}
 
 module _ (model : SystemModel) (valid : IsValid model) where
   safely_explained : IsSafelyExplained model
@@ -55,7 +51,7 @@ module _ (model : SystemModel) (valid : IsValid model) where
 
   rightly_late : AreRightlyLate model
   rightly_late = record {
-    late = λ task within is. late_question (tight_question_of (system_of model) (timing_at (system_of model) task)) (sym (ap is_late (tight_answer_is model task within)) ∙ is);
+    late = λ task within is. late_by_phase (system_of model) (system_sound model valid) task (omega (arith, within, count_is model)) is;
     timely = in_deadline;
   }
 

@@ -54,7 +54,7 @@ abbrev pub overloaded_line : SystemModel → (core : ℕ) → List ℕ
 overloaded_line model core =
     cond (nat_lt MILLION (sure_load (system_of model) core)) (line (codes "overloaded " ++ (core_at model core).name)) []
 
--- a task that is late by tight responses
+-- a task that is late by phases
 abbrev pub late_task_line : SystemModel → (task : ℕ) → List ℕ
 late_task_line model task = cond (is_late (answer_at (tight_answers_of (system_of model)) task)) (line (codes "late " ++ (task_at model task).name)) []
 

@@ -1,5 +1,5 @@
 -- What an explanation promises: its numbers hold in every legal run, and add up. Times are in ticks.
-use Rattle.std.specs.Prelude.{◌≡◌, ℕ, ◌+◌, ◌-◌, ◌<◌, ◌≤◌, true, false, ℤ, pos, ◌+ℤ◌, ◌-ℤ◌, List, ◌∷◌, length, filter, sum_by, slice_index_or}
+use Rattle.std.specs.Prelude.{◌≡◌, ℕ, ◌+◌, ◌-◌, ◌<◌, ◌≤◌, true, false, None, ℤ, pos, ◌+ℤ◌, ◌-ℤ◌, List, ◌∷◌, length, filter, sum_by, slice_index_or}
 use Rattle.cl_model.specs.declared.group.Group.{Group}
 use Rattle.cl_model.specs.declared.model.SystemModel.{SystemModel}
 use Rattle.cl_model.specs.ByNumber.{chain_at}
@@ -8,7 +8,9 @@ use Rattle.cl_runs.specs.SystemOf.{system_of}
 use Rattle.cl_runs.specs.Responses.{AlwaysFinishesWithin}
 use Rattle.cl_runs.specs.TaskTiming.{System, timing_at}
 use Rattle.cl_runs.specs.Priorities.{is_above}
-use Rattle.cl_resp.specs.Question.{question_of, tight_question_of}
+use Rattle.cl_resp.specs.Asked.{AnswersWithin}
+use Rattle.cl_resp.specs.ByPhase.{asked_by_phase, response_by_phase}
+use Rattle.cl_resp.specs.Question.{greatest_execution, question_of, tight_question_of}
 use Rattle.cl_resp.specs.Response.{Response, HasNoFixpoint}
 use Rattle.cl_bound.specs.declared.answer.TaskAnswer.TheVariants as answer
 use Rattle.cl_bound.specs.Answers.{answers_of, answer_at, is_late}
@@ -56,7 +58,7 @@ pub record LastsAsLong (missed taken : List ℤ) (span : ℤ) (reaction : ℕ) :
   pub takes : 0 < length taken
   pub lasts : pos reaction ≡ ((slice_index_or taken (length taken - 1) (pos 0) -ℤ slice_index_or missed 0 (pos 0)) +ℤ span)
 
--- so it is for groups of a system, whose tight reaction is more than 0
+-- so it is for groups of a system, where the reaction is 1 or more
 abbrev pub ShowsItsWalk : System → (groups : List Group) → (reaction : ℕ) → Type 0
 ShowsItsWalk system groups reaction =
     let walk = walked_of system groups reaction in
@@ -67,7 +69,7 @@ ShowsItsWalk system groups reaction =
 -- What an explanation shows of a model is safe. In every legal run, of any length, each job of a settled task finishes
 -- within its response, and each bound, plain or tight, is at least the length of every complete chain of its kind. The
 -- parts of a task add up to its response, or past its deadline; those of a chain to its bounds; and the walk that is shown
--- lasts as long as the tight reaction.
+-- lasts as long as the tight reaction, where the reaction is 1 or more.
 pub record IsSafelyExplained (model : SystemModel) : Type 0 where
   pub responses : (task : ℕ) (response : Response) → task < length model.tasks
       → answer_at (answers_of (system_of model)) task ≡ answer.Settled response
@@ -88,11 +90,19 @@ pub record IsSafeExplanation (model : SystemModel) (text : List ℕ) : Type 0 wh
   pub printed : text ≡ explanation model
   pub safe : IsSafelyExplained model
 
--- What is known of an accepted model's tasks: one that is called late has no response within its deadline by its tight
--- question, and each other always finishes within its deadline.
+-- A task has no response by phases: within no number of ticks from 1 up to its deadline are all of its arrivals answered,
+-- where the tasks above it take what their phases allow. So its tight question, which knows no phases, has no fixpoint.
+pub record HasNoResponse (system : System) (task : ℕ) : Type 0 where
+  pub by_phase : response_by_phase system task ≡ None
+  pub unanswered : (response : ℕ) → 1 ≤ response → response ≤ (timing_at system task).deadline
+      → AnswersWithin (asked_by_phase system task (greatest_execution (timing_at system task))) response → ⊥
+  pub no_fixpoint : HasNoFixpoint (tight_question_of system (timing_at system task))
+
+-- what is known of an accepted model's tasks: one that is called late has no response within its deadline by phases, and
+-- each other always finishes within its deadline
 pub record AreRightlyLate (model : SystemModel) : Type 0 where
   pub late : (task : ℕ) → task < length model.tasks → is_late (answer_at (tight_answers_of (system_of model)) task) ≡ true
-      → HasNoFixpoint (tight_question_of (system_of model) (timing_at (system_of model) task))
+      → HasNoResponse (system_of model) task
   pub timely : (task : ℕ) → task < length model.tasks → is_late (answer_at (tight_answers_of (system_of model)) task) ≡ false
       → AlwaysFinishesWithin (system_of model) task (timing_at (system_of model) task).deadline
 

@@ -10,11 +10,10 @@ ghost use Rattle.cl_explain.specs.Accepted.{overloaded_line, late_task_line, all
 
 use crate::labels::{LabelUse, Marks, put_labels, put_named};
 use crate::loads::{MILLION, load_of_core};
-use cl_analyse::answer_question;
 use cl_model::{StimulusDef, StimulusKind, TaskDef, ValidModel};
 use cl_report::put_name;
-use cl_resp::ask_tight;
 use cl_text::Text;
+use cl_tight::answer_by_phase;
 use cl_time::{NoMemory, Steps};
 use std::alloc::Global;
 use std::sync::ledger::Ledger;
@@ -22,11 +21,11 @@ use std::sync::ledger::Ledger;
 /// Builds the text on an accepted model: a title, and the line `accepted`; the labels that are only
 /// read, those that are only written, and those that are neither; the cores whose tasks take more
 /// than all of their time, even with each task's load rounded down; the tasks that are late by
-/// tight responses; and, for each sporadic stimulus, its first task paired with each of its other
-/// tasks, since the jobs of the two don't arrive together. Each kind of line is in file order.
+/// phases; and, for each sporadic stimulus, its first task paired with each of its other tasks,
+/// since the jobs of the two don't arrive together. Each kind of line is in file order.
 ///
 /// It counts at most a step for each task. `NoMemory` comes where there is no memory for the names,
-/// the text or a question; it leaves nothing.
+/// the text or a list of tasks; it leaves nothing.
 pub fn accepted<L: Ledger>(
     alloc: Global,
     model: &ValidModel,
@@ -90,8 +89,8 @@ fn put_if_overloaded(text: &mut Text, model: &ValidModel, core: u32) -> Result<(
     }
 }
 
-/// Puts the lines of the tasks that are late by tight responses, in file order. Counts at most a
-/// step for each task.
+/// Puts the lines of the tasks that are late by phases, in file order. Counts at most a step for
+/// each task.
 fn put_late<L: Ledger>(
     alloc: Global,
     text: &mut Text,
@@ -108,7 +107,7 @@ fn put_late<L: Ledger>(
     Ok(())
 }
 
-/// Checks whether a task is late by its tight response. Counts at most one step.
+/// Checks whether a task is late by phases. Counts at most one step.
 fn is_late<L: Ledger>(
     alloc: Global,
     model: &ValidModel,
@@ -120,11 +119,10 @@ fn is_late<L: Ledger>(
         (λ late. late ≡ is_late (answer_at (tight_answers_of (system_of model.now)) task)) }
     ensures steps { steps.new ≤ steps.old + 1 }
 {
-    let question = ask_tight(alloc, model, task)?;
-    Ok(answer_question(&question, steps).is_late())
+    Ok(answer_by_phase(alloc, model, task, steps)?.is_late())
 }
 
-/// Puts the line of a task if it is late by its tight response. Counts at most one step.
+/// Puts the line of a task if it is late by phases. Counts at most one step.
 fn put_if_late<L: Ledger>(
     alloc: Global,
     text: &mut Text,

@@ -4,7 +4,9 @@ ghost use Rattle.std.specs.List.{flat_map, range_with_len};
 ghost use Rattle.cl_model.specs.ByNumber.{chain_at};
 ghost use Rattle.cl_model.specs.Validity.{IsValid};
 ghost use Rattle.cl_runs.specs.SystemOf.{system_of};
-ghost use Rattle.cl_bound.specs.Answers.{answers_of, answer_at};
+ghost use Rattle.cl_resp.specs.Question.{IsQuestionInRange};
+ghost use Rattle.cl_resp.specs.Response.{response_to};
+ghost use Rattle.cl_bound.specs.Answers.{answer_with, answers_of, answer_at};
 ghost use Rattle.cl_phase.specs.TightAnswers.{tight_answers_of};
 ghost use Rattle.cl_analyse.specs.ChainAnswers.{chain_answer_of};
 ghost use Rattle.cl_explain.specs.Explanation.{core_line, task_lines_of, lines_where_bounded, report_lines_of, chain_lines_of, explanation};
@@ -14,12 +16,13 @@ use crate::loads::{MILLION, load_of_core};
 use crate::numbers::put_wide;
 use crate::parts::put_parts;
 use crate::tight::put_tight;
-use cl_analyse::{ChainAnswer, answer_chain, answer_question};
+use cl_analyse::{ChainAnswer, answer_chain};
 use cl_bound::TaskAnswer;
 use cl_model::{List, ValidModel};
 use cl_report::{put_chain, put_name, put_task};
-use cl_resp::{ask, ask_tight, settle};
+use cl_resp::{Question, ask, settle};
 use cl_text::Text;
+use cl_tight::answer_tightly;
 use cl_time::{NoMemory, Steps};
 use std::alloc::Global;
 use std::sync::ledger::Ledger;
@@ -29,11 +32,10 @@ use std::sync::ledger::Ledger;
 /// deadline; and the line of each chain, followed by the groups and hops that add up to its bounds,
 /// and by its tight bounds with the arrivals of a walk that lasts as long as the one on its
 /// reaction. A chain with a late task has no lines of groups and hops, and one with a task that is
-/// late by tight responses no lines of tight bounds. Cores, tasks and chains are each in file
-/// order.
+/// late by phases no lines of tight bounds. Cores, tasks and chains are each in file order.
 ///
 /// It counts at most a step for each task and one for each chain. `NoMemory` comes where there is
-/// no memory for the answers, the text or a question; it leaves nothing.
+/// no memory for the answers, the text, a question or a list of tasks; it leaves nothing.
 pub fn explain<L: Ledger>(
     alloc: Global,
     model: &ValidModel,
@@ -45,8 +47,8 @@ pub fn explain<L: Ledger>(
     let mut text = Text::new(alloc);
     text.put(b"chainlat explain 1\n")?;
     put_cores(&mut text, model)?;
-    let settled = put_tasks(alloc, &mut text, model, steps)?;
-    let tight = tight_answers(alloc, model)?;
+    let settled = put_tasks(alloc, &mut text, model)?;
+    let tight = answer_tightly(alloc, model, steps)?;
     put_chains(alloc, &mut text, model, &settled, &tight, steps)?;
     Ok(text)
 }
@@ -78,68 +80,51 @@ fn put_core(text: &mut Text, model: &ValidModel, core: u32) -> Result<(), NoMemo
     text.put(b"\n")
 }
 
-/// Puts the lines of all tasks and returns the answers for them, both in file order. Counts at most
-/// a step for each task.
-fn put_tasks<L: Ledger>(
+/// Puts the lines of all tasks and returns the answers for them, both in file order. Counts no
+/// step.
+fn put_tasks(
     alloc: Global,
     text: &mut Text,
     model: &ValidModel,
-    steps: &mut Steps<L>,
 ) -> Result<List<TaskAnswer>, NoMemory>
     ensures answers { IfOk result (λ answers. answers ≡ answers_of (system_of model.now)) }
     ensures text { OnOk result
         (text.new ≡ text.old ++ flat_map (task_lines_of model.now) (range_with_len 0 (length model.now.tasks))) }
-    ensures steps { steps.new ≤ steps.old + length model.now.tasks }
 {
     let mut answers = List::new(alloc);
     for task in 0..model.tasks() {
-        answers.push(put_task_parts(alloc, text, model, task, steps)?)?;
+        answers.push(put_task_parts(alloc, text, model, task)?)?;
     }
     Ok(answers)
 }
 
-/// Puts the lines of a task and returns the answer for it. Counts at most one step.
-fn put_task_parts<L: Ledger>(
+/// Puts the lines of a task and returns the answer for it. Counts no step.
+fn put_task_parts(
     alloc: Global,
     text: &mut Text,
     model: &ValidModel,
     task: u32,
-    steps: &mut Steps<L>,
 ) -> Result<TaskAnswer, NoMemory>
     requires { task < length model.now.tasks }
     ensures answer { IfOk result
         (λ answer. answer ≡ answer_at (answers_of (system_of model.now)) task) }
     ensures text { OnOk result (text.new ≡ text.old ++ task_lines_of model.now task) }
-    ensures steps { steps.new ≤ steps.old + 1 }
 {
     let question = ask(alloc, model, task)?;
-    let answer = answer_question(&question, steps);
+    let answer = answer_to(&question);
     put_task(text, model, &answer, task)?;
     put_parts(text, model, task, &question, &answer)?;
     Ok(answer)
 }
 
-/// Answers the tight questions of all tasks, in file order. Counts no step.
-fn tight_answers(alloc: Global, model: &ValidModel) -> Result<List<TaskAnswer>, NoMemory>
-    ensures { IfOk result (λ answers. answers ≡ tight_answers_of (system_of model.now)) }
+/// Answers the question of a task. Counts no step.
+fn answer_to(question: &Question) -> TaskAnswer
+    requires { IsQuestionInRange question.now }
+    ensures { result ≡ answer_with (response_to question.now) }
 {
-    let mut answers = List::new(alloc);
-    for task in 0..model.tasks() {
-        answers.push(tight_answer(alloc, model, task)?)?;
-    }
-    Ok(answers)
-}
-
-/// Answers the tight question of a task. Counts no step.
-fn tight_answer(alloc: Global, model: &ValidModel, task: u32) -> Result<TaskAnswer, NoMemory>
-    requires { task < length model.now.tasks }
-    ensures { IfOk result
-        (λ answer. answer ≡ answer_at (tight_answers_of (system_of model.now)) task) }
-{
-    let question = ask_tight(alloc, model, task)?;
-    match settle(&question) {
-        Ok(settled) => Ok(TaskAnswer::Settled(settled)),
-        Err(_) => Ok(TaskAnswer::Late),
+    match settle(question) {
+        Ok(settled) => TaskAnswer::Settled(settled),
+        Err(_) => TaskAnswer::Late,
     }
 }
 

@@ -68,8 +68,8 @@ pub fn explanations_are_safe()
         → IsSafeExplanation model text }
 {}
 
-/// A task of a valid model that is called late has no response within its deadline by its tight
-/// question, and each other always finishes within its deadline.
+/// A task of a valid model that is called late has no response within its deadline by phases, and
+/// each other always finishes within its deadline.
 pub fn late_tasks_have_no_response()
     ensures { (model : SystemModel) → IsValid model → (text : List ℕ) → text ≡ accepted_text model
         → IsSafeAcceptance model text }

@@ -72,8 +72,8 @@ fn put_arrivals(
 }
 
 /// Puts the lines of the walk that `walk_lasting` finds for `reaction` ticks, along a chain none of
-/// whose tasks is late by tight responses: the arrivals of the jobs that just miss the input, then
-/// those of the jobs that take it.
+/// whose tasks is late by phases: the arrivals of the jobs that just miss the input, then those of
+/// the jobs that take it.
 fn put_walk(
     alloc: Global,
     text: &mut Text,
@@ -110,8 +110,8 @@ fn put_tight_bounds(
     text.put(b"\n")
 }
 
-/// Puts the lines of the tight bounds of a chain none of whose tasks is late by tight responses,
-/// and those of a walk that lasts as long as the bound on its reaction.
+/// Puts the lines of the tight bounds of a chain none of whose tasks is late by phases, and those
+/// of a walk that lasts as long as the bound on its reaction.
 fn put_bounded(
     alloc: Global,
     text: &mut Text,
@@ -132,7 +132,7 @@ fn put_bounded(
 }
 
 /// Puts the lines of the tight bounds of a chain and of its walk, if none of its tasks is late by
-/// tight responses.
+/// phases.
 pub(crate) fn put_tight(
     alloc: Global,
     text: &mut Text,

@@ -7,23 +7,23 @@ use Rattle.cl_phase.specs.declared.stop.Stop.{Stop}
 use Rattle.cl_phase.specs.declared.walk.Longest.{Longest}
 use Rattle.cl_phase.specs.Walks.{pace_at}
 use Rattle.cl_phase.specs.TightBounds.{hyperperiod_in, starts, bounds_from, slowest, stops_of, span_of, tight_bounds}
-use Rattle.cl_phase.specs.Inner.Longest.{longest_of}
+use Rattle.cl_phase.specs.Inner.Longest.{longest_walk}
 
 abbrev lengths_of : Longest → Lengths
 lengths_of longest = record { reaction = longest.length; age = longest.length; reduced = longest.reduced }
 
 from_place : (stops : List Stop) (span : ℤ) (place : ℕ)
-    → lengths_of (longest_of stops span place (starts (pace_at stops place) (hyperperiod_in stops))) ≡ bounds_from stops span place
+    → lengths_of (longest_walk stops span place (starts (pace_at stops place) (hyperperiod_in stops))) ≡ bounds_from stops span place
 unfolding bounds_from
 from_place stops span place = refl
 
 pub bounds_by_walks : (system : System) (responses : ℕ → ℕ) (groups : List Group) (stops : List Stop) (span : ℤ) (place ticks : ℕ) (longest : Longest)
     → stops ≡ stops_of system responses groups → span ≡ span_of system responses groups → place ≡ slowest stops → ticks ≡ hyperperiod_in stops
-    → longest ≡ longest_of stops span place (starts (pace_at stops place) ticks) → lengths_of longest ≡ tight_bounds system responses groups
+    → longest ≡ longest_walk stops span place (starts (pace_at stops place) ticks) → lengths_of longest ≡ tight_bounds system responses groups
 unfolding tight_bounds
 bounds_by_walks system responses groups stops span place ticks longest stops_are span_is place_is ticks_is is =
     ap lengths_of is
-    ∙ ap (λ n. lengths_of (longest_of stops span place (starts (pace_at stops place) n))) ticks_is
+    ∙ ap (λ n. lengths_of (longest_walk stops span place (starts (pace_at stops place) n))) ticks_is
     ∙ from_place stops span place
     ∙ ap (bounds_from stops span) place_is
     ∙ ap (λ z. bounds_from stops z (slowest stops)) span_is

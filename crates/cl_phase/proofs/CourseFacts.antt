@@ -31,7 +31,7 @@ use Rattle.cl_phase.specs.Inner.Keeping.{AreKept, AreKeptIn, IsBeside}
 use Rattle.cl_phase.specs.Inner.Course.{tight_timing, lag_from, next_from}
 use Rattle.cl_phase.proofs.SlowestGroups.{pace_of}
 use Rattle.cl_phase.proofs.KeptAfter.{phase_in, kept_after, after_more, phase_of_pace, kept_in}
-use Rattle.cl_phase.proofs.Hyperperiods.{HasPeriod, hyperperiod_positive}
+use Rattle.cl_stim.proofs.Hyperperiods.{HasPeriod, hyperperiod_positive}
 
 -- a group on its walks whose numbers are those of a valid model
 pub record IsStopInRange (stop : Stop) : Type 0 where

@@ -11,9 +11,9 @@ use Rattle.cl_model.specs.declared.limits.TheConstants.{MOST_TICKS}
 use Rattle.cl_stim.specs.declared.phase.Phase.{Phase}
 use Rattle.cl_stim.specs.Phase.{IsPhaseInRange, arrivals_in}
 use Rattle.cl_phase.specs.declared.pace.TheConstants.{MOST_ARRIVALS}
-use Rattle.cl_phase.specs.Inner.Ranges.{MOST_HYPERPERIOD}
+use Rattle.cl_phase.specs.Inner.Ranges.{LONGEST_HYPERPERIOD}
 use Rattle.cl_phase.specs.Inner.Keeping.{fewest_in}
-use Rattle.cl_phase.proofs.Hyperperiods.{Divides}
+use Rattle.cl_stim.proofs.Hyperperiods.{Divides}
 
 -- whether one of the phases has few arrivals
 abbrev pub some_has_few : (ticks most : ℕ) → List Phase → Bool
@@ -61,7 +61,7 @@ module _ (phase : Phase) (is : IsPhaseInRange phase) (ticks : ℕ) where
       )
 
   -- and many in a long hyperperiod
-  pub arrivals_many : phase.period ∣ ticks → MOST_HYPERPERIOD < ticks → MOST_ARRIVALS < arrivals_in ticks phase
+  pub arrivals_many : phase.period ∣ ticks → LONGEST_HYPERPERIOD < ticks → MOST_ARRIVALS < arrivals_in ticks phase
   arrivals_many divides long =
       let turns = ticks / phase.period in
       let whole : turns * phase.period ≡ ticks = div-mul_cancel phase.period divides in
@@ -84,7 +84,7 @@ least_longer arrivals fewest times fits = elim (cases_lt arrivals fewest) [
 
 -- so with the fewest of them
 pub fewest_longer : (ticks times : ℕ) (phases : List Phase) → 1 ≤ times → All IsPhaseInRange phases → All (Divides ticks) phases
-    → ticks * times ≤ MOST_HYPERPERIOD → fewest_in (ticks * times) phases ≡ min (fewest_in ticks phases * times) (2 ^ 64 - 1)
+    → ticks * times ≤ LONGEST_HYPERPERIOD → fewest_in (ticks * times) phases ≡ min (fewest_in ticks phases * times) (2 ^ 64 - 1)
 fewest_longer ticks times [] some are divide short = omega (arith, mul-le (2 ^ 64 - 1) 1 (2 ^ 64 - 1) times (omega arith) some)
 fewest_longer ticks times (phase ∷ phases) some are divide short =
     let is = All-head IsPhaseInRange phase phases are in
@@ -96,7 +96,7 @@ fewest_longer ticks times (phase ∷ phases) some are divide short =
     ap (λ n. min n (fewest_in (ticks * times) phases)) here ∙ ap (min (arrivals_in ticks phase * times)) there
     ∙ least_longer (arrivals_in ticks phase) (fewest_in ticks phases) times fits
 
-pub none_has_few : (ticks : ℕ) (phases : List Phase) → All IsPhaseInRange phases → All (Divides ticks) phases → MOST_HYPERPERIOD < ticks
+pub none_has_few : (ticks : ℕ) (phases : List Phase) → All IsPhaseInRange phases → All (Divides ticks) phases → LONGEST_HYPERPERIOD < ticks
     → some_has_few ticks MOST_ARRIVALS phases ≡ false
 none_has_few ticks [] are divide long = refl
 none_has_few ticks (phase ∷ phases) are divide long =

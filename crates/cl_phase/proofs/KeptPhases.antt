@@ -12,16 +12,16 @@ use Rattle.cl_model.specs.Ranges.{IsKindInRange}
 use Rattle.cl_model.specs.Timing.{IsKindOrdered, greatest_distance}
 use Rattle.cl_stim.specs.declared.phase.Phase.{Phase}
 use Rattle.cl_stim.specs.Phase.{IsPhaseInRange, phase_of, arrivals_in}
-use Rattle.cl_stim.specs.Multiples.{common_multiple}
+use Rattle.cl_stim.specs.Multiples.{common_multiple, hyperperiod_of}
 use Rattle.cl_stim.proofs.Multiples.{common_is_least}
 use Rattle.cl_phase.specs.declared.pace.TheConstants.{MOST_ARRIVALS}
 use Rattle.cl_phase.specs.declared.pace.Pace.TheVariants.{Free}
 use Rattle.cl_phase.specs.declared.keeping.Keeping.{Keeping}
-use Rattle.cl_phase.specs.Kept.{hyperperiod_of, come_round_soon, phase_beside, pace_with, kept_with}
-use Rattle.cl_phase.specs.Inner.Ranges.{MOST_HYPERPERIOD, IsPaceInRange}
+use Rattle.cl_phase.specs.Kept.{come_round_soon, phase_beside, pace_with, kept_with}
+use Rattle.cl_phase.specs.Inner.Ranges.{LONGEST_HYPERPERIOD, IsPaceInRange}
 use Rattle.cl_phase.specs.Inner.Keeping.{fewest_in, AreKept, AreKeptWith, IsBeside}
 use Rattle.cl_phase.proofs.FewestArrivals.{few_by_fewest, fewest_longer, none_has_few}
-use Rattle.cl_phase.proofs.Hyperperiods.{HasPeriod, Divides, hyperperiod_positive, hyperperiod_divided}
+use Rattle.cl_stim.proofs.Hyperperiods.{HasPeriod, Divides, hyperperiod_positive, hyperperiod_divided}
 
 pub have_periods : (phases : List Phase) → All IsPhaseInRange phases → All HasPeriod phases
 have_periods phases are = All-weaker IsPhaseInRange HasPeriod (λ phase is. omega (arith, is.offset)) phases are
@@ -45,13 +45,13 @@ module _ (phase : Phase) (is : IsPhaseInRange phase) (kept : List Phase) (keepin
       (common_is_least phase.period (hyperperiod_of kept) (omega (arith, is.offset)) (hyperperiod_positive kept (have_periods kept are.phases))))
 
   -- where it is too long they don't come round soon
-  pub too_long : (ticks : ℕ) → IsLcm phase.period keeping.hyperperiod ticks → MOST_HYPERPERIOD < ticks → come_round_soon (phase ∷ kept) ≡ false
+  pub too_long : (ticks : ℕ) → IsLcm phase.period keeping.hyperperiod ticks → LONGEST_HYPERPERIOD < ticks → come_round_soon (phase ∷ kept) ≡ false
   too_long ticks least long =
       none_has_few (hyperperiod_of (phase ∷ kept)) (phase ∷ kept) all (hyperperiod_divided (phase ∷ kept) (have_periods (phase ∷ kept) all))
-      (subst (λ n. MOST_HYPERPERIOD < n) (longer_is ticks least) long)
+      (subst (λ n. LONGEST_HYPERPERIOD < n) (longer_is ticks least) long)
 
   -- else the fewest arrivals say whether they do
-  module _ (ticks : ℕ) (least : IsLcm phase.period keeping.hyperperiod ticks) (some : 0 < ticks) (short : ticks ≤ MOST_HYPERPERIOD) where
+  module _ (ticks : ℕ) (least : IsLcm phase.period keeping.hyperperiod ticks) (some : 0 < ticks) (short : ticks ≤ LONGEST_HYPERPERIOD) where
     abbrev times : ℕ
     times = ticks / keeping.hyperperiod
 

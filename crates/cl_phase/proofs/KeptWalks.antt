@@ -13,7 +13,7 @@ use Rattle.cl_phase.specs.declared.pace.Pace.TheVariants.{Kept}
 use Rattle.cl_phase.specs.declared.stop.Stop.{Stop}
 use Rattle.cl_phase.specs.Pace.{IsPace, first_from, last_by}
 use Rattle.cl_phase.specs.Walks.{pace_at}
-use Rattle.cl_phase.specs.TightBounds.{stops_of, hyperperiod_in, slowest, starts, ticks_of, length_from, reduced_from, bounds_from, span_of, tight_bounds}
+use Rattle.cl_phase.specs.TightBounds.{stops_of, hyperperiod_in, slowest, starts, ticks_or_none, length_from, reduced_from, bounds_from, span_of, tight_bounds}
 use Rattle.cl_phase.proofs.StartFacts.{start_within, start_reached}
 use Rattle.cl_phase.proofs.SlowestFacts.{slowest_within, slowest_is_kept}
 use Rattle.cl_phase.proofs.StopFacts.{length_stops, stop_is_pace, stops_step, stops_come_round, stops_hyperperiod}
@@ -34,17 +34,17 @@ kept_leads phase is = record {
 }
 
 -- a number that some ticks are is that integer, where it isn't 0
-ticks_are : (length : ℤ) (number : ℕ) → 1 ≤ number → ticks_of length ≡ number → length ≡ pos number
+ticks_are : (length : ℤ) (number : ℕ) → 1 ≤ number → ticks_or_none length ≡ number → length ≡ pos number
 ticks_are (pos ticks) number some is = ap pos is
 ticks_are (negsuc lacking) number some is = absurd (omega (arith, some, is))
 
 -- so the greatest over all starts, where it bounds all arrivals, is the greatest over them
 over_starts : (phase : Phase) → IsPhase phase → (ticks : ℕ) (value : ℤ → ℤ) (greatest : ℕ)
-    → greatest ≡ greatest_by (λ arrival. ticks_of (value (pos arrival))) (starts (Kept phase) ticks)
+    → greatest ≡ greatest_by (λ arrival. ticks_or_none (value (pos arrival))) (starts (Kept phase) ticks)
     → ((arrival : ℤ) → IsArrivalOf phase arrival → value arrival ≤ℤ pos greatest) → IsGreatestOver (IsArrivalOf phase) value greatest
 over_starts phase is ticks value greatest same above = record {
   above = above;
-  attained = λ some. elim (start_reached phase is ticks (λ arrival. ticks_of (value (pos arrival)))) [
+  attained = λ some. elim (start_reached phase is ticks (λ arrival. ticks_or_none (value (pos arrival)))) [
     | inl reached ↦ record {
       arrival = pos reached.at;
       arrives = reached.holds.arrives;
@@ -81,16 +81,16 @@ module _ (system : System) (sound : IsSound system) (responses : ℕ → ℕ) (g
     arrives_there arrival arrives = subst (λ pace. IsArrivalAt pace arrival) (sym keeps) arrives
 
     reaction_is : (span : ℤ) → (bounds_from stops span place).reaction
-        ≡ greatest_by (λ arrival. ticks_of (length_from stops span place (pos arrival))) (starts (Kept phase) (hyperperiod_in stops))
+        ≡ greatest_by (λ arrival. ticks_or_none (length_from stops span place (pos arrival))) (starts (Kept phase) (hyperperiod_in stops))
     unfolding bounds_from
     reaction_is span =
-        ap (λ pace. greatest_by (λ arrival. ticks_of (length_from stops span place (pos arrival))) (starts pace (hyperperiod_in stops))) keeps
+        ap (λ pace. greatest_by (λ arrival. ticks_or_none (length_from stops span place (pos arrival))) (starts pace (hyperperiod_in stops))) keeps
 
     reduced_is : (span : ℤ) → (bounds_from stops span place).reduced
-        ≡ greatest_by (λ arrival. ticks_of (reduced_from stops span place (pos arrival))) (starts (Kept phase) (hyperperiod_in stops))
+        ≡ greatest_by (λ arrival. ticks_or_none (reduced_from stops span place (pos arrival))) (starts (Kept phase) (hyperperiod_in stops))
     unfolding bounds_from
     reduced_is span =
-        ap (λ pace. greatest_by (λ arrival. ticks_of (reduced_from stops span place (pos arrival))) (starts pace (hyperperiod_in stops))) keeps
+        ap (λ pace. greatest_by (λ arrival. ticks_or_none (reduced_from stops span place (pos arrival))) (starts pace (hyperperiod_in stops))) keeps
 
     pub over_all : (span : ℤ) → AreOverAll stops span place (IsArrivalOf phase)
     over_all span = record {

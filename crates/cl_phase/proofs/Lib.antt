@@ -1,7 +1,6 @@
 pub mod PaceSteps
 pub mod PatternPaces
 pub mod RunPaces
-pub mod Hyperperiods
 pub mod Stepped
 pub mod WalkRanges
 pub mod LongestWalks

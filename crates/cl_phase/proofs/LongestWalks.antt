@@ -5,7 +5,7 @@ use Rattle.std.proofs.lemmas.List.Sums.{fold-append}
 use Rattle.cl_model.specs.Holds.{greatest_by}
 use Rattle.cl_model.specs.declared.limits.TheConstants.{MOST_TICKS}
 use Rattle.cl_stim.specs.declared.phase.Phase.{Phase}
-use Rattle.cl_stim.specs.Phase.{IsPhase, IsPhaseInRange, IsArrivalOf, first_arrival}
+use Rattle.cl_stim.specs.Phase.{IsPhase, IsPhaseInRange, IsArrivalOf, first_arrival, arrives_at}
 use Rattle.cl_stim.proofs.PhaseSteps.{first_arrives, first_after}
 use Rattle.cl_phase.specs.declared.stop.Stop.{Stop}
 use Rattle.cl_phase.specs.declared.walk.Longest.{Longest}
@@ -13,9 +13,9 @@ use Rattle.cl_phase.specs.Pace.{previous}
 use Rattle.cl_phase.specs.Walks.{pace_at, last_place, arrival_at_first, arrival_at_last}
 use Rattle.cl_phase.specs.declared.pace.Pace.TheVariants.{Kept}
 use Rattle.cl_phase.specs.Inner.Ranges.{IsPaceInRange, AreStopsInRange}
-use Rattle.cl_phase.specs.TightBounds.{ticks_of, length_from, reduced_from, arrives_at, starts}
-use Rattle.cl_phase.specs.Inner.Longest.{lengths_at, longer_of, longest_of}
-use Rattle.cl_phase.proofs.StartFacts.{test_from_arrival}
+use Rattle.cl_phase.specs.TightBounds.{ticks_or_none, length_from, reduced_from, starts}
+use Rattle.cl_phase.specs.Inner.Longest.{lengths_at, longer_of, longest_walk}
+use Rattle.cl_stim.proofs.ArrivalTests.{test_from_arrival}
 use Rattle.cl_phase.proofs.ScannedStarts.{none_before_first, starts_at, starts_over}
 
 pub same_longest : (length reduced length' reduced' : ℕ) → length ≡ length' → reduced ≡ reduced'
@@ -25,13 +25,13 @@ same_longest length reduced length' reduced' e f = cc
 -- the lengths of the walks from an arrival, from where they come
 pub lengths_are : (stops : List Stop) (span : ℤ) (place : ℕ) (arrival first last before : ℤ) {length reduced : ℕ} {sum sum' : ℤ}
     → first ≡ arrival_at_first stops place arrival → last ≡ arrival_at_last stops place arrival → before ≡ previous (pace_at stops (last_place stops)) last
-    → length ≡ ticks_of sum → reduced ≡ ticks_of sum' → sum ≡ (last -ℤ first) +ℤ span → sum' ≡ (before -ℤ first) +ℤ span
+    → length ≡ ticks_or_none sum → reduced ≡ ticks_or_none sum' → sum ≡ (last -ℤ first) +ℤ span → sum' ≡ (before -ℤ first) +ℤ span
     → ◌≡◌ {A = Longest} (record { length = length; reduced = reduced }) (lengths_at stops span place arrival)
 lengths_are stops span place arrival first last before e f g h k s t =
     let place' = last_place stops in
     same_longest _ _ _ _
-    (h ∙ ap ticks_of (s ∙ ap (λ l. (l -ℤ first) +ℤ span) f ∙ ap (λ z. (arrival_at_last stops place arrival -ℤ z) +ℤ span) e))
-    (k ∙ ap ticks_of (t ∙ ap (λ l. (l -ℤ first) +ℤ span) (g ∙ ap (previous (pace_at stops place')) f)
+    (h ∙ ap ticks_or_none (s ∙ ap (λ l. (l -ℤ first) +ℤ span) f ∙ ap (λ z. (arrival_at_last stops place arrival -ℤ z) +ℤ span) e))
+    (k ∙ ap ticks_or_none (t ∙ ap (λ l. (l -ℤ first) +ℤ span) (g ∙ ap (previous (pace_at stops place')) f)
     ∙ ap (λ z. (previous (pace_at stops place') (arrival_at_last stops place arrival) -ℤ z) +ℤ span) e))
 
 -- ---- one arrival after the other
@@ -41,20 +41,20 @@ greatest_more number xs x = fold-append (λ greatest n. max greatest (number n))
 
 -- the longest walks with one more arrival
 pub longest_more : (stops : List Stop) (span : ℤ) (place : ℕ) (from : List ℕ) (arrival : ℕ)
-    → longest_of stops span place (from ++ arrival ∷ []) ≡ longer_of (longest_of stops span place from) (lengths_at stops span place (pos arrival))
+    → longest_walk stops span place (from ++ arrival ∷ []) ≡ longer_of (longest_walk stops span place from) (lengths_at stops span place (pos arrival))
 longest_more stops span place from arrival = same_longest _ _ _ _
-    (greatest_more (λ n. ticks_of (length_from stops span place (pos n))) from arrival)
-    (greatest_more (λ n. ticks_of (reduced_from stops span place (pos n))) from arrival)
+    (greatest_more (λ n. ticks_or_none (length_from stops span place (pos n))) from arrival)
+    (greatest_more (λ n. ticks_or_none (reduced_from stops span place (pos n))) from arrival)
 
 -- the same from the arrivals so far and with the next
 longest_step : (stops : List Stop) (span : ℤ) (place : ℕ) (longest : Longest) (before after : List ℕ) (arrival : ℤ) (moment : ℕ)
-    → longest ≡ longest_of stops span place before → arrival ≡ pos moment → after ≡ before ++ moment ∷ []
-    → longer_of longest (lengths_at stops span place arrival) ≡ longest_of stops span place after
+    → longest ≡ longest_walk stops span place before → arrival ≡ pos moment → after ≡ before ++ moment ∷ []
+    → longer_of longest (lengths_at stops span place arrival) ≡ longest_walk stops span place after
 longest_step stops span place longest before after arrival moment was is more =
     ap (λ l. longer_of l (lengths_at stops span place arrival)) was
-    ∙ ap (λ a. longer_of (longest_of stops span place before) (lengths_at stops span place a)) is
+    ∙ ap (λ a. longer_of (longest_walk stops span place before) (lengths_at stops span place a)) is
     ∙ sym (longest_more stops span place before moment)
-    ∙ sym (ap (longest_of stops span place) more)
+    ∙ sym (ap (longest_walk stops span place) more)
 
 -- the longest walks from the arrivals before one, in so many ticks
 pub record IsScannedTo (stops : List Stop) (span : ℤ) (place : ℕ) (phase : Phase) (ticks : ℕ) (longest : Longest) (arrival : ℤ) : Type 0 where
@@ -62,7 +62,7 @@ pub record IsScannedTo (stops : List Stop) (span : ℤ) (place : ℕ) (phase : P
   pub is : arrival ≡ pos moment
   pub found : arrives_at phase (pos moment) ≡ true
   pub near : moment ≤ ticks + MOST_TICKS
-  pub longest_is : longest ≡ longest_of stops span place (starts (Kept phase) (min moment ticks))
+  pub longest_is : longest ≡ longest_walk stops span place (starts (Kept phase) (min moment ticks))
 
 module _ (stops : List Stop) (span : ℤ) (place : ℕ) (phase : Phase) (is : IsPhase phase) (ticks : ℕ) where
   -- a first arrival that isn't before a natural number of ticks
@@ -91,7 +91,7 @@ module _ (stops : List Stop) (span : ℤ) (place : ℕ) (phase : Phase) (is : Is
         is = at_later;
         found = test_from_arrival phase is (pos later) (subst (IsArrivalOf phase) at (first_arrives phase is (pos 0)));
         near = omega (arith, ints, near, at_later);
-        longest_is = sym (ap (longest_of stops span place) (gap 0 later at after ∙ ap (starts (Kept phase)) none));
+        longest_is = sym (ap (longest_walk stops span place) (gap 0 later at after ∙ ap (starts (Kept phase)) none));
       })
 
   -- at its next
@@ -120,10 +120,10 @@ module _ (stops : List Stop) (span : ℤ) (place : ℕ) (phase : Phase) (is : Is
 
   -- and past its last
   pub scan_ends : (longest : Longest) (arrival : ℤ) → IsScannedTo stops span place phase ticks longest arrival → pos ticks ≤ℤ arrival
-      → longest ≡ longest_of stops span place (starts (Kept phase) ticks)
+      → longest ≡ longest_walk stops span place (starts (Kept phase) ticks)
   scan_ends longest arrival scanned past =
       let all : min scanned.moment ticks ≡ ticks = omega (arith, ints, past, scanned.is) in
-      scanned.longest_is ∙ ap (λ n. longest_of stops span place (starts (Kept phase) n)) all
+      scanned.longest_is ∙ ap (λ n. longest_walk stops span place (starts (Kept phase) n)) all
 
 -- a group that keeps a phase keeps one of a valid model
 pub phase_in_range : (stops : List Stop) → AreStopsInRange stops → (place : ℕ) → place < length stops → (phase : Phase) → pace_at stops place ≡ Kept phase

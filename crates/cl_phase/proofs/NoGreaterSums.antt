@@ -15,7 +15,7 @@ use Rattle.cl_bound.proofs.ReactionIsAge.{reaction_is_age}
 use Rattle.cl_phase.specs.declared.stop.Stop.{Stop}
 use Rattle.cl_phase.specs.Pace.{greatest_step}
 use Rattle.cl_phase.specs.Walks.{pace_at, last_place}
-use Rattle.cl_phase.specs.TightBounds.{hyperperiod_in, starts, ticks_of, span_of, length_from, reduced_from, bounds_from}
+use Rattle.cl_phase.specs.TightBounds.{hyperperiod_in, starts, ticks_or_none, span_of, length_from, reduced_from, bounds_from}
 use Rattle.cl_phase.proofs.Stepped.{IsStepped}
 use Rattle.cl_phase.proofs.WalkStarts.{AreStops}
 use Rattle.cl_phase.proofs.RunWalks.{AreStopsOf}
@@ -77,14 +77,14 @@ module _ (system : System) (responses : ℕ → ℕ) (first : Group) (later : Li
     )
 
 -- a number of ticks is at most a natural number that a length is at most
-ticks_within : (length : ℤ) (most : ℕ) → length ≤ℤ pos most → ticks_of length ≤ most
+ticks_within : (length : ℤ) (most : ℕ) → length ≤ℤ pos most → ticks_or_none length ≤ most
 ticks_within (pos n) most h = omega (arith, ints, h)
 ticks_within (negsuc n) most h = omega arith
 
 -- so is the greatest of such lengths
 greatest_ticks : (length : ℤ → ℤ) (most : ℕ) (bound : ℤ) → pos most ≡ bound → ((arrival : ℤ) → length arrival ≤ℤ bound)
-    → (moments : List ℕ) → greatest_by (λ moment. ticks_of (length (pos moment))) moments ≤ most
-greatest_ticks length most bound is each moments = greatest_within (λ moment. ticks_of (length (pos moment))) moments most
+    → (moments : List ℕ) → greatest_by (λ moment. ticks_or_none (length (pos moment))) moments ≤ most
+greatest_ticks length most bound is each moments = greatest_within (λ moment. ticks_or_none (length (pos moment))) moments most
     (λ i d h. ticks_within (length (pos (get_or moments i d))) most (omega (arith, ints, is, each (pos (get_or moments i d)))))
 
 -- the bounds by walks are at most the sums

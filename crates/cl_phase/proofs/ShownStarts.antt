@@ -7,20 +7,20 @@ use Rattle.std.proofs.lemmas.Int.{ints}
 use Rattle.std.proofs.lemmas.List.Folds.{find-append}
 use Rattle.cl_model.specs.declared.limits.TheConstants.{MOST_TICKS}
 use Rattle.cl_stim.specs.declared.phase.Phase.{Phase}
-use Rattle.cl_stim.specs.Phase.{IsPhase, IsArrivalOf, first_arrival}
+use Rattle.cl_stim.specs.Phase.{IsPhase, IsArrivalOf, first_arrival, arrives_at}
 use Rattle.cl_stim.proofs.PhaseSteps.{first_arrives, first_after}
 use Rattle.cl_phase.specs.declared.stop.Stop.{Stop}
 use Rattle.cl_phase.specs.declared.pace.Pace.{Pace}
 use Rattle.cl_phase.specs.declared.pace.Pace.TheVariants.{Kept, Free}
-use Rattle.cl_phase.specs.TightBounds.{ticks_of, length_from, arrives_at, starts}
+use Rattle.cl_phase.specs.TightBounds.{ticks_or_none, length_from, starts}
 use Rattle.cl_phase.specs.Walked.{start_among}
-use Rattle.cl_phase.proofs.StartFacts.{test_from_arrival}
+use Rattle.cl_stim.proofs.ArrivalTests.{test_from_arrival}
 use Rattle.cl_phase.proofs.ScannedStarts.{starts_at, starts_over}
 use Rattle.cl_phase.proofs.LongestWalks.{by_first, gap}
 
 -- whether the walks from an arrival last so long
 abbrev pub lasts : List Stop → (span : ℤ) → (place reaction : ℕ) → (arrival : ℕ) → Bool
-lasts stops span place reaction arrival = ticks_of (length_from stops span place (pos arrival)) == reaction
+lasts stops span place reaction arrival = ticks_or_none (length_from stops span place (pos arrival)) == reaction
 
 -- none of the walks from the arrivals before one do
 pub record IsSearchedTo (stops : List Stop) (span : ℤ) (place : ℕ) (phase : Phase) (ticks reaction : ℕ) (arrival : ℤ) : Type 0 where

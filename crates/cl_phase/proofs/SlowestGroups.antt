@@ -11,7 +11,7 @@ use Rattle.cl_phase.specs.declared.keeping.Keeping.{Keeping}
 use Rattle.cl_phase.specs.Kept.{phases_in}
 use Rattle.cl_phase.specs.Walks.{pace_at}
 use Rattle.cl_phase.specs.TightBounds.{has_no_fewer, is_slowest, slowest, hyperperiod_in}
-use Rattle.cl_phase.specs.Inner.Ranges.{MOST_HYPERPERIOD, IsPaceInRange}
+use Rattle.cl_phase.specs.Inner.Ranges.{LONGEST_HYPERPERIOD, IsPaceInRange}
 use Rattle.cl_phase.specs.Inner.Keeping.{fewest_in, AreKeptIn, arrives_seldom}
 use Rattle.cl_phase.proofs.FewestArrivals.{arrivals_few}
 
@@ -79,7 +79,7 @@ find_none test from (suc len) none =
     ap test same ∙ none (suc before) (omega (arith, below)))
 
 -- in a hyperperiod that isn't too long groups of a valid model have few arrivals
-pub few_arrivals : (ticks : ℕ) → ticks ≤ MOST_HYPERPERIOD → (pace : Pace) → IsPaceInRange pace → HasFewArrivals ticks pace
+pub few_arrivals : (ticks : ℕ) → ticks ≤ LONGEST_HYPERPERIOD → (pace : Pace) → IsPaceInRange pace → HasFewArrivals ticks pace
 few_arrivals ticks short (Kept phase) is = omega (arith, arrivals_few phase is ticks, short)
 few_arrivals ticks short (Free greatest) is = tt
 

@@ -1,38 +1,17 @@
 -- Where walks start: at the arrivals of a phase in so many ticks, and at no other moment.
-use Rattle.std.proofs.Common.{◌≡◌, ℕ, ◌<◌, ◌≤◌, ◌⊎◌, inl, inr, Bool, true, false, cond, max, ℤ, pos, ◌+ℤ◌, ◌-ℤ◌, ◌≤ℤ◌, All, List, [], ◌∷◌, get_or, filter, refl, sym, subst, arith}
+use Rattle.std.proofs.Common.{◌≡◌, ℕ, ◌<◌, ◌≤◌, ◌⊎◌, inl, inr, Bool, true, false, cond, max, pos, All, List, [], ◌∷◌, get_or, filter, refl, sym, subst, arith}
 use Rattle.std.specs.Prelude.{fold}
 use Rattle.std.specs.List.{range_with_len}
-use Rattle.std.proofs.lemmas.Int.{ints}
-use Rattle.std.proofs.lemmas.Bool.{cases_lt, eqb-true, eq-eqb}
+use Rattle.std.proofs.lemmas.Bool.{cases_lt}
 use Rattle.std.proofs.lemmas.List.FromFn.{length-range_with_len, get_or-range_with_len}
 use Rattle.std.proofs.lemmas.List.Elements.{All-head, All-tail, All-cons, All-nil, All-from_get_or, All-weaker}
 use Rattle.cl_model.specs.Holds.{greatest_by}
 use Rattle.cl_model.proofs.Greatest.{greatest_filtered, greatest_within}
 use Rattle.cl_stim.specs.declared.phase.Phase.{Phase}
-use Rattle.cl_stim.specs.Phase.{IsPhase, IsArrivalOf, since_turn, last_in_turn}
-use Rattle.cl_stim.proofs.PhaseSteps.{last_arrives, last_before, last_after}
+use Rattle.cl_stim.specs.Phase.{IsPhase, IsArrivalOf, arrives_at}
+use Rattle.cl_stim.proofs.ArrivalTests.{arrives_from_test, test_from_arrival}
 use Rattle.cl_phase.specs.declared.pace.Pace.TheVariants.{Kept, Free}
-use Rattle.cl_phase.specs.TightBounds.{arrives_at, starts}
-
--- the test whether a job arrives at a moment says so
-module _ (phase : Phase) (is : IsPhase phase) (moment : ℤ) where
-  pub arrives_from_test : arrives_at phase moment ≡ true → IsArrivalOf phase moment
-  arrives_from_test passes = subst (IsArrivalOf phase)
-      (stays moment (since_turn phase moment) (last_in_turn phase (since_turn phase moment)) (eqb-true _ _ passes)) (last_arrives phase is moment)
-    where
-      stays : (moment : ℤ) (since ticks : ℕ) → ticks ≡ since → ((moment -ℤ pos since) +ℤ pos ticks) ≡ moment
-      stays moment since ticks same = omega (arith, ints, same)
-
-  pub test_from_arrival : IsArrivalOf phase moment → arrives_at phase moment ≡ true
-  test_from_arrival arrives = eq-eqb (last_in_turn phase (since_turn phase moment)) (since_turn phase moment)
-      (as_far moment (since_turn phase moment) (last_in_turn phase (since_turn phase moment))
-      (last_before phase is moment) (last_after phase is moment moment arrives (itself moment)))
-    where
-      itself : (a : ℤ) → a ≤ℤ a
-      itself a = omega (arith, ints)
-
-      as_far : (moment : ℤ) (since ticks : ℕ) → ((moment -ℤ pos since) +ℤ pos ticks) ≤ℤ moment → moment ≤ℤ ((moment -ℤ pos since) +ℤ pos ticks) → ticks ≡ since
-      as_far moment since ticks before after = omega (arith, ints, before, after)
+use Rattle.cl_phase.specs.TightBounds.{starts}
 
 -- an element of which something holds has a number
 pub record IsReached {X : Type 0} (P : X → Type 0) (f : X → ℕ) (value : ℕ) : Type 0 where

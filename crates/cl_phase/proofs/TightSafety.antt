@@ -6,7 +6,6 @@ use Rattle.cl_model.specs.declared.group.Group.{Group}
 use Rattle.cl_runs.specs.TaskTiming.{System, IsSound}
 use Rattle.cl_runs.specs.Responses.{IsTimely}
 use Rattle.cl_model.specs.Groups.{no_group}
-use Rattle.cl_resp.proofs.SettledTasks.{execution_in_tight, tight_in_deadline}
 use Rattle.cl_bound.specs.Answers.{answers_of, answer_at, response_in, NoneIsLate}
 use Rattle.cl_bound.specs.Bounds.{Lengths, AreBoundsOf, greatest_reaction, greatest_age, greatest_reduced, settled_timing, bounds_of}
 use Rattle.cl_bound.specs.declared.group_timing.GroupTiming.{GroupTiming}
@@ -25,6 +24,7 @@ use Rattle.cl_phase.proofs.NoGreaterSums.{no_greater_than_sums}
 use Rattle.cl_phase.proofs.SafeRuns.{bounds_at_least}
 use Rattle.cl_phase.proofs.StopsOfGroups.{have_stops}
 use Rattle.cl_phase.proofs.TightTasks.{tight_timely, tight_group}
+use Rattle.cl_phase.proofs.TightTimings.{holds_execution, by_deadline}
 
 -- ---- safe
 
@@ -48,7 +48,7 @@ pub timely_safe : (system : System) → IsSound system → (responses : ℕ → 
 timely_safe system sound responses groups all timely =
     safe_of_timely system sound responses groups all (λ place h. timely place no_group h)
 
--- so over tight responses
+-- so over responses by phases
 pub tight_safe : (system : System) → IsSound system → (groups : List Group) → All (IsGroupOfTask system) groups
     → NoneIsLate (tight_answers_of system) groups → AreSafe system groups (tight_bounds system (tight_response system) groups)
 tight_safe system sound groups all none =
@@ -78,11 +78,11 @@ module _ (system : System) (sound : IsSound system) (groups : List Group) (chain
 
   tight_proper : All IsProper (map tight_timing groups)
   tight_proper = All-map IsProper tight_timing groups (λ place d h.
-      let settled = (tight_group system groups chain place d h).0 in
-      group_proper system sound (tight_response system) _ (chain.groups_of place d h) (omega (arith, execution_in_tight system _ _ settled))
-      (tight_in_deadline system _ _ settled sound))
+      let settled = (tight_group system sound groups chain place d h).0 in
+      group_proper system sound (tight_response system) _ (chain.groups_of place d h) (holds_execution system sound _ _ settled)
+      (by_deadline system sound _ _ settled))
 
-  -- the sums over tight responses
+  -- the sums over responses by phases
   abbrev tight_sums : Lengths
   tight_sums = record {
     reaction = nat_abs (greatest_reaction (map tight_timing groups));
@@ -100,7 +100,7 @@ module _ (system : System) (sound : IsSound system) (groups : List Group) (chain
   tight_sums_no_greater : AreNoGreater tight_sums (bounds_of system groups)
   tight_sums_no_greater = bounds_no_greater tight_timing (settled_timing system) groups
       (λ place d h. writes_no_later system (tight_response system) (λ task. response_in (answer_at (answers_of system) task)) _
-      (tight_group system groups chain place d h).1)
+      (tight_group system sound groups chain place d h).1)
       tight_sums (bounds_of system groups) are_tight_sums (settled_sums system sound groups chain)
 
   -- than the bounds of a settled chain

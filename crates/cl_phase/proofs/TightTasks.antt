@@ -1,16 +1,14 @@
--- Tasks that aren't late by their tight questions: they are tightly settled, so timely, and settled ones are such, with
+-- Tasks that aren't late by phases: they have a response by phases, so are timely, and settled ones are such, with
 -- responses that are no later.
 use Rattle.std.proofs.Common.{◌≡◌, ℕ, ◌<◌, ◌≤◌, false, Option, Some, None, List, length, get_or, refl, sym, ap, ◌∙◌, subst, arith}
 use Rattle.std.specs.Prelude.{All}
 use Rattle.std.proofs.lemmas.Bool.{true≢false}
-use Rattle.std.proofs.lemmas.List.{get_or-map}
+use Rattle.std.proofs.lemmas.List.FromFn.{get_or-map-range_with_len}
 use Rattle.cl_model.specs.declared.group.Group.{Group}
 use Rattle.cl_model.specs.Groups.{no_group, group_at}
-use Rattle.cl_runs.specs.TaskTiming.{System, timing_at, no_timing, IsSound}
-use Rattle.cl_resp.specs.Question.{tight_question_of}
-use Rattle.cl_resp.specs.Response.{Response, response_to, IsSettled, IsTightlySettled}
-use Rattle.cl_resp.proofs.BusyWindowTask.{tightly_timely}
-use Rattle.cl_resp.proofs.LessAsked.{tight_no_later}
+use Rattle.cl_runs.specs.TaskTiming.{System, IsSound}
+use Rattle.cl_resp.specs.ByPhase.{response_by_phase, IsSettledByPhase}
+use Rattle.cl_resp.specs.Response.{Response, IsSettled}
 use Rattle.cl_bound.specs.declared.answer.TaskAnswer.{TaskAnswer}
 use Rattle.cl_bound.specs.declared.answer.TaskAnswer.TheVariants.{Late}
 use Rattle.cl_bound.specs.Answers.{answer_with, is_late, response_in, answer_at, answers_of, NoneIsLate}
@@ -18,6 +16,8 @@ use Rattle.cl_bound.specs.SettledChains.{IsGroupOfTask, IsSettledChain}
 use Rattle.cl_bound.proofs.SettledTasks.{settled_task}
 use Rattle.cl_bound.proofs.ChainBounds.{AreTimely}
 use Rattle.cl_phase.specs.TightAnswers.{tight_answer_to, tight_answers_of, tight_response}
+use Rattle.cl_resp.proofs.AnsweredSooner.{report_by_phase}
+use Rattle.cl_resp.proofs.LeastParts.{settled_timely}
 
 -- the response in an answer that isn't late is the one that it was made with
 answered : (response : Option Response) (answer : TaskAnswer) → answer ≡ answer_with response → is_late answer ≡ false
@@ -29,36 +29,37 @@ answered (Some response) answer is timely = (
 answered None answer is timely = absurd (true≢false (sym (ap is_late is) ∙ timely))
 
 module _ (system : System) (task : ℕ) (is : task < length system.tasks) where
-  tight_answer : answer_at (tight_answers_of system) task ≡ tight_answer_to system (timing_at system task)
+  -- the answer for a task is the one by phases
+  pub phased_answer : answer_at (tight_answers_of system) task ≡ tight_answer_to system task
   unfolding tight_answers_of
-  tight_answer = get_or-map (tight_answer_to system) system.tasks task no_timing Late is
+  phased_answer = get_or-map-range_with_len (tight_answer_to system) 0 (length system.tasks) task task Late is (omega arith)
 
-  -- a task that isn't late by its tight question is tightly settled
-  pub tight_task : is_late (answer_at (tight_answers_of system) task) ≡ false → IsTightlySettled system task (tight_response system task)
+  -- a task that isn't late by phases has a response by phases
+  pub tight_task : is_late (answer_at (tight_answers_of system) task) ≡ false → IsSettledByPhase system task (tight_response system task)
   tight_task timely =
-      let found = answered (response_to (tight_question_of system (timing_at system task))) (answer_at (tight_answers_of system) task) tight_answer timely in
+      let found = answered (response_by_phase system task) (answer_at (tight_answers_of system) task) phased_answer timely in
       record { is_task = is; window = found.0; answered = found.1 }
 
-  -- and so is a settled task, no later
-  pub tight_of_settled : (response : ℕ) → IsSettled system task response
-      → IsTightlySettled system task (tight_response system task) × (tight_response system task ≤ response)
-  tight_of_settled response settled =
-      let (tight, tightly, no_later) = tight_no_later system task response settled in
-      let same : tight_response system task ≡ tight = ap response_in (tight_answer ∙ ap answer_with tightly.answered) in
-      (subst (IsTightlySettled system task) (sym same) tightly, omega (arith, same, no_later))
+  -- and so has a settled task, no later
+  pub tight_of_settled : IsSound system → (response : ℕ) → IsSettled system task response
+      → IsSettledByPhase system task (tight_response system task) × (tight_response system task ≤ response)
+  tight_of_settled sound response settled =
+      let (by_phase, phased, no_later) = report_by_phase system sound task response settled in
+      let same : tight_response system task ≡ by_phase = ap response_in (phased_answer ∙ ap answer_with phased.answered) in
+      (subst (IsSettledByPhase system task) (sym same) phased, omega (arith, same, no_later))
 
--- groups none of which is late by tight questions are timely
+-- groups none of which is late by phases are timely
 pub tight_timely : (system : System) → IsSound system → (groups : List Group) → All (IsGroupOfTask system) groups
     → NoneIsLate (tight_answers_of system) groups → AreTimely system (tight_response system) groups
 tight_timely system sound groups of_tasks none place h =
     let task = (group_at groups place).task in
-    tightly_timely system sound task (tight_response system task) (tight_task system task (of_tasks place no_group h).is_task (none place no_group h))
+    settled_timely system sound task (tight_response system task) (tight_task system task (of_tasks place no_group h).is_task (none place no_group h))
 
--- a group of a settled chain is tightly settled, no later than it is settled
-pub tight_group : (system : System) (groups : List Group) → IsSettledChain system groups → (place : ℕ) (d : Group) → (h : place < length groups)
-    → IsTightlySettled system (get_or groups place d).task (tight_response system (get_or groups place d).task)
+-- a group of a settled chain has a response by phases, no later than it is settled
+pub tight_group : (system : System) → IsSound system → (groups : List Group) → IsSettledChain system groups → (place : ℕ) (d : Group) → (h : place < length groups)
+    → IsSettledByPhase system (get_or groups place d).task (tight_response system (get_or groups place d).task)
     × (tight_response system (get_or groups place d).task ≤ response_in (answer_at (answers_of system) (get_or groups place d).task))
-tight_group system groups chain place d h =
+tight_group system sound groups chain place d h =
     let task = (get_or groups place d).task in
     let is = (chain.groups_of place d h).is_task in
-    tight_of_settled system task is (response_in (answer_at (answers_of system) task)) (settled_task system task is (chain.settled place d h))
+    tight_of_settled system task is sound (response_in (answer_at (answers_of system) task)) (settled_task system task is (chain.settled place d h))

@@ -13,7 +13,7 @@ use Rattle.cl_phase.specs.declared.pace.Pace.TheVariants.{Kept, Free}
 use Rattle.cl_phase.specs.declared.stop.Stop.{Stop}
 use Rattle.cl_phase.specs.Pace.{ComesRound, AreNeighbours}
 use Rattle.cl_phase.specs.Walks.{pace_at}
-use Rattle.cl_phase.specs.TightBounds.{hyperperiod_in, starts, ticks_of, length_from, reduced_from, bounds_from}
+use Rattle.cl_phase.specs.TightBounds.{hyperperiod_in, starts, ticks_or_none, length_from, reduced_from, bounds_from}
 use Rattle.cl_phase.proofs.Stepped.{IsStepped}
 use Rattle.cl_phase.proofs.Walking.{KeepsPhase, IsFreeAt}
 use Rattle.cl_phase.proofs.WalksMove.{length_moves, reduced_moves}
@@ -105,12 +105,12 @@ module _ (stops : List Stop) (place : ℕ) (are : AreStops stops place) where
   ]
 
 -- no integer is greater than its number of ticks
-ticks_bound : (length : ℤ) → length ≤ℤ pos (ticks_of length)
+ticks_bound : (length : ℤ) → length ≤ℤ pos (ticks_or_none length)
 ticks_bound (pos n) = omega (arith, ints)
 ticks_bound (negsuc n) = omega (arith, ints)
 
 -- what is the same at the start as at an arrival is no greater than the greatest
-from_start : (length : ℤ → ℤ) (arrival : ℤ) (first most : ℕ) → length arrival ≡ length (pos first) → ticks_of (length (pos first)) ≤ most
+from_start : (length : ℤ → ℤ) (arrival : ℤ) (first most : ℕ) → length arrival ≡ length (pos first) → ticks_or_none (length (pos first)) ≤ most
     → length arrival ≤ℤ pos most
 from_start length arrival first most same within = omega (arith, ints, same, within, ticks_bound (length (pos first)))
 
@@ -134,7 +134,7 @@ module _ (stops : List Stop) (place : ℕ) (are : AreStops stops place) (span ar
   pub length_bounded : length_from stops span place arrival ≤ℤ pos (bounds_from stops span place).reaction
   unfolding bounds_from
   length_bounded = from_start (length_from stops span place) arrival start.first _ same_length
-      (start.taken (λ moment. ticks_of (length_from stops span place (pos moment))))
+      (start.taken (λ moment. ticks_or_none (length_from stops span place (pos moment))))
 
   pub age_bounded : length_from stops span place arrival ≤ℤ pos (bounds_from stops span place).age
   unfolding bounds_from
@@ -143,4 +143,4 @@ module _ (stops : List Stop) (place : ℕ) (are : AreStops stops place) (span ar
   pub reduced_bounded : reduced_from stops span place arrival ≤ℤ pos (bounds_from stops span place).reduced
   unfolding bounds_from
   reduced_bounded = from_start (reduced_from stops span place) arrival start.first _ same_reduced
-      (start.taken (λ moment. ticks_of (reduced_from stops span place (pos moment))))
+      (start.taken (λ moment. ticks_or_none (reduced_from stops span place (pos moment))))

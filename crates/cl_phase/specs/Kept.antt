@@ -3,16 +3,11 @@
 use Rattle.std.specs.Prelude.{ℕ, Bool, nat_le, if◌then◌else◌, List, [], ◌∷◌, Option, Some, None}
 use Rattle.std.specs.List.{list_any}
 use Rattle.cl_stim.specs.declared.phase.Phase.{Phase}
-use Rattle.cl_stim.specs.Multiples.{common_multiple}
+use Rattle.cl_stim.specs.Multiples.{hyperperiod_of}
 use Rattle.cl_stim.specs.Phase.{arrivals_in}
 use Rattle.cl_phase.specs.declared.pace.TheConstants.{MOST_ARRIVALS}
 use Rattle.cl_phase.specs.declared.pace.Pace.{Pace}
 use Rattle.cl_phase.specs.declared.pace.Pace.TheVariants.{Kept, Free}
-
--- the hyperperiod of phases: the least common multiple of their periods
-unfoldable pub hyperperiod_of : List Phase → ℕ
-hyperperiod_of [] = 1
-hyperperiod_of (phase ∷ phases) = common_multiple phase.period (hyperperiod_of phases)
 
 -- phases come round soon where in their hyperperiod one of them has few arrivals
 abbrev pub come_round_soon : List Phase → Bool

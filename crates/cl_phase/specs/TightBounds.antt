@@ -1,19 +1,20 @@
 -- The tight bounds of a chain: the longest that its walks last. Times are in ticks.
-use Rattle.std.specs.Prelude.{ℕ, ℤ, pos, negsuc, ◌+ℤ◌, ◌-ℤ◌, Bool, true, false, ◌==◌, nat_le, List, [], ◌∷◌, map, filter, find, unwrap_or, length}
+use Rattle.std.specs.Prelude.{ℕ, ℤ, pos, negsuc, ◌+ℤ◌, ◌-ℤ◌, Bool, true, false, nat_le, List, [], ◌∷◌, map, filter, find, unwrap_or, length}
 use Rattle.std.specs.List.{list_all, range_with_len}
 use Rattle.cl_model.specs.Holds.{greatest_by}
 use Rattle.cl_model.specs.declared.group.Group.{Group}
 use Rattle.cl_model.specs.Timing.{greatest_distance}
 use Rattle.cl_runs.specs.TaskTiming.{System, timing_at}
 use Rattle.cl_stim.specs.declared.phase.Phase.{Phase}
-use Rattle.cl_stim.specs.Phase.{phase_of, since_turn, last_in_turn, arrivals_in}
+use Rattle.cl_stim.specs.Phase.{phase_of, arrives_at, arrivals_in}
+use Rattle.cl_stim.specs.Multiples.{hyperperiod_of}
 use Rattle.cl_bound.specs.Bounds.{Lengths, last_of}
 use Rattle.cl_bound.specs.Hops.{group_timing, lag}
 use Rattle.cl_phase.specs.declared.pace.Pace.{Pace}
 use Rattle.cl_phase.specs.declared.pace.Pace.TheVariants.{Kept, Free}
 use Rattle.cl_phase.specs.declared.stop.Stop.{Stop}
 use Rattle.cl_phase.specs.Pace.{previous}
-use Rattle.cl_phase.specs.Kept.{hyperperiod_of, phase_beside, kept_with, pace_with, phases_in}
+use Rattle.cl_phase.specs.Kept.{phase_beside, kept_with, pace_with, phases_in}
 use Rattle.cl_phase.specs.Walks.{pace_at, last_place, arrival_at_last, arrival_at_first}
 
 -- ---- the groups of a chain
@@ -57,10 +58,6 @@ unfoldable pub slowest : List Stop → ℕ
 slowest stops =
     unwrap_or (find (λ place. is_slowest stops (hyperperiod_in stops) (pace_at stops place)) (range_with_len 0 (length stops))) 0
 
--- a job of the phase arrives at a moment
-abbrev pub arrives_at : Phase → (moment : ℤ) → Bool
-arrives_at phase moment = last_in_turn phase (since_turn phase moment) == since_turn phase moment
-
 -- where walks from a group start: at each of its arrivals in the first hyperperiod, or anywhere where none is fixed
 abbrev pub starts : Pace → (ticks : ℕ) → List ℕ
 starts (Kept phase) ticks = filter (λ moment. arrives_at phase (pos moment)) (range_with_len 0 ticks)
@@ -69,9 +66,9 @@ starts (Free greatest) ticks = 0 ∷ []
 -- ---- lengths
 
 -- a number of ticks as it is, 0 where it would be below
-abbrev pub ticks_of : ℤ → ℕ
-ticks_of (pos ticks) = ticks
-ticks_of (negsuc lacking) = 0
+abbrev pub ticks_or_none : ℤ → ℕ
+ticks_or_none (pos ticks) = ticks
+ticks_or_none (negsuc lacking) = 0
 
 -- how long the walks from an arrival of the group of a place last: from the read of the first group's job that just
 -- misses, to the write of the last group's that takes. `span` is the latest write of the last group less the earliest
@@ -88,11 +85,11 @@ reduced_from stops span place arrival =
 unfoldable pub bounds_from : List Stop → (span : ℤ) → (place : ℕ) → Lengths
 bounds_from stops span place =
     let from = starts (pace_at stops place) (hyperperiod_in stops) in
-    let longest = greatest_by (λ arrival. ticks_of (length_from stops span place (pos arrival))) from in
+    let longest = greatest_by (λ arrival. ticks_or_none (length_from stops span place (pos arrival))) from in
     record {
       reaction = longest;
       age = longest;
-      reduced = greatest_by (λ arrival. ticks_of (reduced_from stops span place (pos arrival))) from;
+      reduced = greatest_by (λ arrival. ticks_or_none (reduced_from stops span place (pos arrival))) from;
     }
 
 -- ---- the tight bounds

@@ -8,12 +8,12 @@ use Rattle.cl_phase.specs.declared.walked.Walked.{Walked}
 use Rattle.cl_phase.specs.Pace.{previous}
 use Rattle.cl_phase.specs.TightAnswers.{tight_response}
 use Rattle.cl_phase.specs.Walks.{pace_at, last_place, onward, back}
-use Rattle.cl_phase.specs.TightBounds.{stops_of, span_of, slowest, hyperperiod_in, starts, ticks_of, length_from}
+use Rattle.cl_phase.specs.TightBounds.{stops_of, span_of, slowest, hyperperiod_in, starts, ticks_or_none, length_from}
 
 -- the first start, of these, whose walks last this long, 0 where there is none
 unfoldable pub start_among : List Stop → (span : ℤ) → (place reaction : ℕ) → (from : List ℕ) → ℕ
 start_among stops span place reaction from =
-    unwrap_or (find (λ arrival. ticks_of (length_from stops span place (pos arrival)) == reaction) from) 0
+    unwrap_or (find (λ arrival. ticks_or_none (length_from stops span place (pos arrival)) == reaction) from) 0
 
 -- the first start whose walks do
 abbrev pub walk_start : List Stop → (span : ℤ) → (place reaction : ℕ) → ℕ
@@ -28,7 +28,8 @@ missed stops place start = map (λ group. back stops place (previous (pace_at st
 unfoldable pub taken : List Stop → (place : ℕ) → (start : ℤ) → List ℤ
 taken stops place start = map (onward stops place start) (range_with_len 0 (last_place stops - place + 1))
 
--- the walk of groups of a system from the group that has the fewest to make, which lasts this long by tight responses
+-- the walk of groups of a system from the group that has the fewest to make, which lasts this long where tasks respond
+-- by phases
 unfoldable pub walked_of : System → List Group → (reaction : ℕ) → Walked
 walked_of system groups reaction =
     let stops = stops_of system (tight_response system) groups in

@@ -14,7 +14,7 @@ use cl_bound::{Bounds, TaskAnswer};
 use cl_model::{Group, List, ValidModel};
 
 /// Finds the tight bounds of groups of a valid model that follow each other, a chain of it or a
-/// part of one, from the tight answer for each task of the model. None of the groups' tasks is
+/// part of one, from the answer by phases for each task of the model. None of the groups' tasks is
 /// late. The bounds are the longest walks along the groups, by their phases as far as these are
 /// kept. They are at least the reaction, the age and the reduced age of each complete chain of
 /// these groups in each legal run, of any length.

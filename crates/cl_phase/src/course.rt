@@ -35,8 +35,8 @@ fn response_in(answer: &TaskAnswer) -> u64
     }
 }
 
-/// Puts together what the bounds know of a group of a valid model, from the tight answers for all
-/// its tasks. The group's task isn't late.
+/// Puts together what the bounds know of a group of a valid model, from the answers by phases for
+/// all its tasks. The group's task isn't late.
 fn timing_of(model: &ValidModel, group: Group, settled: &List<TaskAnswer>) -> GroupTiming
     requires group { IsGroupOf model.now group }
     requires answers { settled.now ≡ tight_answers_of (system_of model.now) }
@@ -45,6 +45,8 @@ fn timing_of(model: &ValidModel, group: Group, settled: &List<TaskAnswer>) -> Gr
     ensures near { IsNear result }
     ensures valid { IsValid model.now }
 {
+    let tasks = model.tasks();
+    prove!(group.task < tasks);
     let response = response_in(&settled.as_slice()[group.task as usize]);
     GroupTiming::of(model, group, response)
 }
@@ -73,8 +75,8 @@ fn hop_to_next(
     (timing.lag(&next) as i64, next)
 }
 
-/// Puts groups of a valid model that follow each other together for walks, from the tight answer
-/// for each task of the model.
+/// Puts groups of a valid model that follow each other together for walks, from the answer by
+/// phases for each task of the model.
 ///
 /// It looks at each group once, and takes no memory.
 pub(crate) fn course_of(model: &ValidModel, groups: &[Group], settled: &List<TaskAnswer>) -> Course

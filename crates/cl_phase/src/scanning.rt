@@ -5,8 +5,8 @@ ghost use Rattle.cl_stim.specs.Integers.{IsIntegerWithin};
 ghost use Rattle.cl_phase.specs.declared.pace.Pace.{Pace};
 ghost use Rattle.cl_phase.specs.Walks.{pace_at};
 ghost use Rattle.cl_phase.specs.TightBounds.{starts};
-ghost use Rattle.cl_phase.specs.Inner.Ranges.{MOST_HYPERPERIOD, AreStopsInRange};
-ghost use Rattle.cl_phase.specs.Inner.Longest.{longer_of, longest_of};
+ghost use Rattle.cl_phase.specs.Inner.Ranges.{LONGEST_HYPERPERIOD, AreStopsInRange};
+ghost use Rattle.cl_phase.specs.Inner.Longest.{longer_of, longest_walk};
 
 use crate::pace::Pace;
 use crate::stop::Stop;
@@ -32,8 +32,8 @@ fn longest_of_phase(stops: &[Stop], span: i64, place: usize, phase: &Phase, tick
     requires span { IsIntegerWithin MOST_TICKS span }
     requires place { place < length stops.now }
     requires phase { pace_at stops.now place ≡ Pace.Kept phase.now }
-    requires few { ticks ≤ MOST_HYPERPERIOD }
-    ensures { result ≡ longest_of stops.now span place (starts (pace_at stops.now place) ticks) }
+    requires few { ticks ≤ LONGEST_HYPERPERIOD }
+    ensures { result ≡ longest_walk stops.now span place (starts (pace_at stops.now place) ticks) }
 {
     let mut longest = Longest {
         length: 0,
@@ -53,8 +53,8 @@ pub(crate) fn longest(stops: &[Stop], span: i64, place: usize, ticks: u64) -> Lo
     requires stops { AreStopsInRange stops.now }
     requires span { IsIntegerWithin MOST_TICKS span }
     requires place { place < length stops.now }
-    requires few { ticks ≤ MOST_HYPERPERIOD }
-    ensures { result ≡ longest_of stops.now span place (starts (pace_at stops.now place) ticks) }
+    requires few { ticks ≤ LONGEST_HYPERPERIOD }
+    ensures { result ≡ longest_walk stops.now span place (starts (pace_at stops.now place) ticks) }
 {
     match &stops[place].pace {
         Pace::Kept(phase) => longest_of_phase(stops, span, place, phase, ticks),

@@ -4,7 +4,7 @@ ghost use Rattle.cl_model.specs.declared.limits.TheConstants.{MOST_TICKS};
 ghost use Rattle.cl_stim.specs.Integers.{IsIntegerWithin};
 ghost use Rattle.cl_phase.specs.Pace.{previous};
 ghost use Rattle.cl_phase.specs.Walks.{pace_at, onward, back, arrival_at_last, arrival_at_first};
-ghost use Rattle.cl_phase.specs.TightBounds.{ticks_of};
+ghost use Rattle.cl_phase.specs.TightBounds.{ticks_or_none};
 ghost use Rattle.cl_phase.specs.Inner.Ranges.{FARTHEST_START, FARTHEST_WALKED, AreStopsInRange};
 ghost use Rattle.cl_phase.specs.Inner.Longest.{lengths_at};
 
@@ -79,8 +79,8 @@ fn arrival_at_first(stops: &[Stop], place: usize, arrival: i64) -> i64
 }
 
 /// Returns a number of ticks as it is, and 0 for a negative one.
-fn ticks_of(ticks: i64) -> u64
-    ensures { result ≡ ticks_of ticks }
+fn ticks_or_none(ticks: i64) -> u64
+    ensures { result ≡ ticks_or_none ticks }
 {
     ticks.max(0) as u64
 }
@@ -97,7 +97,7 @@ pub(crate) fn lengths_at(stops: &[Stop], span: i64, place: usize, arrival: i64) 
     let last = arrival_at_last(stops, place, arrival);
     let before = stops[stops.len() - 1].pace.previous(last);
     Longest {
-        length: ticks_of(last - first + span),
-        reduced: ticks_of(before - first + span),
+        length: ticks_or_none(last - first + span),
+        reduced: ticks_or_none(before - first + span),
     }
 }

@@ -10,7 +10,7 @@ ghost use Rattle.cl_phase.specs.TightAnswers.{tight_answers_of};
 ghost use Rattle.cl_phase.specs.TightBounds.{starts};
 ghost use Rattle.cl_phase.specs.Walks.{pace_at};
 ghost use Rattle.cl_phase.specs.Walked.{start_among, missed, taken, walked_of};
-ghost use Rattle.cl_phase.specs.Inner.Ranges.{FARTHEST_START, MOST_HYPERPERIOD, AreStopsInRange};
+ghost use Rattle.cl_phase.specs.Inner.Ranges.{FARTHEST_START, LONGEST_HYPERPERIOD, AreStopsInRange};
 
 use crate::course::course_of;
 use crate::pace::Pace;
@@ -47,7 +47,7 @@ fn start_of_phase(
     requires span { IsIntegerWithin MOST_TICKS span }
     requires place { place < length stops.now }
     requires phase { pace_at stops.now place ≡ Pace.Kept phase.now }
-    requires few { ticks ≤ MOST_HYPERPERIOD }
+    requires few { ticks ≤ LONGEST_HYPERPERIOD }
     ensures start { result ≡ pos (start_among stops.now span place reaction (starts (Pace.Kept phase.now) ticks)) }
     ensures near { IsIntegerWithin FARTHEST_START result }
 {
@@ -66,7 +66,7 @@ fn start_of(stops: &[Stop], span: i64, place: usize, ticks: u64, reaction: u64) 
     requires stops { AreStopsInRange stops.now }
     requires span { IsIntegerWithin MOST_TICKS span }
     requires place { place < length stops.now }
-    requires few { ticks ≤ MOST_HYPERPERIOD }
+    requires few { ticks ≤ LONGEST_HYPERPERIOD }
     ensures start { result ≡ pos (start_among stops.now span place reaction (starts (pace_at stops.now place) ticks)) }
     ensures near { IsIntegerWithin FARTHEST_START result }
 {
@@ -105,9 +105,9 @@ fn taken(alloc: Global, stops: &[Stop], place: usize, start: i64) -> Result<List
 }
 
 /// Finds a walk of a chain of a valid model, given by its number, that is as long as `reaction`,
-/// from the tight answer for each task of the model. None of the chain's tasks is late. It is the
-/// first such walk from the slowest group that keeps its phase, or from the first group where none
-/// keeps it. If no walk is as long, the walk starts at 0.
+/// from the answer by phases for each task of the model. None of the chain's tasks is late. It is
+/// the first such walk from the slowest group that keeps its phase, or from the first group where
+/// none keeps it. If no walk is as long, the walk starts at 0.
 ///
 /// `NoMemory` comes where there is no memory for the arrivals; it leaves nothing.
 pub fn walk_lasting(

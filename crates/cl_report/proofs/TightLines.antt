@@ -1,5 +1,5 @@
 -- The answers that the lines of tight findings print.
-use Rattle.std.proofs.Common.{◌≡◌, ℕ, ◌<◌, Some, None, Option, List, length, map, refl, sym, ap, ◌∙◌, subst}
+use Rattle.std.proofs.Common.{◌≡◌, ℕ, ◌<◌, Some, None, Option, List, length, refl, sym, ap, ◌∙◌, subst}
 use Rattle.std.specs.Prelude.{All, find}
 use Rattle.std.specs.Option.{option_map}
 use Rattle.std.proofs.Math.ListN.{length-map}
@@ -12,12 +12,13 @@ use Rattle.cl_model.specs.Groups.{step_named, steps_of, no_step, groups_of}
 use Rattle.cl_model.specs.Validity.{IsValid}
 use Rattle.cl_model.proofs.StepFacts.{step_is_known}
 use Rattle.cl_model.proofs.NamesKnown.{steps_known}
-use Rattle.cl_runs.specs.SystemOf.{system_of, timing_of}
+use Rattle.cl_runs.specs.SystemOf.{system_of}
 use Rattle.cl_runs.proofs.FirstFound.{first_found}
 use Rattle.cl_bound.specs.declared.answer.TaskAnswer.{TaskAnswer}
 use Rattle.cl_bound.specs.Answers.{answer_at, is_late}
-use Rattle.cl_phase.specs.TightAnswers.{tight_answer_to, tight_answers_of, tight_response}
+use Rattle.cl_phase.specs.TightAnswers.{tight_answers_of, tight_response}
 use Rattle.cl_phase.specs.TightBounds.{tight_bounds}
+use Rattle.cl_phase.proofs.TightTimings.{answer_count}
 use Rattle.cl_analyse.specs.declared.findings.ChainAnswer.{ChainAnswer}
 use Rattle.cl_analyse.specs.declared.findings.ChainAnswer.TheVariants.{Late}
 use Rattle.cl_analyse.specs.ChainAnswers.{first_late, chain_answer_at}
@@ -28,9 +29,8 @@ use Rattle.cl_tight.specs.TightFindings.{tight_chain_answer_of, tight_chain_answ
 -- ---- one answer for each
 
 pub tight_tasks_found : (model : SystemModel) (findings : TightFindings) → findings ≡ tight_findings_of model → length findings.tasks ≡ length model.tasks
-unfolding tight_findings_of tight_answers_of system_of
-tight_tasks_found model findings is =
-    ap (λ (f : TightFindings). length f.tasks) is ∙ length-map (map (timing_of model) model.tasks) (tight_answer_to (system_of model)) ∙ length-map model.tasks (timing_of model)
+unfolding tight_findings_of
+tight_tasks_found model findings is = ap (λ (f : TightFindings). length f.tasks) is ∙ answer_count model (tight_answers_of (system_of model)) refl
 
 pub tight_chains_found : (model : SystemModel) (findings : TightFindings) → findings ≡ tight_findings_of model → findings.chains ≡ tight_chain_answers_of model
 unfolding tight_findings_of

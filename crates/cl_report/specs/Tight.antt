@@ -11,7 +11,7 @@ use Rattle.cl_report.specs.Report.{task_line, task_lines, bound_lines, requireme
 
 -- ---- all findings
 
--- the report of a model by tight responses and tight bounds
+-- the report of a model by responses by phases and tight bounds
 unfoldable pub tight_text : SystemModel → List ℕ
 tight_text model =
     let findings = tight_findings_of model in
@@ -31,7 +31,7 @@ late_line model Late task = task_line model Late task
 abbrev pub late_lines : SystemModel → List TaskAnswer → List ℕ
 late_lines model answers = flat_map (λ task. late_line model (answer_at answers task) task) (range_with_len 0 (length model.tasks))
 
--- whether a model is verified, as text: its tasks that are late by tight responses, and what is found of each requirement
+-- whether a model is verified, as text: its tasks that are late by phases, and what is found of each requirement
 unfoldable pub verify_text : SystemModel → List ℕ
 verify_text model =
     let findings = tight_findings_of model in

@@ -14,9 +14,9 @@ use cl_tight::TightFindings;
 use cl_time::NoMemory;
 use std::alloc::Global;
 
-/// Builds the report of a model by tight responses and tight bounds: a title, a line for each task,
-/// a line for each chain, and a line for each requirement, each in file order. Times are in ticks.
-/// The findings are those of the model.
+/// Builds the report of a model by responses by phases and tight bounds: a title, a line for each
+/// task, a line for each chain, and a line for each requirement, each in file order. Times are in
+/// ticks. The findings are those of the model.
 ///
 /// `NoMemory` comes where there is no memory for the text; it leaves nothing.
 pub fn tight_report(
@@ -36,8 +36,8 @@ pub fn tight_report(
 }
 
 /// Builds the text that shows whether a model is verified: a title, a line for each task that is
-/// late by tight responses, and a line with the verdict on each requirement, each in file order.
-/// Times are in ticks. The findings are those of the model.
+/// late by phases, and a line with the verdict on each requirement, each in file order. Times are in
+/// ticks. The findings are those of the model.
 ///
 /// `NoMemory` comes where there is no memory for the text; it leaves nothing.
 pub fn verify_report(

@@ -44,7 +44,7 @@ above_counts system task width = omega (
 )
 
 -- the demand counts the block, the greatest time, and each task above
-demand_counts : (system : System) (task : Timing) (question : Question) → AsksEnough system task question → (width : ℕ)
+pub demand_counts : (system : System) (task : Timing) (question : Question) → AsksEnough system task question → (width : ℕ)
     → question.block + greatest_execution task
     + sum_by (λ (other : Timing). most_releases other.pattern width * greatest_execution other) (filter (is_above task) system.tasks)
     ≤ demand question width

@@ -15,12 +15,14 @@ use Rattle.cl_runs.proofs.Work.{through_job}
 use Rattle.cl_runs.specs.Responses.{AlwaysFinishesWithin, IsTimely}
 use Rattle.cl_resp.specs.declared.question.Question.{Question}
 use Rattle.cl_resp.specs.Promises.{AnswersFor}
+use Rattle.cl_resp.specs.Clear.{released_before, work_of_first, IsDoneBy}
 use Rattle.cl_resp.specs.Response.{busy_window, IsSettled, IsTightlySettled}
 use Rattle.cl_resp.proofs.BusyWindowTicks.{above}
 use Rattle.cl_resp.proofs.BusyWindowStart.{last_clear, no_later}
-use Rattle.cl_resp.proofs.BusyWindowWork.{released_before, before_zero}
+use Rattle.cl_resp.proofs.BusyWindowWork.{before_zero}
 use Rattle.cl_resp.proofs.BusyWindowDemand.{HoldsDemand, window_holds}
-use Rattle.cl_resp.proofs.BusyWindowJob.{work_of_first, IsLastClearTo, IsDoneBy, done_in_window}
+use Rattle.cl_resp.proofs.BusyWindowRun.{IsLastClearTo}
+use Rattle.cl_resp.proofs.BusyWindowJob.{done_in_window}
 use Rattle.cl_resp.proofs.SettledTasks.{IsAnswered, answered_window, answered_response, settled_answer, response_in_deadline, tight_answer, tight_in_deadline}
 use Rattle.cl_resp.proofs.Windows.{window_is_least}
 

@@ -9,9 +9,10 @@ use Rattle.cl_runs.specs.Priorities.{is_above}
 use Rattle.cl_runs.proofs.Climbing.{climb_mono}
 use Rattle.cl_runs.proofs.Executed.{executed_zero, executed_climbs, executed_grew, executed_more}
 use Rattle.cl_runs.proofs.LegalFacts.{core_ticks, executed_released, running_pending}
+use Rattle.cl_resp.specs.Clear.{released_before}
 use Rattle.cl_resp.proofs.BusyWindowTotals.{total, total_rises, total_grows}
 use Rattle.cl_resp.proofs.BusyWindowStart.{HasLess}
-use Rattle.cl_resp.proofs.BusyWindowWork.{released_before, released_is}
+use Rattle.cl_resp.proofs.BusyWindowWork.{released_is}
 
 -- whether task j is above task i
 abbrev pub above : System → ℕ → ℕ → Bool

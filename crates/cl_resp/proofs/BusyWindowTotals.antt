@@ -1,6 +1,7 @@
 -- Totals over the numbers below n that pass a test: the tasks above another one, each with its ticks.
 use Rattle.std.proofs.Common.{◌≡◌, ℕ, zero, suc, ◌+◌, ◌<◌, ◌≤◌, inl, inr, Bool, true, false, cond, List, [], ◌∷◌, length, get_or, take, refl, ap, ◌∙◌, sym, arith}
 use Rattle.std.specs.Prelude.{sum_by, filter}
+use Rattle.std.specs.List.{range_with_len}
 use Rattle.std.proofs.Math.Numerals.{add-one}
 use Rattle.std.proofs.lemmas.Bool.{cases_eq, cond-true}
 use Rattle.std.proofs.lemmas.List.{take_all}
@@ -84,6 +85,28 @@ sum_of_filter p f (x ∷ xs) = omega (
   filter_part f x (filter p xs) (p x),
   sum_by-cons (λ y. cond (p y) (f y) 0) x xs,
   sum_of_filter p f xs,
+)
+
+sum_of_range : (f : ℕ → ℕ) (a n : ℕ) → sum_by f (range_with_len a (suc n)) ≡ sum_by f (range_with_len a n) + f (a + n)
+sum_of_range f a zero = let here : a + 0 ≡ a = omega arith in omega (arith, sum_by-cons f a [], ap f here)
+sum_of_range f a (suc n) = let same : a + 1 + n ≡ a + suc n = omega arith in omega (
+  arith,
+  sum_by-cons f a (range_with_len (a + 1) (suc n)),
+  sum_by-cons f a (range_with_len (a + 1) n),
+  sum_of_range f (a + 1) n,
+  ap f same,
+)
+
+-- a total is the sum over the numbers that pass
+pub total_of_range : (test : ℕ → Bool) (f : ℕ → ℕ) (n : ℕ) → total test f n ≡ sum_by f (filter test (range_with_len 0 n))
+total_of_range test f zero = refl
+total_of_range test f (suc n) = let here : 0 + n ≡ n = omega arith in omega (
+  arith,
+  total_of_range test f n,
+  sum_of_filter test f (range_with_len 0 n),
+  sum_of_filter test f (range_with_len 0 (suc n)),
+  sum_of_range (λ j. cond (test j) (f j) 0) 0 n,
+  ap (λ j. cond (test j) (f j) 0) here,
 )
 
 module _ {X : Type 0} (p : X → Bool) (f : X → ℕ) (xs : List X) (d : X) where

@@ -2,19 +2,19 @@
 use Rattle.std.proofs.Common.{◌≡◌, ℕ, zero, suc, ◌+◌, ◌*◌, ◌<◌, ◌≤◌, Bool, true, false, ◌&&◌, cond, nat_le, nat_lt, List, [], ◌∷◌, length, take, refl, ap, arith, add-mul}
 use Rattle.std.specs.Prelude.{sum, sum_by, All}
 use Rattle.std.specs.List.{AllZip}
+use Rattle.std.proofs.Math.Numerals.{add-one}
 use Rattle.std.proofs.lemmas.Bool.Decides.{nat_tests}
 use Rattle.std.proofs.lemmas.List.Elements.{All-head, All-tail}
-use Rattle.std.proofs.lemmas.List.Sums.{sum_by-cons, sum_by-le-sum_by}
+use Rattle.std.proofs.lemmas.List.Sums.{sum_by-cons, sum_by-le-sum_by, sum_by_more}
 use Rattle.cl_runs.specs.TaskTiming.{TimeRange, Timing}
 use Rattle.cl_runs.specs.declared.job.Job.{Job}
 use Rattle.cl_runs.specs.Table.{job_at, LiesIn, HasTimes}
 use Rattle.cl_runs.specs.Legal.{released}
+use Rattle.cl_runs.specs.Work.{work_through, work_before}
+use Rattle.cl_runs.proofs.ZippedLists.{zip_take}
 use Rattle.cl_stim.specs.Releases.{releases_in}
 use Rattle.cl_resp.specs.Question.{greatest_execution}
-
--- the total time of the jobs that are released before t
-unfoldable pub released_before : List Job → ℕ → ℕ
-released_before jobs t = sum_by (λ (job : Job). cond (nat_lt job.release t) (sum job.times) 0) jobs
+use Rattle.cl_resp.specs.Clear.{released_before, greatest_through}
 
 before_next : (r t v : ℕ) → cond (nat_le r t) v 0 ≤ cond (nat_lt r (suc t)) v 0
 before_next r t v = grind (arith, nat_tests)
@@ -80,6 +80,16 @@ within_greatest (range ∷ ranges) (time ∷ times) zipped = omega (
 pub job_within : (task : Timing) (job : Job) → HasTimes task job → sum job.times ≤ greatest_execution task
 unfolding greatest_execution
 job_within task job times = within_greatest task.ranges job.times times
+
+-- and no more up to the end of a runnable than the greatest times up to there
+pub place_within : (task : Timing) (jobs : List Job) (k p : ℕ) → HasTimes task (job_at jobs k) → p < length (job_at jobs k).times
+    → work_through jobs k p ≤ sum_by (λ (job : Job). sum job.times) (take k jobs) + greatest_through task p
+unfolding work_before greatest_through
+place_within task jobs k p times h = omega (
+  arith,
+  rw add-one at (sum_by_more (λ (x : ℕ). x) (job_at jobs k).times p 0 h),
+  within_greatest (take (suc p) task.ranges) (take (suc p) (job_at jobs k).times) (zip_take LiesIn (suc p) task.ranges (job_at jobs k).times times),
+)
 
 -- a job adds its time to the work of a window only if it is released there
 part_added : (r start width v most : ℕ) → v ≤ most

@@ -62,3 +62,10 @@ fewer p q (x ∷ xs) (suc n) d lt passes fails =
       ]
       | false ↦ rest
     ]
+
+-- two tests that agree let the same pass
+pub same_pass : {X : Type 0} (p q : X → Bool) → ((x : X) → p x ≡ q x) → (xs : List X) → filter p xs ≡ filter q xs
+same_pass p q same [] = refl
+same_pass p q same (x ∷ xs) =
+    ap (λ b. cond b (x ∷ filter p xs) (filter p xs)) (same x)
+    ∙ ap (λ ys. cond (q x) (x ∷ ys) ys) (same_pass p q same xs)

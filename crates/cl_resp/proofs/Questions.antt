@@ -18,7 +18,7 @@ use Rattle.cl_model.specs.Validity.{IsValid}
 use Rattle.cl_model.specs.Holds.{greatest_by, runnable_hold, task_hold}
 use Rattle.cl_model.proofs.ValidTasks.{kind_in_range, early_enough, released_before, some_time, little_time, runnables_in_range}
 use Rattle.cl_model.proofs.CoreTasks.{below_known, few_tasks, few_distances}
-use Rattle.cl_runs.specs.TaskTiming.{TimeRange, Timing, System, timing_at}
+use Rattle.cl_runs.specs.TaskTiming.{TimeRange, Timing, timing_at}
 use Rattle.cl_runs.specs.SystemOf.{range_of, timing_of, system_of}
 use Rattle.cl_runs.specs.Priorities.{is_above}
 use Rattle.cl_runs.proofs.ModelSystem.{timing_is}

@@ -1,5 +1,9 @@
 pub mod Question
 pub mod Response
+pub mod Clear
+pub mod Asked
+pub mod ByPhase
 pub mod Reached
+pub mod Worst
 pub mod Promises
 pub mod Inner

@@ -1,5 +1,5 @@
 -- How far the search for the window of a task came.
-use Rattle.std.specs.Prelude.{◌≡◌, ℕ, ◌<◌, Bool, length}
+use Rattle.std.specs.Prelude.{◌≡◌, ◌<◌, length}
 use Rattle.cl_runs.specs.TaskTiming.{System, timing_at}
 use Rattle.cl_resp.specs.declared.question.Block.{Block}
 use Rattle.cl_resp.specs.declared.reached.Reached.{Reached}

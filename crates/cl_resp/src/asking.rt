@@ -65,7 +65,7 @@ fn may_hold(model: &ValidModel, other: u32, priority: u64, blocking: Block) -> b
 /// of lower priority there or, where the block counts a task's own runnables, of the task itself.
 /// `priority` is the priority of the task. The result is 0 where there is no such runnable.
 #[tactic(auto, using(cl_model::proofs::Greatest::greatest_more))]
-fn block_of(model: &ValidModel, task: u32, priority: u64, blocking: Block) -> u64
+pub(crate) fn block_of(model: &ValidModel, task: u32, priority: u64, blocking: Block) -> u64
     requires task { task < length model.now.tasks }
     requires priority { priority ≡ (task_at model.now task).priority }
     ensures { result ≡ block_by blocking (system_of model.now) (timing_of model.now (task_at model.now task)) }

@@ -1,15 +1,16 @@
 //! The demand of windows that only grow, without counting anew what stays the same. Times are in
 //! ticks.
-ghost use Rattle.std.specs.Prelude.{◌≡◌, ℕ, ◌<◌, ◌≤◌, List, MatchOption};
+ghost use Rattle.std.specs.Prelude.{◌≡◌, ℕ, ◌+◌, ◌*◌, ◌<◌, ◌≤◌, List, MatchOption, IfSome};
+ghost use Rattle.cl_model.specs.declared.limits.TheConstants.{MOST_RUNNABLES};
 ghost use Rattle.cl_resp.specs.declared.question.Above.{Above};
 ghost use Rattle.cl_resp.specs.Question.{IsQuestionInRange};
 ghost use Rattle.cl_resp.specs.Response.{demand};
-ghost use Rattle.cl_resp.specs.Inner.Rising.{AreTaken};
+ghost use Rattle.cl_resp.specs.Inner.Rising.{taken_in, AreTaken};
 
 use crate::answering::taken;
 use crate::question::Question;
 use cl_model::{MOST_TASKS_OF_CORE, MOST_TICKS};
-use cl_stim::Arrivals;
+use cl_stim::{Arrivals, MOST_WIDTH};
 
 /// How many ticks each task above takes of a window, and the widest window of which it is known to
 /// take just as many. At first this is 0 for each, since each window has a tick or more.
@@ -22,7 +23,7 @@ pub(crate) struct Rising {
 impl Rising {
     pub(crate) fn new() -> Rising
         ensures { (above : List Above) (from : ℕ) → 1 ≤ from
-            → AreTaken above result.ticks result.until from }
+            → AreTaken taken_in above result.ticks result.until from }
     {
         Rising {
             ticks: [0; MOST_TASKS_OF_CORE],
@@ -36,12 +37,14 @@ impl Rising {
     pub(crate) fn demand(&mut self, question: &Question, width: u64, end: u64) -> Option<u64>
         requires in_range { IsQuestionInRange question.now }
         requires width { width ≤ end }
-        requires end { end ≤ MOST_TICKS }
-        requires kept { AreTaken question.now.above self.old.ticks self.old.until width }
+        requires end { end ≤ MOST_WIDTH }
+        requires kept { AreTaken taken_in question.now.above self.old.ticks self.old.until width }
         ensures demand { MatchOption result
             (end < demand question.now width)
             (λ needed. needed ≡ demand question.now width) }
-        ensures kept { AreTaken question.now.above self.new.ticks self.new.until width }
+        ensures small { IfSome result
+            (λ needed. needed ≤ (1 + MOST_RUNNABLES) * MOST_TICKS + MOST_TASKS_OF_CORE * MOST_WIDTH) }
+        ensures kept { AreTaken taken_in question.now.above self.new.ticks self.new.until width }
     {
         let mut needed = question.block + question.time;
         for (place, above) in question.above.as_slice().iter().enumerate() {

@@ -3,8 +3,10 @@ pub mod ValidStimuli
 pub mod Widest
 pub mod Ranges
 pub mod Multiples
+pub mod Hyperperiods
 pub mod TurnFacts
 pub mod PhaseSteps
+pub mod ArrivalTests
 pub mod Neighbours
 pub mod PatternPhases
 pub mod RunPhases

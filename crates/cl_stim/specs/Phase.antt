@@ -1,6 +1,6 @@
 -- Phases: arrivals that are fixed, continued over all whole numbers of periods, so that nothing begins or ends. Times
 -- are in ticks, and may lie before 0.
-use Rattle.std.specs.Prelude.{◌≡◌, ℕ, ℤ, pos, ◌+ℤ◌, ◌-ℤ◌, ◌*ℤ◌, ◌-◌, ◌*◌, ◌/◌, ◌<◌, ◌≤◌, min, nat_le, unsigned_abs, if◌then◌else◌, Option, Some, None}
+use Rattle.std.specs.Prelude.{◌≡◌, ℕ, ℤ, pos, ◌+ℤ◌, ◌-ℤ◌, ◌*ℤ◌, ◌-◌, ◌*◌, ◌/◌, ◌<◌, ◌≤◌, ◌==◌, min, nat_le, Bool, unsigned_abs, if◌then◌else◌, Option, Some, None}
 use Rattle.std.specs.Int.{div_ceil, int_rem_euclid}
 use Rattle.cl_model.specs.declared.limits.TheConstants.{MOST_TICKS, MOST_JOBS_OF_BURST}
 use Rattle.cl_model.specs.declared.stimulus.StimulusKind.{StimulusKind}
@@ -55,6 +55,10 @@ first_arrival phase moment = (moment -ℤ pos (since_turn phase moment)) +ℤ po
 -- the last arrival at or before a moment
 abbrev pub last_arrival : Phase → (moment : ℤ) → ℤ
 last_arrival phase moment = (moment -ℤ pos (since_turn phase moment)) +ℤ pos (last_in_turn phase (since_turn phase moment))
+
+-- whether a job of the phase arrives at a moment
+abbrev pub arrives_at : Phase → (moment : ℤ) → Bool
+arrives_at phase moment = last_in_turn phase (since_turn phase moment) == since_turn phase moment
 
 -- two arrivals of the phase, one after the other
 abbrev pub AreConsecutive : Phase → (before after : ℤ) → Type 0

@@ -60,7 +60,7 @@ impl Phase {
     }
 
     /// Computes how long before a moment the period that holds it began.
-    fn since_turn(&self, moment: i64) -> u64
+    pub fn since_turn(&self, moment: i64) -> u64
         requires phase { IsPhaseInRange self.now }
         requires moment { IsMoment moment }
         ensures since { result ≡ since_turn self.now moment }

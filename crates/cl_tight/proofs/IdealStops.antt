@@ -20,15 +20,16 @@ use Rattle.cl_stim.specs.declared.phase.Phase.{Phase}
 use Rattle.cl_stim.specs.Phase.{arrivals_in, phase_of}
 use Rattle.cl_comm.specs.declared.spot.Window.{Window}
 use Rattle.cl_comm.specs.Windows.{spot_at, window_of, window_at}
+use Rattle.cl_stim.specs.Multiples.{hyperperiod_of}
 use Rattle.cl_exact.specs.Hyperperiod.{period_of}
 use Rattle.cl_bound.specs.Hops.{group_timing, saves, lag}
 use Rattle.cl_phase.specs.declared.pace.TheConstants.{MOST_ARRIVALS}
 use Rattle.cl_phase.specs.declared.pace.Pace.TheVariants.{Kept}
 use Rattle.cl_phase.specs.declared.stop.Stop.{Stop}
-use Rattle.cl_phase.specs.Kept.{hyperperiod_of, come_round_soon, phase_beside, kept_with, pace_with}
+use Rattle.cl_phase.specs.Kept.{come_round_soon, phase_beside, kept_with, pace_with}
 use Rattle.cl_phase.specs.Walks.{pace_at}
 use Rattle.cl_phase.specs.TightBounds.{lag_to_next, stops_beside, stops_of}
-use Rattle.cl_phase.proofs.Hyperperiods.{HasPeriod, Divides, hyperperiod_least}
+use Rattle.cl_stim.proofs.Hyperperiods.{HasPeriod, Divides, hyperperiod_least}
 use Rattle.cl_tight.proofs.IdealSteps.{ideal_phase, IsIdealLag}
 use Rattle.cl_tight.proofs.IdealWalks.{IsPeriodicGroup}
 

@@ -10,3 +10,4 @@ pub mod IdealSteps
 pub mod IdealWalks
 pub mod TightExact
 pub mod IdealChains
+pub mod PlainWindows

@@ -9,12 +9,12 @@ use Rattle.cl_model.specs.ByNumber.{no_chain, chain_at}
 use Rattle.cl_model.specs.Groups.{steps_of, groups_at, IsGroupOf}
 use Rattle.cl_model.specs.Validity.{IsValid}
 use Rattle.cl_model.proofs.GroupFacts.{groups_at_are, groups_at_some}
-use Rattle.cl_runs.specs.TaskTiming.{System, no_timing}
+use Rattle.cl_runs.specs.TaskTiming.{System}
 use Rattle.cl_runs.specs.SystemOf.{system_of}
 use Rattle.cl_runs.proofs.ModelSystem.{count_is, system_sound}
 use Rattle.cl_runs.specs.Responses.{AlwaysFinishesWithin, IsTimely}
-use Rattle.cl_resp.specs.Response.{Response, IsTightlySettled}
-use Rattle.cl_resp.proofs.BusyWindowTask.{tightly_timely}
+use Rattle.cl_resp.specs.ByPhase.{IsSettledByPhase}
+use Rattle.cl_resp.specs.Response.{Response}
 use Rattle.cl_bound.specs.declared.answer.TaskAnswer.{TaskAnswer}
 use Rattle.cl_bound.specs.declared.answer.TaskAnswer.TheVariants as answer
 use Rattle.cl_bound.specs.Answers.{answer_with, answers_of, answer_at, is_late, response_in, NoneIsLate}
@@ -26,12 +26,13 @@ use Rattle.cl_bound.proofs.ModelGroups.{group_of_system}
 use Rattle.cl_bound.proofs.SettledTasks.{settled_task}
 use Rattle.cl_exact.specs.TimedPeriodic.{is_timed_periodic_chain}
 use Rattle.cl_exact.specs.ExactLengths.{Witnesses}
-use Rattle.cl_phase.specs.TightAnswers.{tight_answer_to, tight_answers_of, tight_response}
+use Rattle.cl_phase.specs.TightAnswers.{tight_answers_of, tight_response}
 use Rattle.cl_phase.specs.TightBounds.{tight_bounds}
 use Rattle.cl_tight.specs.ExactBounds.{AreLengthsOf}
 use Rattle.cl_tight.proofs.ModelTight.{tight_of_chain}
+use Rattle.cl_resp.proofs.LeastParts.{settled_timely}
 use Rattle.cl_phase.proofs.TightSafety.{tight_safe, tight_no_greater}
-use Rattle.cl_phase.proofs.TightTasks.{tight_task, tight_of_settled, tight_group}
+use Rattle.cl_phase.proofs.TightTasks.{phased_answer, tight_task, tight_of_settled, tight_group}
 use Rattle.cl_analyse.specs.declared.findings.ChainAnswer.{ChainAnswer}
 use Rattle.cl_analyse.specs.declared.findings.ChainAnswer.TheVariants.{Bounds, Late}
 use Rattle.cl_analyse.specs.declared.findings.ExactAnswer.{ExactAnswer}
@@ -61,29 +62,27 @@ module _ (model : SystemModel) (valid : IsValid model) where
   -- a task that isn't late is timely
   pub timely_task : (task : ℕ) → task < length model.tasks → is_late (answer_at answers task) ≡ false → IsTimely system task (tight_response system task)
   timely_task task within timely =
-      tightly_timely system (system_sound model valid) task (tight_response system task) (tight_task system task (in_system task within) timely)
+      settled_timely system (system_sound model valid) task (tight_response system task) (tight_task system task (in_system task within) timely)
 
-  -- so its tight response holds
+  -- so its response holds
   pub tight_responses_hold : (task : ℕ) (response : Response) → task < length model.tasks → answer_at answers task ≡ answer.Settled response
       → AlwaysFinishesWithin system task response.response
   tight_responses_hold task response within is =
       subst (AlwaysFinishesWithin system task) (ap response_in is) (timely_task task within (ap is_late is)).always
 
-  -- the answer for a tightly settled task
-  settled_answer : (task response : ℕ) → (settled : IsTightlySettled system task response)
+  -- the answer for a task with a response by phases
+  settled_answer : (task response : ℕ) → (settled : IsSettledByPhase system task response)
       → answer_at answers task ≡ answer.Settled (record { window = settled.window; response = response })
-  unfolding tight_answers_of
-  settled_answer task response settled =
-      get_or-map (tight_answer_to system) system.tasks task no_timing answer.Late settled.is_task ∙ ap answer_with settled.answered
+  settled_answer task response settled = phased_answer system task settled.is_task ∙ ap answer_with settled.answered
 
-  -- a task that the report doesn't call late has a tight response, and one that is no later
+  -- a task that the report doesn't call late has a response by phases, and one that is no later
   pub tight_where_settled : (task : ℕ) (response : Response) → task < length model.tasks → answer_at (answers_of system) task ≡ answer.Settled response
       → (tight : Response) × (answer_at answers task ≡ answer.Settled tight) × (tight.response ≤ response.response)
   tight_where_settled task response within is =
       let settled = settled_task system task (in_system task within) (ap is_late is) in
-      let (tightly, no_later) = tight_of_settled system task (in_system task within) (response_in (answer_at (answers_of system) task)) settled in (
-        record { window = tightly.window; response = tight_response system task },
-        settled_answer task (tight_response system task) tightly,
+      let (phased, no_later) = tight_of_settled system task (in_system task within) (system_sound model valid) (response_in (answer_at (answers_of system) task)) settled in (
+        record { window = phased.window; response = tight_response system task },
+        settled_answer task (tight_response system task) phased,
         omega (arith, no_later, ap response_in is),
       )
 
@@ -133,11 +132,11 @@ module _ (model : SystemModel) (valid : IsValid model) where
           let (none, own) = bounds_where (first_late (answers_of system) (steps_of model (chain_at model chain))) (bounds_of system groups) bounds is in
           (chain_settled model valid chain none, own)
 
-      -- none of whose tasks is late by tight responses
+      -- none of whose tasks is late by phases
       timely_of_settled : IsSettledChain system groups → NoneIsLate answers groups
       timely_of_settled settled place d h =
           let task : ℕ = (get_or groups place d).task in
-          ap is_late (settled_answer task (tight_response system task) (tight_group system groups settled place d h).0)
+          ap is_late (settled_answer task (tight_response system task) (tight_group system (system_sound model valid) groups settled place d h).0)
 
       pub tight_where_bounded : (bounds : Lengths) → chain_answer_at (chain_answers_of model) chain ≡ Bounds bounds
           → (chain_answer_at (tight_chain_answers_of model) chain ≡ Bounds own_bounds) × AreNoGreater own_bounds bounds

@@ -1,5 +1,5 @@
 -- Tight findings are safe, as tight as the report's, and verify what they say.
-use Rattle.std.proofs.Common.{◌≡◌, ℕ, ◌+◌, ◌≤◌, ◌<◌, true, false, not, None, List, length, map, refl, sym, ap, ◌∙◌, arith}
+use Rattle.std.proofs.Common.{◌≡◌, ℕ, ◌<◌, true, false, not, None, List, length, map, refl, sym, ap, ◌∙◌, arith}
 use Rattle.std.specs.List.{list_all}
 use Rattle.std.proofs.Math.ListN.{length-map}
 use Rattle.std.proofs.lemmas.Bool.{and_parts}
@@ -9,16 +9,16 @@ use Rattle.cl_model.specs.declared.model.SystemModel.{SystemModel}
 use Rattle.cl_model.specs.Validity.{IsValid}
 use Rattle.cl_runs.specs.TaskTiming.{System}
 use Rattle.cl_runs.specs.SystemOf.{system_of}
-use Rattle.cl_runs.proofs.ModelSystem.{count_is}
 use Rattle.cl_runs.proofs.TimelyTasks.{meets_deadlines}
 use Rattle.cl_runs.specs.Requirements.{no_requirement, requirement_at, IsKept, IsInTime}
 use Rattle.cl_bound.specs.declared.answer.TaskAnswer.{TaskAnswer}
 use Rattle.cl_bound.specs.declared.answer.TaskAnswer.TheVariants as answer
 use Rattle.cl_bound.specs.Answers.{answer_at, is_late}
-use Rattle.cl_phase.specs.TightAnswers.{tight_answer_to, tight_answers_of, tight_response}
+use Rattle.cl_phase.specs.TightAnswers.{tight_answers_of, tight_response}
+use Rattle.cl_phase.proofs.TightTimings.{answer_count}
 use Rattle.cl_analyse.specs.declared.findings.ChainAnswer.{ChainAnswer}
 use Rattle.cl_analyse.specs.declared.findings.Verdict.{Verdict}
-use Rattle.cl_analyse.specs.declared.findings.Verdict.TheVariants.{Met, Broken, Unshown}
+use Rattle.cl_analyse.specs.declared.findings.Verdict.TheVariants.{Met, Unshown}
 use Rattle.cl_analyse.specs.declared.findings.Findings.{Findings}
 use Rattle.cl_analyse.specs.ChainAnswers.{chain_answer_at}
 use Rattle.cl_analyse.specs.Findings.{AreFindings}
@@ -81,11 +81,10 @@ module _ (model : SystemModel) (valid : IsValid model) where
 
   each_timely : list_all (λ (answer : TaskAnswer). not (is_late answer)) (tight_answers_of system) ≡ true
       → (task : ℕ) → task < length model.tasks → is_late (answer_at (tight_answers_of system) task) ≡ false
-  unfolding tight_answers_of
   each_timely all task within =
       passes (answer_at (tight_answers_of system) task)
       (AllPass-from_list_all (λ (answer : TaskAnswer). not (is_late answer)) (tight_answers_of system) all task answer.Late
-      (omega (arith, within, count_is model, length-map system.tasks (tight_answer_to system))))
+      (omega (arith, within, answer_count model (tight_answers_of system) refl)))
 
   each_kept : list_all is_met verdicts ≡ true → (i : ℕ) → i < length model.requirements → IsKept model (requirement_at model i)
   each_kept all i within =

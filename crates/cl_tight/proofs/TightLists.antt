@@ -1,6 +1,8 @@
 -- The lists of tight answers and verdicts, one after the other, and what each of them is.
 use Rattle.std.proofs.Common.{◌≡◌, ℕ, ◌+◌, ◌<◌, ◌≤◌, Bool, true, false, Option, Some, None, List, [], ◌∷◌, ◌++◌, length, get_or, take, map, sym, ap, ◌∙◌, arith}
 use Rattle.std.proofs.lemmas.List.{take_more, take_all, get_or-map}
+use Rattle.std.specs.List.{range_with_len}
+use Rattle.std.proofs.lemmas.List.FromFn.{map-range_with_len_more}
 use Rattle.std.proofs.Math.ListN.{length-map}
 use Rattle.cl_model.specs.declared.model.SystemModel.{SystemModel}
 use Rattle.cl_model.specs.declared.chain.ChainDef.{ChainDef}
@@ -12,14 +14,15 @@ use Rattle.cl_model.specs.Validity.{IsValid, requirement_check}
 use Rattle.cl_model.proofs.NamePlaces.{place_within}
 use Rattle.cl_model.proofs.PassedChecks.{requirements_pass}
 use Rattle.cl_model.proofs.Refused.{each_none, unless_none}
-use Rattle.cl_runs.specs.TaskTiming.{no_timing, timing_at}
 use Rattle.cl_runs.specs.SystemOf.{system_of}
 use Rattle.cl_runs.proofs.ModelSystem.{count_is}
 use Rattle.cl_runs.specs.Requirements.{required_chain, no_requirement, requirement_at}
 use Rattle.cl_bound.specs.declared.answer.TaskAnswer.{TaskAnswer}
+use Rattle.cl_bound.specs.Answers.{answer_at}
 use Rattle.cl_bound.specs.Bounds.{Lengths}
 use Rattle.cl_phase.specs.TightAnswers.{tight_answer_to, tight_answers_of, tight_response}
 use Rattle.cl_phase.specs.TightBounds.{tight_bounds}
+use Rattle.cl_phase.proofs.TightTasks.{phased_answer}
 use Rattle.cl_analyse.specs.declared.findings.ChainAnswer.{ChainAnswer}
 use Rattle.cl_analyse.specs.declared.findings.ChainAnswer.TheVariants.{Bounds, Late}
 use Rattle.cl_analyse.specs.declared.findings.Verdict.{Verdict}
@@ -40,10 +43,22 @@ all_mapped f xs n whole = take_all n (map f xs) (rw (length-map xs f) whole)
 
 -- ---- tasks
 
--- there is an answer for each task
-pub answer_count : (model : SystemModel) (answers : List TaskAnswer) → answers ≡ tight_answers_of (system_of model) → length answers ≡ length model.tasks
+-- the answers for the tasks below a number
+abbrev pub answers_below : SystemModel → (tasks : ℕ) → List TaskAnswer
+answers_below model tasks = map (tight_answer_to (system_of model)) (range_with_len 0 tasks)
+
+pub one_more_answer : (model : SystemModel) (task : ℕ) (old new : List TaskAnswer) (next : TaskAnswer) → task < length model.tasks
+    → old ≡ answers_below model task → next ≡ answer_at (tight_answers_of (system_of model)) task
+    → new ≡ old ++ next ∷ [] → new ≡ answers_below model (task + 1)
+one_more_answer model task old new next within was is more =
+    let last : 0 + task ≡ task = omega arith in
+    let own = is ∙ phased_answer (system_of model) task (omega (arith, within, count_is model)) in
+    more ∙ ap (λ (list : List TaskAnswer). list ++ next ∷ []) was ∙ ap (λ (a : TaskAnswer). answers_below model task ++ a ∷ []) own
+    ∙ sym (map-range_with_len_more (tight_answer_to (system_of model)) 0 task task last)
+
+pub all_answers : (model : SystemModel) (tasks : ℕ) → tasks ≡ length model.tasks → answers_below model tasks ≡ tight_answers_of (system_of model)
 unfolding tight_answers_of
-answer_count model answers are = ap length are ∙ length-map (system_of model).tasks (tight_answer_to (system_of model)) ∙ count_is model
+all_answers model tasks all = ap (answers_below model) (all ∙ sym (count_is model))
 
 -- ---- chains
 

@@ -1,3 +1,4 @@
 pub mod TightFindings
 pub mod ExactBounds
 pub mod Promises
+pub mod Inner

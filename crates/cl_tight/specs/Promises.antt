@@ -21,7 +21,7 @@ use Rattle.cl_analyse.specs.ChainAnswers.{chain_answer_at, exact_answer_at}
 use Rattle.cl_analyse.specs.Verdicts.{verdict_at}
 use Rattle.cl_tight.specs.declared.findings.TightFindings.{TightFindings}
 
--- The findings are safe. In every legal run each job of a settled task finishes within its tight response, each tight
+-- The findings are safe. In every legal run each job of a settled task finishes within its response, each tight
 -- bound is at least the length of every complete chain of its kind, what is met is kept, and what is broken is broken in
 -- some legal run.
 pub record AreSafeTightFindings (model : SystemModel) (findings : TightFindings) : Type 0 where
@@ -34,7 +34,7 @@ pub record AreSafeTightFindings (model : SystemModel) (findings : TightFindings)
   pub broken : (i value : ℕ) → i < length model.requirements
       → verdict_at findings.verdicts i ≡ Broken value → IsBroken model (requirement_at model i)
 
--- a task that the report doesn't call late has a tight response, and one that is no later
+-- a task that the report doesn't call late has a response by phases, and one that is no later
 pub record HasNoLater (findings : TightFindings) (task : ℕ) (response : Response) : Type 0 where
   pub tight : Response
   pub settled : answer_at findings.tasks task ≡ Settled tight

@@ -1,4 +1,4 @@
--- What is found of a model by tight responses and tight bounds.
+-- What is found of a model by responses by phases and tight bounds.
 use Rattle.std.specs.Prelude.{ℕ, Bool, true, false, not, ◌&&◌, nat_le, List, map, fold, Option, None}
 use Rattle.std.specs.List.{list_all}
 use Rattle.cl_model.specs.declared.model.SystemModel.{SystemModel}
@@ -18,14 +18,13 @@ use Rattle.cl_phase.specs.TightAnswers.{tight_answers_of, tight_response}
 use Rattle.cl_phase.specs.TightBounds.{tight_bounds}
 use Rattle.cl_analyse.specs.declared.findings.ChainAnswer.{ChainAnswer}
 use Rattle.cl_analyse.specs.declared.findings.Verdict.{Verdict}
-use Rattle.cl_analyse.specs.declared.findings.Verdict.TheVariants.{Met, Broken, Unshown}
 use Rattle.cl_analyse.specs.ChainAnswers.{first_late, chain_answer, chain_answer_at}
 use Rattle.cl_analyse.specs.Verdicts.{bound_value, verdict_on, is_met}
 use Rattle.cl_tight.specs.declared.findings.TightFindings.{TightFindings}
 
 -- ---- chains
 
--- the answer for a chain: its tight bounds where none of its tasks is late by tight responses, else the first late one
+-- the answer for a chain: its tight bounds where none of its tasks is late by phases, else the first late one
 unfoldable pub tight_chain_answer_of : SystemModel → ChainDef → ChainAnswer
 tight_chain_answer_of model chain =
     let system = system_of model in

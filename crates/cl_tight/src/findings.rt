@@ -1,12 +1,12 @@
-//! What is found of a model by tight responses and tight bounds. Times are in ticks.
+//! What is found of a model by responses by phases and tight bounds. Times are in ticks.
 use cl_analyse::{ChainAnswer, Verdict};
 use cl_bound::TaskAnswer;
 use cl_model::List;
 
-/// What is found of a model by tight responses and tight bounds.
+/// What is found of a model by responses by phases and tight bounds.
 #[derive(Debug, PartialEq, Eq, Drop)]
 pub struct TightFindings {
-    /// The answer to the tight question of each task, in file order.
+    /// The answer by phases for each task, in file order.
     pub tasks: List<TaskAnswer>,
     /// The tight bounds of each chain or its first late task, in file order.
     pub chains: List<ChainAnswer>,

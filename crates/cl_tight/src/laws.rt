@@ -12,15 +12,15 @@ ghost use Rattle.cl_tight.specs.Promises.{AreSafeTightFindings, AreAsTight};
 pub mod exact;
 
 /// In every legal run of a valid model, of any length, each job of a settled task finishes within
-/// its tight response, and no complete chain is longer than its tight bound. Each requirement that
-/// is found met is kept, and each that is found broken is broken in some legal run.
+/// its response by phases, and no complete chain is longer than its tight bound. Each requirement
+/// that is found met is kept, and each that is found broken is broken in some legal run.
 pub fn tight_findings_are_safe()
     ensures { (model : SystemModel) → IsValid model
         → AreSafeTightFindings model (tight_findings_of model) }
 {}
 
-/// Tight responses are no later than those of the report, and tight bounds are at most those of the
-/// report. Where the report has exact lengths, the tight bounds are these lengths.
+/// Responses by phases are no later than those of the report, and tight bounds are at most those of
+/// the report. Where the report has exact lengths, the tight bounds are these lengths.
 pub fn tight_findings_are_as_tight()
     ensures { (model : SystemModel) → IsValid model → (report : Findings) → AreFindings model report
         → AreAsTight model (tight_findings_of model) report }

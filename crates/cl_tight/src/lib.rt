@@ -1,4 +1,4 @@
-//! What is found of a model by tight responses and tight bounds, and whether that verifies the
+//! What is found of a model by responses by phases and tight bounds, and whether that verifies the
 //! model.
 //!
 //! Times are in ticks.
@@ -9,4 +9,4 @@ pub mod laws;
 mod tightening;
 
 pub use findings::TightFindings;
-pub use tightening::{is_verified, tighten};
+pub use tightening::{answer_by_phase, answer_tightly, is_verified, tighten};

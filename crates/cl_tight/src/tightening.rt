@@ -5,11 +5,15 @@ ghost use Rattle.cl_model.specs.ByNumber.{chain_at};
 ghost use Rattle.cl_model.specs.Validity.{IsValid};
 ghost use Rattle.cl_runs.specs.SystemOf.{system_of};
 ghost use Rattle.cl_runs.specs.Requirements.{required_chain, IsInTime};
-ghost use Rattle.cl_bound.specs.Answers.{is_late};
+ghost use Rattle.cl_runs.specs.TaskTiming.{timing_at};
+ghost use Rattle.cl_resp.specs.Question.{tight_question_of};
+ghost use Rattle.cl_resp.specs.Response.{busy_window};
+ghost use Rattle.cl_bound.specs.Answers.{is_late, answer_at};
 ghost use Rattle.cl_phase.specs.TightAnswers.{tight_answers_of};
 ghost use Rattle.cl_analyse.specs.Verdicts.{is_met};
 ghost use Rattle.cl_tight.specs.TightFindings.{tight_chain_answer_of, tight_chain_answers_of, has_exact_bounds, tight_verdict_of, tight_findings_of, is_verified};
 ghost use Rattle.cl_tight.specs.Promises.{AreSafeTightFindings};
+ghost use Rattle.cl_tight.specs.Inner.Windows.{window_in};
 
 use crate::findings::TightFindings;
 use cl_analyse::{ChainAnswer, Verdict, answer_tasks, bound_value, first_late, verdict_on};
@@ -17,22 +21,22 @@ use cl_bound::TaskAnswer;
 use cl_exact::{is_timed_periodic, is_within_limit};
 use cl_model::{List, RequirementDef, ValidModel};
 use cl_phase::tight_bounds;
-use cl_resp::Block;
+use cl_resp::{Block, respond_by_phase, widest_window};
 use cl_time::{NoMemory, Steps};
 use std::alloc::Global;
 use std::sync::ledger::Ledger;
 
-/// Analyses a model by tight responses and tight bounds: finds the tight response of each task, the
-/// tight bounds of each chain none of whose tasks is late by them, and the verdict on each
+/// Analyses a model by phases: finds the response of each task by the phases of the tasks above it,
+/// the tight bounds of each chain none of whose tasks is late by these, and the verdict on each
 /// requirement.
 ///
-/// In each legal run, of any length, each job of a settled task finishes at most the tight response
-/// after its arrival, if the run lasts until then, and each bound is at least the length of each
-/// complete chain of its kind. A requirement that is found met is kept by each complete chain of
-/// its chain and kind, and one that is found broken is broken by some such chain of some legal run.
+/// In each legal run, of any length, each job of a settled task finishes at most the response after
+/// its arrival, if the run lasts until then, and each bound is at least the length of each complete
+/// chain of its kind. A requirement that is found met is kept by each complete chain of its chain
+/// and kind, and one that is found broken is broken by some such chain of some legal run.
 ///
 /// It counts a step for each task. `NoMemory` comes where there is no memory for the findings, for
-/// a question or for the order in which tasks are asked; it leaves nothing.
+/// a list of the tasks above one or for the order in which tasks are asked; it leaves nothing.
 pub fn tighten<L: Ledger>(
     alloc: Global,
     model: &ValidModel,
@@ -52,8 +56,11 @@ pub fn tighten<L: Ledger>(
     })
 }
 
-/// Answers the tight questions of all tasks.
-fn answer_tightly<L: Ledger>(
+/// Answers all tasks by phases, in file order. It first answers their tight questions from the top
+/// of each core down, since their windows cut short the search by phases. It counts a step for each
+/// task. `NoMemory` comes where there is no memory for the answers, for a list of the tasks above
+/// one or for the order in which tasks are asked; it leaves nothing.
+pub fn answer_tightly<L: Ledger>(
     alloc: Global,
     model: &ValidModel,
     steps: &mut Steps<L>,
@@ -62,10 +69,65 @@ fn answer_tightly<L: Ledger>(
     ensures steps { steps.new ≤ steps.old + length model.now.tasks }
     ensures valid { IsValid model.now }
 {
-    answer_tasks(alloc, model, Block::OfLower, steps)
+    let plain = answer_tasks(alloc, model, Block::OfLower, steps)?;
+    let mut answers = List::new(alloc);
+    for task in 0..model.tasks() {
+        let widest = window_in(&plain.as_slice()[task as usize]);
+        answers.push(answer_within(alloc, model, task, widest)?)?;
+    }
+    Ok(answers)
 }
 
-/// Answers for all chains, from the tight answers for all tasks.
+/// Returns the window of an answer in ticks, if it has one.
+fn window_in(answer: &TaskAnswer) -> Option<u64>
+    ensures { result ≡ window_in answer.now }
+{
+    match answer {
+        TaskAnswer::Settled(settled) => Some(settled.window()),
+        TaskAnswer::Late => None,
+    }
+}
+
+/// Answers a task, given by its number, by phases. `widest` is the window of its tight question, if
+/// it has one.
+fn answer_within(
+    alloc: Global,
+    model: &ValidModel,
+    task: u32,
+    widest: Option<u64>,
+) -> Result<TaskAnswer, NoMemory>
+    requires task { task < length model.now.tasks }
+    requires widest { widest
+        ≡ busy_window (tight_question_of (system_of model.now) (timing_at (system_of model.now) task)) }
+    ensures { IfOk result
+        (λ answer. answer ≡ answer_at (tight_answers_of (system_of model.now)) task) }
+{
+    match respond_by_phase(alloc, model, task, widest)? {
+        Ok(settled) => Ok(TaskAnswer::Settled(settled)),
+        Err(_) => Ok(TaskAnswer::Late),
+    }
+}
+
+/// Answers a task, given by its number, by phases: finds its response, or that it is late. It
+/// counts one step. `NoMemory` comes where there is no memory for a list of the tasks above it; it
+/// leaves nothing.
+pub fn answer_by_phase<L: Ledger>(
+    alloc: Global,
+    model: &ValidModel,
+    task: u32,
+    steps: &mut Steps<L>,
+) -> Result<TaskAnswer, NoMemory>
+    requires { task < length model.now.tasks }
+    ensures answer { IfOk result
+        (λ answer. answer ≡ answer_at (tight_answers_of (system_of model.now)) task) }
+    ensures steps { steps.new ≡ steps.old + 1 }
+{
+    steps.tick();
+    let widest = widest_window(alloc, model, task)?;
+    answer_within(alloc, model, task, widest)
+}
+
+/// Answers for all chains, from the answers by phases for all tasks.
 fn tighten_chains(
     alloc: Global,
     model: &ValidModel,
@@ -81,8 +143,8 @@ fn tighten_chains(
     Ok(answers)
 }
 
-/// Answers for a chain, from the tight answers for all tasks: finds its tight bounds, or the first
-/// of its tasks that is late.
+/// Answers for a chain, from the answers by phases for all tasks: finds its tight bounds, or the
+/// first of its tasks that is late.
 fn tighten_chain(model: &ValidModel, chain: u32, tasks: &List<TaskAnswer>) -> ChainAnswer
     requires chain { chain < length model.now.chains }
     requires answers { tasks.now ≡ tight_answers_of (system_of model.now) }
@@ -152,7 +214,7 @@ pub fn is_verified(model: &ValidModel, findings: &TightFindings) -> bool
     are_in_time(model, findings.tasks.as_slice()) && are_met(findings.verdicts.as_slice())
 }
 
-/// Checks whether no task of the model is late, by the tight answers for all of them.
+/// Checks whether no task of the model is late, by the answers by phases for all of them.
 fn are_in_time(model: &ValidModel, answers: &[TaskAnswer]) -> bool
     requires { answers.now ≡ tight_answers_of (system_of model.now) }
     ensures timely { result ≡ list_all (λ answer. not (is_late answer)) answers.now }

@@ -10,7 +10,6 @@ use Rattle.cl_model.specs.declared.model.SystemModel.{SystemModel}
 use Rattle.cl_runs.specs.Requirements.{IsInTime}
 use Rattle.cl_runs.specs.Run.{Run}
 use Rattle.cl_gen.specs.Generated.{generated}
-use Rattle.cl_tight.specs.TightFindings.{tight_findings_of}
 use Rattle.cl_write.specs.Texts.{IsTextOf}
 use Rattle.cl_report.specs.Report.{IsReportOf}
 use Rattle.cl_report.specs.Survey.{IsSurveyOf}

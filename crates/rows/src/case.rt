@@ -9,7 +9,7 @@ use std::fs;
 use std::io::ErrorKind;
 use std::rt::Files;
 
-/// What each command of a case has to come to: a status, and the whole text or its first line.
+/// What each command of a case has to come to: a status, and the whole text or its first lines.
 #[derive(Clone, Drop)]
 pub(crate) struct Wanted {
     pub(crate) status: u8,

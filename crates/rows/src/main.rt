@@ -30,7 +30,7 @@
 //! | `fetch N`, `write N` | the number of the fetch or of the write that fails, from 0 |
 //! | `room N`, `step N` | how many bytes the sink holds, and how many it takes at a time |
 //! | `wants S TEXT`, or `wants S` and lines behind a bar | the status, and the whole text |
-//! | `begins S TEXT` | the status, and the first line of the text |
+//! | `begins S TEXT`, or `begins S` and lines behind a bar | the status, and the first lines of the text |
 #![tactic(auto)]
 
 mod answers;

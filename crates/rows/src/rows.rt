@@ -120,7 +120,7 @@ fn is_met(wanted: &Wanted, found: &Found) -> bool {
     let text = if wanted.whole {
         found.text.as_slice()
     } else {
-        first_line(found.text.as_slice())
+        beginning(found.text.as_slice(), wanted.text.len())
     };
     is_same(wanted.status, wanted.text.as_slice(), found.status, text)
 }
@@ -132,14 +132,13 @@ fn is_same(wanted_status: u8, wanted_text: &[u8], status: u8, text: &[u8]) -> bo
     status == wanted_status && text == wanted_text
 }
 
-/// Returns the first line of a text with its line end, or the whole text where no line ends.
-fn first_line(text: &[u8]) -> &[u8] {
-    for (at, byte) in text.iter().enumerate() {
-        if *byte == b'\n' {
-            return &text[..at + 1];
-        }
+/// Returns the first `length` bytes of a text, or the whole text where it has no more.
+fn beginning(text: &[u8], length: usize) -> &[u8] {
+    if length < text.len() {
+        &text[..length]
+    } else {
+        text
     }
-    text
 }
 
 /// Returns a text as it is printed, which is `no text` for bytes that are none.

@@ -37,8 +37,8 @@ pub fn measured_reactions_are_shown()
         → IsShownOf (run_moments (system_of model) run) (groups_at model chain) measured.reaction (reaction_at picture.reactions chain) }
 {}
 
-/// Heights in a picture, as lengths: the first head begins at 380, a head is 320 high, and a row
-/// 400.
+/// Heights in a picture, as lengths: the first head begins at 380, a head is 320 high, and each row
+/// is 400 high.
 pub fn heights_of_heads_and_rows()
     ensures first { FIRST_TOP ≡ 380 }
     ensures head { HEAD ≡ 320 }

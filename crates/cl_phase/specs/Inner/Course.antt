@@ -12,7 +12,7 @@ use Rattle.cl_phase.specs.TightBounds.{stops_of, span_of}
 use Rattle.cl_phase.specs.Inner.Ranges.{AreStopsInRange}
 use Rattle.cl_phase.specs.Inner.Keeping.{AreKeptIn}
 
--- what the bounds know of a group by the tight responses
+-- what the bounds know of a group by responses by phases
 abbrev pub tight_timing : System → Group → GroupTiming
 tight_timing system group = group_timing system (tight_response system) group
 

@@ -4,13 +4,14 @@ use Rattle.cl_model.specs.declared.stimulus.StimulusKind.{StimulusKind}
 use Rattle.cl_model.specs.Timing.{greatest_distance}
 use Rattle.cl_stim.specs.declared.phase.Phase.{Phase}
 use Rattle.cl_stim.specs.Phase.{IsPhaseInRange, phase_of, arrivals_in}
+use Rattle.cl_stim.specs.Multiples.{hyperperiod_of}
 use Rattle.cl_phase.specs.declared.pace.Pace.{Pace}
 use Rattle.cl_phase.specs.declared.pace.Pace.TheVariants.{Kept, Free}
 use Rattle.cl_phase.specs.declared.stop.Stop.{Stop}
 use Rattle.cl_phase.specs.declared.keeping.Keeping.{Keeping}
-use Rattle.cl_phase.specs.Kept.{hyperperiod_of, come_round_soon, phase_beside, kept_with, pace_with, phases_in}
+use Rattle.cl_phase.specs.Kept.{come_round_soon, phase_beside, kept_with, pace_with, phases_in}
 use Rattle.cl_phase.specs.TightBounds.{hyperperiod_in}
-use Rattle.cl_phase.specs.Inner.Ranges.{MOST_HYPERPERIOD, IsPaceInRange}
+use Rattle.cl_phase.specs.Inner.Ranges.{LONGEST_HYPERPERIOD, IsPaceInRange}
 
 -- the fewest arrivals of one of some phases in so many ticks; the greatest number of 64 bits where there is none
 abbrev pub fewest_in : (ticks : ℕ) → List Phase → ℕ
@@ -21,7 +22,7 @@ fewest_in ticks (phase ∷ phases) = min (arrivals_in ticks phase) (fewest_in ti
 pub record AreKept (kept : List Phase) (keeping : Keeping) : Type 0 where
   pub hyperperiod : keeping.hyperperiod ≡ hyperperiod_of kept
   pub fewest : keeping.fewest ≡ fewest_in keeping.hyperperiod kept
-  pub short : keeping.hyperperiod ≤ MOST_HYPERPERIOD
+  pub short : keeping.hyperperiod ≤ LONGEST_HYPERPERIOD
   pub phases : All IsPhaseInRange kept
 
 -- the phases are kept with one more, which comes round soon with them
@@ -39,7 +40,7 @@ pub record IsBeside (kind : StimulusKind) (kept : List Phase) (pace : Pace) (kee
 pub record AreKeptIn (stops : List Stop) (keeping : Keeping) : Type 0 where
   pub hyperperiod : keeping.hyperperiod ≡ hyperperiod_in stops
   pub fewest : keeping.fewest ≡ fewest_in keeping.hyperperiod (phases_in (map (λ (stop : Stop). stop.pace) stops))
-  pub short : keeping.hyperperiod ≤ MOST_HYPERPERIOD
+  pub short : keeping.hyperperiod ≤ LONGEST_HYPERPERIOD
 
 -- a group keeps its phase and has at most so many arrivals in so many ticks
 abbrev pub arrives_seldom : (ticks most : ℕ) → Pace → Bool

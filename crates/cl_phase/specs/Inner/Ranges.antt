@@ -18,8 +18,8 @@ abbrev pub FARTHEST_WALKED : ℕ
 FARTHEST_WALKED = 2500000000000000000
 
 -- the longest hyperperiod of phases that are kept
-abbrev pub MOST_HYPERPERIOD : ℕ
-MOST_HYPERPERIOD = MOST_ARRIVALS * MOST_TICKS
+abbrev pub LONGEST_HYPERPERIOD : ℕ
+LONGEST_HYPERPERIOD = MOST_ARRIVALS * MOST_TICKS
 
 -- a pace whose numbers are those of a valid model
 abbrev pub IsPaceInRange : Pace → Type 0

@@ -17,7 +17,7 @@ pub fn tight_bounds_are_safe()
         → All (IsGroupOfTask system) groups
         → All (λ (group : Group). IsTimely system group.task (responses group.task)) groups
         → AreSafe system groups (tight_bounds system responses groups) }
-    // over tight responses, where no task is late by its tight question
+    // over responses by phases, where each task has one
     ensures tight { (system : System) → IsSound system → (groups : List Group)
         → All (IsGroupOfTask system) groups
         → NoneIsLate (tight_answers_of system) groups

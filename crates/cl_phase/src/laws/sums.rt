@@ -18,7 +18,7 @@ pub fn tight_bounds_are_no_greater()
         → 0 < length groups → (sums : Lengths)
         → AreBoundsOf (map (group_timing system responses) groups) sums
         → AreNoGreater (tight_bounds system responses groups) sums }
-    // over tight responses, those of a settled chain against its bounds
+    // over responses by phases, those of a settled chain against its bounds
     ensures bounds { (system : System) → IsSound system → (groups : List Group)
         → IsSettledChain system groups → 0 < length groups
         → AreNoGreater (tight_bounds system (tight_response system) groups) (bounds_of system groups) }

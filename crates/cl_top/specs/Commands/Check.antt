@@ -48,7 +48,7 @@ read_steps (Err refusal) = 0
 -- ---- what is promised
 
 -- The bytes mean a valid model, of which the text says what to know: a task that it calls late has no response within its
--- deadline by its tight question, and each other always finishes within its deadline.
+-- deadline by phases, and each other always finishes within its deadline.
 pub record IsSafeAdvice (bytes text : List ℕ) : Type 0 where
   pub model : SystemModel
   pub means : MeansModel bytes model

@@ -3,7 +3,7 @@ use Rattle.std.proofs.lemmas.Int.{ints}
 use Rattle.cl_stim.specs.Phase.{first_arrival}
 use Rattle.cl_phase.specs.declared.pace.Pace.TheVariants.{Kept}
 use Rattle.cl_phase.specs.TightBounds.{starts}
-use Rattle.cl_phase.specs.Inner.Longest.{longer_of, longest_of}
+use Rattle.cl_phase.specs.Inner.Longest.{longer_of, longest_walk}
 use Rattle.cl_phase.proofs.LongestWalks.{IsScannedTo, phase_in_range, scan_begins, scan_goes_on, scan_ends}
 use Rattle.cl_phase.proofs.scanning.longest_of_phase.Goals as goal
 
@@ -44,5 +44,5 @@ returns c =
     let span : passed c.args.span ≡ c.args.span = omega (arith, ints, c.requires.span) in
     scan_ends c.args.stops.now (passed c.args.span) c.args.place c.args.phase.now phase.is_phase c.args.ticks c.loop-arrival.longest here
     c.loop-arrival.invariant past
-    ∙ ap (λ s. longest_of c.args.stops.now s c.args.place (starts (Kept c.args.phase.now) c.args.ticks)) span
-    ∙ ap (λ pace. longest_of c.args.stops.now c.args.span c.args.place (starts pace c.args.ticks)) (sym c.requires.phase)
+    ∙ ap (λ s. longest_walk c.args.stops.now s c.args.place (starts (Kept c.args.phase.now) c.args.ticks)) span
+    ∙ ap (λ pace. longest_walk c.args.stops.now c.args.span c.args.place (starts pace c.args.ticks)) (sym c.requires.phase)

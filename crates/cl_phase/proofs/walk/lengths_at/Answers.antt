@@ -38,6 +38,6 @@ returns c =
     (first.ensures.leads ∙ ap (arrival_at_first stops c.args.place) same) (last.ensures.leads ∙ ap (arrival_at_last stops c.args.place) same)
     (before.ensures.before ∙ ap (λ pace. previous pace (to_z w64 (of_z w64 last.result))) (pace_here stops c.requires.stops (length stops - 1) (omega (arith, c.requires.stops.some)))
     ∙ ap (previous (pace_at stops (length stops - 1))) at_last)
-    c.ticks_of.ensures c.ticks_of-2.ensures
+    c.ticks_or_none.ensures c.ticks_or_none-2.ensures
     (omega (arith, ints, first.ensures.near, last.ensures.near, c.requires.span))
     (omega (arith, ints, first.ensures.near, last.ensures.near, before.ensures.not_after, before.ensures.near, c.requires.span))

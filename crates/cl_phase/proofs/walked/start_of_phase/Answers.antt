@@ -3,7 +3,7 @@ use Rattle.std.proofs.lemmas.Int.{ints}
 use Rattle.cl_stim.specs.Phase.{first_arrival}
 use Rattle.cl_phase.specs.declared.walk.Longest.{Longest}
 use Rattle.cl_phase.specs.declared.pace.Pace.TheVariants.{Kept}
-use Rattle.cl_phase.specs.TightBounds.{ticks_of, length_from, starts}
+use Rattle.cl_phase.specs.TightBounds.{ticks_or_none, length_from, starts}
 use Rattle.cl_phase.specs.Walked.{start_among}
 use Rattle.cl_phase.proofs.LongestWalks.{phase_in_range}
 use Rattle.cl_phase.proofs.ShownStarts.{fails_where, search_begins, search_goes_on, search_finds, search_ends}
@@ -29,7 +29,7 @@ returns-then-lengths_at-reaction-clause-start c =
     let here = to_z w64 c.loop-arrival.arrival-bits in
     let below : here <ℤ pos c.args.ticks = omega (arith, ints, c.loop-arrival-test.true, c.requires.few) in
     let span : passed c.args.span ≡ c.args.span = omega (arith, ints, c.requires.span) in
-    let long = ap (λ a. ticks_of (length_from stops (passed c.args.span) place a)) (sym c.loop-arrival.invariant.is)
+    let long = ap (λ a. ticks_or_none (length_from stops (passed c.args.span) place a)) (sym c.loop-arrival.invariant.is)
     ∙ sym (ap (λ (l : Longest). l.length) c.lengths_at.ensures) ∙ c.if-lengths_at-reaction.true in
     search_finds stops (passed c.args.span) place c.args.phase.now phase.is_phase c.args.ticks c.args.reaction here c.loop-arrival.invariant below (eq-eqb _ _ long)
     ∙ ap (λ s. pos (start_among stops s place c.args.reaction (starts (Kept c.args.phase.now) c.args.ticks))) span
@@ -50,7 +50,7 @@ loop-arrival-preserved c =
     let below : here <ℤ pos c.args.ticks = omega (arith, ints, c.loop-arrival-test.true, c.requires.few) in
     let after : passed (here +ℤ pos 1) ≡ here +ℤ pos 1 = omega (arith, ints, is, near, c.requires.few) in
     let same : passed next.result ≡ next.result = omega (arith, ints, next.ensures.not_before, next.ensures.near, after, is, near, c.requires.few) in
-    let long = ap (λ a. ticks_of (length_from stops (passed c.args.span) place a)) (sym is) ∙ sym (ap (λ (l : Longest). l.length) c.lengths_at.ensures) in
+    let long = ap (λ a. ticks_or_none (length_from stops (passed c.args.span) place a)) (sym is) ∙ sym (ap (λ (l : Longest). l.length) c.lengths_at.ensures) in
     search_goes_on stops (passed c.args.span) place c.args.phase.now phase.is_phase c.args.ticks c.args.reaction here (passed next.result)
     c.loop-arrival.invariant below
     (fails_where _ _ (λ lasts_so. c.if-lengths_at-reaction.false (sym long ∙ lasts_so)))

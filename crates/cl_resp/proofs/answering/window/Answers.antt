@@ -1,6 +1,7 @@
 use Rattle.std.proofs.Common.{◌≤◌, inl, inr, sym, ◌∙◌, arith}
 use Rattle.std.proofs.lemmas.Bool.{cases_lt}
 use Rattle.cl_resp.specs.Response.{demand}
+use Rattle.cl_resp.specs.Inner.Rising.{taken_in}
 use Rattle.cl_resp.proofs.Windows.{less_at_start, less_below_demand, found_at, none_up_to}
 use Rattle.cl_resp.proofs.WhatIsKept.{kept_wider}
 use Rattle.cl_resp.proofs.answering.window.Goals as goal
@@ -33,7 +34,7 @@ loop-width-preserved c =
     record {
       some = omega (arith, c.loop-width.invariant.some, c.if-needed-width.false);
       less = λ lesser below. less_below_demand question c.loop-width.width c.loop-width.invariant.less lesser (omega (arith, below, c.in_ok-needed.ensures.demand));
-      kept = kept_wider question.above c.demand.new.self.ticks c.demand.new.self.until c.loop-width.width c.demand.ensures.kept _ (omega (arith, c.if-needed-width.false));
+      kept = kept_wider taken_in question.above c.demand.new.self.ticks c.demand.new.self.until c.loop-width.width c.demand.ensures.kept _ (omega (arith, c.if-needed-width.false));
     }
 
 pub returns : goal.returns

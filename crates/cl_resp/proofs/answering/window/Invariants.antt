@@ -1,6 +1,6 @@
-use Rattle.std.proofs.Common.{ℕ, ◌+◌, ◌-◌, ◌<◌, ◌≤◌}
+use Rattle.std.proofs.Common.{◌+◌, ◌-◌, ◌≤◌}
 use Rattle.cl_resp.specs.Response.{NoneServesBelow}
-use Rattle.cl_resp.specs.Inner.Rising.{AreTaken}
+use Rattle.cl_resp.specs.Inner.Rising.{taken_in, AreTaken}
 use Rattle.cl_resp.proofs.answering.window.Given as goal
 
 -- no lesser width holds its own demand, and what is kept holds from this one on
@@ -8,7 +8,7 @@ abbrev pub invariant-loop-width : goal.invariant-loop-width
 invariant-loop-width l = record {
   some : 1 ≤ l.width;
   less : NoneServesBelow l.question l.width;
-  kept : AreTaken l.question.above l.rising.ticks l.rising.until l.width;
+  kept : AreTaken taken_in l.question.above l.rising.ticks l.rising.until l.width;
 }
 
 abbrev pub decreases-loop-width : goal.decreases-loop-width

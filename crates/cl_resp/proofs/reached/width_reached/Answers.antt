@@ -1,6 +1,5 @@
-use Rattle.std.proofs.Common.{subst, sym, ◌∙◌, ap}
-use Rattle.std.specs.Prelude.{Some, None, MatchResult, ◌≡◌}
-use Rattle.cl_resp.specs.Response.{Response, response_to, NoneServesBelow}
+use Rattle.std.proofs.Common.{subst, sym, ap}
+use Rattle.cl_resp.specs.Response.{Response, NoneServesBelow}
 use Rattle.cl_resp.proofs.SearchesOfCores.{none_below_settled, none_below_late}
 use Rattle.cl_resp.proofs.reached.width_reached.Goals as goal
 

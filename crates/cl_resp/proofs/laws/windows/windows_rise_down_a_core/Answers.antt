@@ -1,4 +1,3 @@
-use Rattle.cl_runs.specs.TaskTiming.{timing_at}
 use Rattle.cl_resp.proofs.Descending.{none_descends, tasks_take_some}
 use Rattle.cl_resp.proofs.laws.windows.windows_rise_down_a_core.Goals as goal
 

@@ -1,7 +1,8 @@
 use Rattle.std.proofs.Common.{rules, ◌≡◌, ◌<◌, List, length, get_or, ap, ◌∙◌, arith}
 use Rattle.cl_resp.specs.declared.question.Above.{Above}
 use Rattle.cl_resp.specs.declared.rising.Rising.{Rising}
-use Rattle.cl_resp.proofs.WhatIsKept.{IsCountedAnew, counted_anew, counted_before, one_exceeds, one_more, all_needed}
+use Rattle.cl_resp.specs.Inner.Rising.{taken_in}
+use Rattle.cl_resp.proofs.WhatIsKept.{IsCountedAnew, counted_anew, counted_before, takes_between, one_exceeds, one_more, all_needed}
 use Rattle.cl_resp.proofs.rising.Rising.demand.Goals as goal
 use Rattle.cl_resp.proofs.rising.Rising.demand.Goals.{then-self-place+else-ticks-from, else-self-place}
 
@@ -18,16 +19,16 @@ loop-place-preserved c =
     let known : c.loop-place.place < length c.args.question.now.above = search rules in
     let is : c.above-item.result ≡ get_or c.args.question.now.above c.loop-place.place c.above-item.result =
     c.above-item.is ∙ ap (λ (l : List Above). get_or l c.loop-place.place c.above-item.result) c.as_slice-above-items.ensures in
-    let anew : IsCountedAnew c.args.question.now.above c.loop-place.self.ticks c.loop-place.self.until c.args.width c.loop-place.invariant.kept
+    let anew : IsCountedAnew taken_in c.args.question.now.above c.loop-place.self.ticks c.loop-place.self.until c.args.width c.loop-place.invariant.kept
     c.loop-place.place c.above-item.result c.if-self-place.self.ticks c.if-self-place.self.until =
     elim c.if-self-place.branch [
       | then-self-place+else-ticks-from w ↦
-          counted_anew c.args.question.now.above c.loop-place.self.ticks c.loop-place.self.until c.args.width c.loop-place.invariant.kept
+          counted_anew taken_in c.args.question.now.above c.loop-place.self.ticks c.loop-place.self.until c.args.width c.loop-place.invariant.kept
           c.loop-place.place w.taken-ticks.result w.widest.result c.above-item.result c.if-self-place.self.ticks c.if-self-place.self.until
           (search rules) (search rules) known is w.taken-ticks.ensures.taken (omega (arith, w.if-ticks-from, w.from.ensures, c.requires.end))
-          w.widest.ensures.no_narrower w.widest.ensures.as_many (ap (λ (r : Rising). r.ticks) w.self-is) (ap (λ (r : Rising). r.until) w.self-is)
+          (takes_between c.above-item.result c.args.width w.widest.result w.widest.ensures.as_many) (ap (λ (r : Rising). r.ticks) w.self-is) (ap (λ (r : Rising). r.until) w.self-is)
       | else-self-place w ↦
-          counted_before c.args.question.now.above c.loop-place.self.ticks c.loop-place.self.until c.args.width c.loop-place.invariant.kept
+          counted_before taken_in c.args.question.now.above c.loop-place.self.ticks c.loop-place.self.until c.args.width c.loop-place.invariant.kept
           c.loop-place.place c.above-item.result c.if-self-place.self.ticks c.if-self-place.self.until known is
           (omega (arith, w.if-self-place)) (ap (λ (r : Rising). r.ticks) w.self-is) (ap (λ (r : Rising). r.until) w.self-is)
     ] in

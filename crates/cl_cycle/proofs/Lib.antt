@@ -1,0 +1,12 @@
+pub mod GatheredPhases
+pub mod GatheredLists
+pub mod GatheredSteps
+pub mod GatheredNumbers
+pub mod GatheredPeriods
+pub mod GatheredWork
+pub mod CycleMembers
+pub mod CycleLengths
+pub mod CountedJobs
+pub mod CountedMost
+pub mod CountedTicks
+pub mod CountedTurns

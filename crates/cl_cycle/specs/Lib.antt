@@ -1,0 +1,4 @@
+pub mod Counts
+pub mod Cycles
+pub mod Promises
+pub mod Inner

@@ -1,0 +1,3 @@
+//! Laws of counted arrivals and of cycles.
+pub mod counts;
+pub mod cycles;
