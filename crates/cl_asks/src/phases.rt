@@ -3,11 +3,12 @@
 ghost use Rattle.std.specs.Prelude.{◌≡◌, ◌<◌, length, Some, None};
 ghost use Rattle.std.specs.Option.{option_map};
 ghost use Rattle.cl_runs.specs.SystemOf.{system_of};
-ghost use Rattle.cl_resp.specs.ByPhase.{response_by_phase};
+ghost use Rattle.cl_resp.specs.ByPhase.{response_by_phase, IsSettledByPhase};
 ghost use Rattle.cl_resp.specs.Response.{Response};
 
 use crate::words::put_number;
 use cl_cycle::Cycle;
+use cl_lead::lead_of;
 use cl_model::ValidModel;
 use cl_report::put_task_name;
 use cl_resp::{Late, WorstWindow, respond_by_phase, respond_through, widest_window, worst_window};
@@ -16,12 +17,13 @@ use cl_time::NoMemory;
 use std::alloc::Global;
 
 /// Answers `phases MODEL`: for each task, in file order, its cycle and the tasks above it that are
-/// in phase, its response, those of its runnables, and its worst window, a line each. A late task
-/// has no line of its runnables.
+/// in phase, the leads of its runnables, its response, those of its runnables, and its worst
+/// window, a line each. A late task has no line of the responses of its runnables.
 pub(crate) fn phases_lines(alloc: Global, model: &ValidModel) -> Result<Text, NoMemory> {
     let mut text = Text::new(alloc);
     for task in 0..model.tasks() {
         put_cycle(&mut text, model, task)?;
+        put_leads(&mut text, model, task)?;
         put_response(alloc, &mut text, model, task)?;
     }
     Ok(text)
@@ -60,6 +62,18 @@ fn put_in_phase(text: &mut Text, model: &ValidModel, cycle: &Cycle) -> Result<()
     if is_some { Ok(()) } else { text.put(b" none") }
 }
 
+/// Puts the leads of the runnables of a task, on a line.
+fn put_leads(text: &mut Text, model: &ValidModel, task: u32) -> Result<(), NoMemory>
+    requires { task < length model.now.tasks }
+{
+    put_task(text, model, task)?;
+    text.put(b" leads")?;
+    for place in 0..model.task(task).runnables.len() as u32 {
+        put_number(text, b" ", lead_of(model, task, place))?;
+    }
+    text.put(b"\n")
+}
+
 /// Puts the response of a task or that it is late, the responses of its runnables, and its worst
 /// window.
 fn put_response(
@@ -86,13 +100,12 @@ fn put_in_time(
     response: u64,
 ) -> Result<(), NoMemory>
     requires task { task < length model.now.tasks }
-    requires response { option_map (λ (settled : Response). settled.response)
-        (response_by_phase (system_of model.now) task) ≡ Some response }
+    requires settled { IsSettledByPhase (system_of model.now) task response }
 {
     put_task(text, model, task)?;
     put_number(text, b" response ", response)?;
     text.put(b"\n")?;
-    put_through(alloc, text, model, task)?;
+    put_through(alloc, text, model, task, response)?;
     put_worst(alloc, text, model, task, Some(response))
 }
 
@@ -106,23 +119,24 @@ fn put_late(alloc: Global, text: &mut Text, model: &ValidModel, task: u32) -> Re
     put_worst(alloc, text, model, task, None)
 }
 
-/// Puts the responses of the runnables of a task up to each place, on a line.
+/// Puts the responses of the runnables of a task up to each place, on a line. The task has this
+/// response.
 #[tactic(auto, using(cl_resp::proofs::PhasedAnswers::ranges_counted))]
 fn put_through(
     alloc: Global,
     text: &mut Text,
     model: &ValidModel,
     task: u32,
+    response: u64,
 ) -> Result<(), NoMemory>
-    requires { task < length model.now.tasks }
+    requires task { task < length model.now.tasks }
+    requires settled { IsSettledByPhase (system_of model.now) task response }
 {
     put_task(text, model, task)?;
     text.put(b" through")?;
     for place in 0..model.task(task).runnables.len() as u32 {
-        match respond_through(alloc, model, task, place)? {
-            Some(response) => put_number(text, b" ", response)?,
-            None => text.put(b" late")?,
-        }
+        let through = respond_through(alloc, model, task, place, response)?;
+        put_number(text, b" ", through)?;
     }
     text.put(b"\n")
 }

@@ -1,4 +1,4 @@
--- The bounds of a chain of timely tasks are at least the lengths of its complete chains in a legal run.
+-- The bounds of a chain of groups whose windows are always kept are at least the lengths of its complete chains in a legal run.
 use Rattle.std.proofs.Common.{◌≡◌, ℕ, pos, suc, ◌+◌, ◌-◌, ◌<◌, ◌≤◌, List, [], ◌∷◌, length, map, ap, subst, arith}
 use Rattle.std.specs.Prelude.{slice_index, ◌+ℤ◌, ◌≤ℤ◌}
 use Rattle.std.proofs.Math.Numerals.{add-one}
@@ -12,9 +12,8 @@ use Rattle.cl_model.specs.Groups.{group_at}
 use Rattle.cl_runs.specs.Chains.{JobChain, chain_length, first_job, IsForwardChain, AreBackwardLinks, IsAgeChain, IsReducedChain}
 use Rattle.cl_runs.specs.RunChains.{run_moments}
 use Rattle.cl_runs.proofs.RunArrivals.{next_within}
-use Rattle.cl_runs.specs.Responses.{IsTimely}
-use Rattle.cl_comm.proofs.AccessTimes.{reads_come_late}
-use Rattle.cl_bound.specs.Hops.{group_timing, forward_hop, backward_hop, hops}
+use Rattle.cl_bound.specs.Hops.{forward_hop, backward_hop, hops}
+use Rattle.cl_bound.specs.Timings.{AlwaysKeeps}
 use Rattle.cl_bound.specs.declared.group_timing.GroupTiming.{GroupTiming}
 use Rattle.cl_bound.specs.Bounds.{last_of, Lengths, AreBoundsOf}
 use Rattle.cl_bound.specs.Promises.{AreAtLeast}
@@ -22,63 +21,63 @@ use Rattle.cl_bound.proofs.LaterRuns.{writes_in_time}
 use Rattle.cl_bound.proofs.HopBounds.{forward_arrival, backward_arrival}
 use Rattle.cl_bound.proofs.AlongChains.{telescope, last_timing, at_last, length_within, from_first, from_before, to_next}
 
--- all tasks of a chain are timely
-abbrev pub AreTimely : System → (ℕ → ℕ) → List Group → Type 0
-AreTimely system responses groups = (i : ℕ) → i < length groups → IsTimely system (group_at groups i).task (responses (group_at groups i).task)
+-- the windows of all groups of a chain are always kept
+abbrev pub AreAlwaysKept : System → (timing : Group → GroupTiming) → List Group → Type 0
+AreAlwaysKept system timing groups = (i : ℕ) → i < length groups → AlwaysKeeps system (group_at groups i) (timing (group_at groups i))
 
 -- when the job of a group of a chain arrives
 abbrev arrival : Run → List Group → List ℕ → ℕ → ℕ
 arrival run groups jobs i = (job_at (jobs_of run (group_at groups i).task) (slice_index jobs i)).arrival
 
-module _ (system : System) (sound : IsSound system) (responses : ℕ → ℕ) (first : Group) (groups : List Group)
-    (timely : AreTimely system responses (first ∷ groups)) (run : Run) (legal : IsLegal system run)
-    (bounds : Lengths) (are : AreBoundsOf (map (group_timing system responses) (first ∷ groups)) bounds) where
+module _ (system : System) (sound : IsSound system) (timing : Group → GroupTiming) (first : Group) (groups : List Group)
+    (keep : AreAlwaysKept system timing (first ∷ groups)) (run : Run) (legal : IsLegal system run)
+    (bounds : Lengths) (are : AreBoundsOf (map timing (first ∷ groups)) bounds) where
   last_place : length groups < length (first ∷ groups)
   last_place = omega arith
 
-  last_write : (last_of (group_timing system responses first) (map (group_timing system responses) groups)).write
-      ≡ (group_timing system responses (group_at (first ∷ groups) (length groups))).write
-  last_write = ap (λ (timing : GroupTiming). timing.write) (last_timing (group_timing system responses) first groups)
+  last_write : (last_of (timing first) (map timing groups)).write
+      ≡ (timing (group_at (first ∷ groups) (length groups))).write
+  last_write = ap (λ (t : GroupTiming). t.write) (last_timing timing first groups)
 
-  last_distance : (last_of (group_timing system responses first) (map (group_timing system responses) groups)).distance
-      ≡ (group_timing system responses (group_at (first ∷ groups) (length groups))).distance
-  last_distance = ap (λ (timing : GroupTiming). timing.distance) (last_timing (group_timing system responses) first groups)
+  last_distance : (last_of (timing first) (map timing groups)).distance
+      ≡ (timing (group_at (first ∷ groups) (length groups))).distance
+  last_distance = ap (λ (t : GroupTiming). t.distance) (last_timing timing first groups)
 
   -- the first group reads and the last writes as their windows say
   first_reads : (k t : ℕ) → Reads system run first.task k first.first t
-      → (job_at (jobs_of run first.task) k).arrival + (group_timing system responses first).read ≤ t
-  unfolding group_timing
-  first_reads k t = reads_come_late system sound run legal first.task k first.first (responses first.task) t
+      → (job_at (jobs_of run first.task) k).arrival + (timing first).read ≤ t
+  first_reads = ((keep 0 (omega arith)).always run legal).reads
 
   last_writes : (k t : ℕ) → Writes system run (group_at (first ∷ groups) (length groups)).task k (group_at (first ∷ groups) (length groups)).last t
       → t ≤ (job_at (jobs_of run (group_at (first ∷ groups) (length groups)).task) k).arrival
-      + (group_timing system responses (group_at (first ∷ groups) (length groups))).write
-  unfolding group_timing
-  last_writes k t = writes_in_time system sound run legal (group_at (first ∷ groups) (length groups)).task
-      (responses (group_at (first ∷ groups) (length groups)).task) (timely (length groups) last_place) k
-      (group_at (first ∷ groups) (length groups)).last t
+      + (timing (group_at (first ∷ groups) (length groups))).write
+  last_writes = writes_in_time system sound run legal (group_at (first ∷ groups) (length groups)) (timing (group_at (first ∷ groups) (length groups)))
+      (keep (length groups) last_place)
 
   -- the next job of a group arrives within its distance
   next_soon : (i : ℕ) → i < length (first ∷ groups) → (k : ℕ) → suc k < length (jobs_of run (group_at (first ∷ groups) i).task)
       → (job_at (jobs_of run (group_at (first ∷ groups) i).task) (suc k)).arrival
-      ≤ (job_at (jobs_of run (group_at (first ∷ groups) i).task) k).arrival + (group_timing system responses (group_at (first ∷ groups) i)).distance
-  unfolding group_timing
-  next_soon i h k = next_within system sound run legal (group_at (first ∷ groups) i).task (timely i h).is_task k
+      ≤ (job_at (jobs_of run (group_at (first ∷ groups) i).task) k).arrival + (timing (group_at (first ∷ groups) i)).distance
+  next_soon i h k below = omega (
+    arith,
+    next_within system sound run legal (group_at (first ∷ groups) i).task (keep i h).is_group.is_task k below,
+    (keep i h).of_group.distance,
+  )
 
   -- the last job of a chain arrives at most the sum of its hops after the first
   forward_along : (chain : JobChain) → IsForwardChain (run_moments system run) (first ∷ groups) chain
       → pos (arrival run (first ∷ groups) chain.jobs (length groups))
-      ≤ℤ (pos (arrival run (first ∷ groups) chain.jobs 0) +ℤ hops forward_hop (group_timing system responses first) (map (group_timing system responses) groups))
-  forward_along chain complete = telescope forward_hop (group_timing system responses) first groups (arrival run (first ∷ groups) chain.jobs) (λ i h.
-      forward_arrival system sound responses (group_at (first ∷ groups) i) (group_at (first ∷ groups) (suc i)) (timely i (omega arith)) (timely (suc i) h)
-      run legal (slice_index chain.jobs i) (slice_index chain.jobs (suc i)) (complete.not_first (suc i) h) (complete.linked i h))
+      ≤ℤ (pos (arrival run (first ∷ groups) chain.jobs 0) +ℤ hops forward_hop (timing first) (map timing groups))
+  forward_along chain complete = telescope forward_hop timing first groups (arrival run (first ∷ groups) chain.jobs) (λ i h.
+      forward_arrival system sound (group_at (first ∷ groups) i) (group_at (first ∷ groups) (suc i)) (timing (group_at (first ∷ groups) i))
+      (timing (group_at (first ∷ groups) (suc i))) (keep i (omega arith)) (keep (suc i) h) run legal (slice_index chain.jobs i) (slice_index chain.jobs (suc i)) (complete.not_first (suc i) h) (complete.linked i h))
 
   backward_along : (jobs : List ℕ) → AreBackwardLinks (run_moments system run) (first ∷ groups) jobs
       → pos (arrival run (first ∷ groups) jobs (length groups))
-      ≤ℤ (pos (arrival run (first ∷ groups) jobs 0) +ℤ hops backward_hop (group_timing system responses first) (map (group_timing system responses) groups))
-  backward_along jobs links = telescope backward_hop (group_timing system responses) first groups (arrival run (first ∷ groups) jobs) (λ i h.
-      backward_arrival system sound responses (group_at (first ∷ groups) i) (group_at (first ∷ groups) (suc i)) (timely i (omega arith)) (timely (suc i) h)
-      run legal (slice_index jobs i) (slice_index jobs (suc i)) (links.linked i h))
+      ≤ℤ (pos (arrival run (first ∷ groups) jobs 0) +ℤ hops backward_hop (timing first) (map timing groups))
+  backward_along jobs links = telescope backward_hop timing first groups (arrival run (first ∷ groups) jobs) (λ i h.
+      backward_arrival system sound (group_at (first ∷ groups) i) (group_at (first ∷ groups) (suc i)) (timing (group_at (first ∷ groups) i))
+      (timing (group_at (first ∷ groups) (suc i))) (keep i (omega arith)) (keep (suc i) h) run legal (slice_index jobs i) (slice_index jobs (suc i)) (links.linked i h))
 
   reaction_within : (chain : JobChain) → IsForwardChain (run_moments system run) (first ∷ groups) chain
       → chain_length chain ≤ bounds.reaction
@@ -93,9 +92,9 @@ module _ (system : System) (sound : IsSound system) (responses : ℕ → ℕ) (f
       complete.one_a_group complete.to in
       length_within chain.from chain.to _ _ are.reaction (from_before (arrival run (first ∷ groups) chain.jobs 0)
       (arrival run (first ∷ groups) chain.jobs (length groups)) chain.to
-      (hops forward_hop (group_timing system responses first) (map (group_timing system responses) groups))
+      (hops forward_hop (timing first) (map timing groups))
       _ _ last_write (last_writes _ chain.to writes) (forward_along chain complete)
-      chain.from (group_timing system responses first).read (job_at (jobs_of run first.task) k).arrival (group_timing system responses first).distance
+      chain.from (timing first).read (job_at (jobs_of run first.task) k).arrival (timing first).distance
       (first_reads k chain.from complete.from)
       (omega (arith, soon, ap (λ (n : ℕ). (job_at (jobs_of run first.task) n).arrival) next)))
 
@@ -107,9 +106,9 @@ module _ (system : System) (sound : IsSound system) (responses : ℕ → ℕ) (f
       complete.links.one_a_group complete.to in
       length_within chain.from chain.to _ _ are.reduced (from_first (arrival run (first ∷ groups) chain.jobs 0)
       (arrival run (first ∷ groups) chain.jobs (length groups)) chain.to
-      (hops backward_hop (group_timing system responses first) (map (group_timing system responses) groups))
+      (hops backward_hop (timing first) (map timing groups))
       _ _ last_write (last_writes _ chain.to writes) (backward_along chain.jobs complete.links)
-      chain.from (group_timing system responses first).read (first_reads (first_job chain) chain.from complete.from))
+      chain.from (timing first).read (first_reads (first_job chain) chain.from complete.from))
 
   age_within : (chain : JobChain) → IsAgeChain (run_moments system run) (first ∷ groups) chain
       → chain_length chain ≤ bounds.age
@@ -121,22 +120,22 @@ module _ (system : System) (sound : IsSound system) (responses : ℕ → ℕ) (f
       length_within chain.from chain.to _ _ are.age (to_next (arrival run (first ∷ groups) chain.jobs 0)
       (arrival run (first ∷ groups) chain.jobs (length groups))
       (job_at (jobs_of run (group_at (first ∷ groups) (length groups)).task) (suc last)).arrival chain.to
-      (hops backward_hop (group_timing system responses first) (map (group_timing system responses) groups))
+      (hops backward_hop (timing first) (map timing groups))
       _ _ _ _ last_write last_distance (last_writes (suc last) chain.to writes) (next_soon (length groups) last_place last writes.in_table)
       (backward_along chain.jobs complete.links)
-      chain.from (group_timing system responses first).read (first_reads (first_job chain) chain.from complete.from))
+      chain.from (timing first).read (first_reads (first_job chain) chain.from complete.from))
 
--- the bounds of a chain of timely tasks are at least the lengths of its complete chains
-pub at_least : (system : System) → IsSound system → (responses : ℕ → ℕ) (groups : List Group) → AreTimely system responses groups
-    → (run : Run) → IsLegal system run → (bounds : Lengths) → AreBoundsOf (map (group_timing system responses) groups) bounds
+-- the bounds of a chain of such groups are at least the lengths of its complete chains
+pub at_least : (system : System) → IsSound system → (timing : Group → GroupTiming) (groups : List Group) → AreAlwaysKept system timing groups
+    → (run : Run) → IsLegal system run → (bounds : Lengths) → AreBoundsOf (map timing groups) bounds
     → AreAtLeast system groups bounds run
-at_least system sound responses [] timely run legal bounds are = record {
+at_least system sound timing [] keep run legal bounds are = record {
   reaction = λ chain complete. absurd (omega (arith, complete.some_group));
   age = λ chain complete. absurd (omega (arith, complete.links.some_group));
   reduced = λ chain complete. absurd (omega (arith, complete.links.some_group));
 }
-at_least system sound responses (first ∷ groups) timely run legal bounds are = record {
-  reaction = reaction_within system sound responses first groups timely run legal bounds are;
-  age = age_within system sound responses first groups timely run legal bounds are;
-  reduced = reduced_within system sound responses first groups timely run legal bounds are;
+at_least system sound timing (first ∷ groups) keep run legal bounds are = record {
+  reaction = reaction_within system sound timing first groups keep run legal bounds are;
+  age = age_within system sound timing first groups keep run legal bounds are;
+  reduced = reduced_within system sound timing first groups keep run legal bounds are;
 }

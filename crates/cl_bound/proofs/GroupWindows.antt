@@ -9,7 +9,7 @@ use Rattle.cl_model.specs.declared.limits.TheConstants.{MOST_TICKS}
 use Rattle.cl_model.specs.declared.group.Group.{Group}
 use Rattle.cl_model.specs.declared.task.AccessKind.{AccessKind}
 use Rattle.cl_model.specs.declared.task.AccessKind.TheVariants.{Explicit, Implicit, Timed}
-use Rattle.cl_model.specs.Timing.{greatest_distance}
+use Rattle.cl_model.specs.Timing.{greatest_distance, greatest_jitter}
 use Rattle.cl_runs.specs.TaskTiming.{TimeRange, Timing, System, timing_at, no_range, IsSound}
 use Rattle.cl_runs.proofs.PatternFacts.{distances_ordered}
 use Rattle.cl_runs.proofs.Work.{sum_take_mono}
@@ -83,6 +83,13 @@ read_first Implicit first last response distance spots =
     (omega (arith, spots.behind, spots.fits, spots.in_time, spots.apart), omega (arith, spots.behind, spots.fits))
 read_first Timed first last response distance spots =
     (omega (arith, spots.behind, spots.fits, spots.in_time, spots.apart), omega (arith, spots.behind, spots.fits, spots.in_time))
+
+-- the jitter of a task is at most its greatest distance
+pub jitter_within : (system : System) → IsSound system → (i : ℕ) → i < length system.tasks
+    → greatest_jitter (timing_at system i).pattern ≤ greatest_distance (timing_at system i).pattern
+jitter_within system sound i is =
+    let task_sound = sound.tasks i is in
+    omega (arith, task_sound.above_jitter, task_sound.within_distance, distances_ordered (timing_at system i).pattern task_sound.pattern)
 
 -- a group that reads before its distance is over and before it writes, writes by the end of its distance, and whose
 -- jitter is less than that

@@ -13,8 +13,9 @@ use Rattle.cl_runs.specs.RunChains.{run_moments}
 use Rattle.cl_runs.proofs.RunArrivals.{next_within}
 use Rattle.cl_runs.proofs.MomentFacts.{reads_below}
 use Rattle.cl_runs.proofs.Agreement.{arrival_kept, reads_kept, write_returns}
-use Rattle.cl_runs.specs.Responses.{IsTimely}
-use Rattle.cl_bound.specs.Hops.{group_timing, lag, forward_hop, backward_hop}
+use Rattle.cl_bound.specs.Hops.{lag, forward_hop, backward_hop}
+use Rattle.cl_bound.specs.Timings.{AlwaysKeeps}
+use Rattle.cl_bound.specs.declared.group_timing.GroupTiming.{GroupTiming}
 use Rattle.cl_bound.proofs.LaterRuns.{NextWrite, next_write}
 use Rattle.cl_bound.proofs.LagBounds.{arrival_within_lag, forward_lag}
 
@@ -29,46 +30,52 @@ one_earlier : (a a_longer b b_longer next distance : ℕ) (lag : ℤ) → a ≡ 
     → pos a ≤ℤ (pos b +ℤ ((pos distance -ℤ pos 1) +ℤ lag))
 one_earlier a a_longer b b_longer next distance lag same_a same_b bounded soon = omega (arith, ints, same_a, same_b, bounded, soon)
 
-module _ (system : System) (sound : IsSound system) (responses : ℕ → ℕ) (x y : Group)
-    (timely_x : IsTimely system x.task (responses x.task)) (timely_y : IsTimely system y.task (responses y.task))
+module _ (system : System) (sound : IsSound system) (x y : Group) (writer reader : GroupTiming)
+    (keeps_x : AlwaysKeeps system x writer) (keeps_y : AlwaysKeeps system y reader)
     (run : Run) (legal : IsLegal system run) (m k : ℕ) where
   -- forward, from the reader's job before
   pub forward_arrival : 1 ≤ k → IsEarliestReader (run_moments system run) x y m k
       → pos (job_at (jobs_of run y.task) k).arrival
-      ≤ℤ (pos (job_at (jobs_of run x.task) m).arrival +ℤ forward_hop (group_timing system responses x) (group_timing system responses y))
-  unfolding run_moments group_timing
-  forward_arrival some reader =
+      ≤ℤ (pos (job_at (jobs_of run x.task) m).arrival +ℤ forward_hop writer reader)
+  unfolding run_moments
+  forward_arrival some earliest =
       let next : k ≡ suc (k - 1) = omega (arith, some) in
-      let soon : (job_at (jobs_of run y.task) k).arrival ≤ (job_at (jobs_of run y.task) (k - 1)).arrival + (group_timing system responses y).distance = omega (
+      let soon : (job_at (jobs_of run y.task) k).arrival ≤ (job_at (jobs_of run y.task) (k - 1)).arrival + reader.distance = omega (
         arith,
         ap (λ (n : ℕ). (job_at (jobs_of run y.task) n).arrival) next,
-        next_within system sound run legal y.task timely_y.is_task (k - 1) (subst (λ (n : ℕ). n < length (jobs_of run y.task)) next reader.reads.in_table),
+        next_within system sound run legal y.task keeps_y.is_group.is_task (k - 1) (subst (λ (n : ℕ). n < length (jobs_of run y.task)) next earliest.reads.in_table),
+        keeps_y.of_group.distance,
       ) in
-      one_later _ _ _ _ _ (forward_lag system sound responses x y timely_x timely_y run legal m k some reader) soon
+      one_later _ _ _ _ _ (forward_lag system sound x y writer reader keeps_x keeps_y run legal m k some earliest) soon
 
   -- backward, to the writer's next job, which writes after the read
-  next_after : (n : NextWrite system run x.task m x.last) → (writer : IsLatestWriter (run_moments system run) x y m k) → writer.read < n.write
+  next_after : (n : NextWrite system run x.task m x.last) → (latest : IsLatestWriter (run_moments system run) x y m k) → latest.read < n.write
   unfolding run_moments
-  next_after n writer = elim (cases_lt writer.read n.write) [
+  next_after n latest = elim (cases_lt latest.read n.write) [
     | inl after ↦ after
     | inr by ↦
-        let end = reads_below system sound run legal y.task k y.first writer.read writer.reads in
+        let end = reads_below system sound run legal y.task k y.first latest.read latest.reads in
         absurd (omega (
           arith,
-          writer.greatest (suc m) n.write
+          latest.greatest (suc m) n.write
               (write_returns system sound run n.longer legal n.legal n.goes_on x.task (suc m) x.last n.write n.writes (omega arith)) by,
         ))
   ]
 
   pub backward_arrival : IsLatestWriter (run_moments system run) x y m k
       → pos (job_at (jobs_of run y.task) k).arrival
-      ≤ℤ (pos (job_at (jobs_of run x.task) m).arrival +ℤ backward_hop (group_timing system responses x) (group_timing system responses y))
-  unfolding run_moments group_timing
-  backward_arrival writer =
-      let n = next_write system sound run legal x.task (responses x.task) timely_x m x.last writer.writes.in_table writer.writes.is_runnable in
+      ≤ℤ (pos (job_at (jobs_of run x.task) m).arrival +ℤ backward_hop writer reader)
+  unfolding run_moments
+  backward_arrival latest =
+      let n = next_write system sound run legal x writer keeps_x m latest.writes.in_table in
+      let soon : (job_at (jobs_of n.longer x.task) (suc m)).arrival ≤ (job_at (jobs_of n.longer x.task) m).arrival + writer.distance = omega (
+        arith,
+        next_within system sound n.longer n.legal x.task keeps_x.is_group.is_task m n.in_table,
+        keeps_x.of_group.distance,
+      ) in
       one_earlier _ _ _ _ _ _ _
-      (arrival_kept system run n.longer n.goes_on y.task k writer.reads.in_table)
-      (arrival_kept system run n.longer n.goes_on x.task m writer.writes.in_table)
-      (arrival_within_lag system sound responses x y timely_x timely_y n.longer n.legal (suc m) k writer.read n.write
-      (reads_kept system run n.longer n.goes_on y.task k y.first writer.read writer.reads) n.writes (next_after n writer))
-      (next_within system sound n.longer n.legal x.task timely_x.is_task m n.in_table)
+      (arrival_kept system run n.longer n.goes_on y.task k latest.reads.in_table)
+      (arrival_kept system run n.longer n.goes_on x.task m latest.writes.in_table)
+      (arrival_within_lag system sound x y writer reader keeps_x keeps_y n.longer n.legal (suc m) k latest.read n.write
+      (reads_kept system run n.longer n.goes_on y.task k y.first latest.read latest.reads) n.writes (next_after n latest))
+      soon

@@ -1,5 +1,5 @@
 -- Lags bound the arrivals of jobs of which one reads before the other writes, so those of neighbouring jobs of chains.
-use Rattle.std.proofs.Common.{◌≡◌, ℕ, pos, ◌+◌, ◌-◌, ◌<◌, ◌≤◌, true, inl, inr, length, ap, subst, arith}
+use Rattle.std.proofs.Common.{◌≡◌, ℕ, pos, ◌+◌, ◌-◌, ◌<◌, ◌≤◌, true, inl, inr, length, sym, ap, ◌∙◌, subst, arith}
 use Rattle.std.specs.Prelude.{◌+ℤ◌, ◌≤ℤ◌}
 use Rattle.std.proofs.lemmas.Bool.{cases_lt}
 use Rattle.std.proofs.lemmas.Int.{ints}
@@ -13,8 +13,8 @@ use Rattle.cl_runs.specs.Chains.{HasWritten, IsEarliestReader, IsLatestWriter}
 use Rattle.cl_runs.specs.RunChains.{run_moments}
 use Rattle.cl_runs.proofs.RunArrivals.{arrivals_rise}
 use Rattle.cl_runs.proofs.MomentFacts.{earlier_has_read}
-use Rattle.cl_runs.specs.Responses.{IsTimely}
-use Rattle.cl_bound.specs.Hops.{group_timing, saves, lag}
+use Rattle.cl_bound.specs.Hops.{saves, lag}
+use Rattle.cl_bound.specs.Timings.{AlwaysKeeps}
 use Rattle.cl_bound.specs.declared.group_timing.GroupTiming.{GroupTiming}
 use Rattle.cl_bound.proofs.LagTable.{lag_lines}
 use Rattle.cl_bound.proofs.ReadsBeforeWrites.{arrival_where_saved, arrival_before_write, job_before_write}
@@ -38,42 +38,43 @@ no_later system sound run legal x y same is k l h below =
       | inr late ↦ let one : k ≡ l = omega arith in omega (arith, along, ap (λ (n : ℕ). (job_at (jobs_of run y) n).arrival) one)
     ]
 
-module _ (system : System) (sound : IsSound system) (responses : ℕ → ℕ) (x y : Group)
-    (timely_x : IsTimely system x.task (responses x.task)) (timely_y : IsTimely system y.task (responses y.task))
+module _ (system : System) (sound : IsSound system) (x y : Group) (writer reader : GroupTiming)
+    (keeps_x : AlwaysKeeps system x writer) (keeps_y : AlwaysKeeps system y reader)
     (run : Run) (legal : IsLegal system run) where
   -- a job that reads before another writes arrives less than the lag after it
   pub arrival_within_lag : (m k r w : ℕ) → Reads system run y.task k y.first r → Writes system run x.task m x.last w → r < w
       → (pos (job_at (jobs_of run y.task) k).arrival +ℤ pos 1)
-      ≤ℤ (pos (job_at (jobs_of run x.task) m).arrival +ℤ lag (group_timing system responses x) (group_timing system responses y))
-  unfolding group_timing
-  arrival_within_lag m k r w reads writes before = lag_bounds _ _ (group_timing system responses x) (group_timing system responses y)
-      (λ one. no_later system sound run legal x.task y.task one timely_y.is_task k m
+      ≤ℤ (pos (job_at (jobs_of run x.task) m).arrival +ℤ lag writer reader)
+  arrival_within_lag m k r w reads writes before = lag_bounds _ _ writer reader
+      (λ same.
+      let one : x.task ≡ y.task = sym keeps_x.of_group.task ∙ same ∙ keeps_y.of_group.task in
+      no_later system sound run legal x.task y.task one keeps_y.is_group.is_task k m
       (job_before_write system sound run legal x.task y.task k y.first r m x.last w one reads writes before) writes.in_table)
-      (arrival_where_saved system sound responses x y timely_x timely_y run legal k m r w reads writes before)
-      (arrival_before_write system sound responses x y timely_x timely_y run legal k m r w reads writes before)
+      (arrival_where_saved system sound x y writer reader keeps_x keeps_y run legal k m r w reads writes before)
+      (arrival_before_write system sound x y writer reader keeps_x keeps_y run legal k m r w reads writes before)
 
   -- where a job is the earliest reader, the one before it has read before the write
   pub forward_lag : (m k : ℕ) → 1 ≤ k → IsEarliestReader (run_moments system run) x y m k
       → (pos (job_at (jobs_of run y.task) (k - 1)).arrival +ℤ pos 1)
-      ≤ℤ (pos (job_at (jobs_of run x.task) m).arrival +ℤ lag (group_timing system responses x) (group_timing system responses y))
+      ≤ℤ (pos (job_at (jobs_of run x.task) m).arrival +ℤ lag writer reader)
   unfolding run_moments
-  forward_lag m k some reader =
-      let missed = earlier_has_read system sound run legal y.task (k - 1) y.first k y.first reader.read (omega (arith, some))
-      reader.reads.is_runnable reader.reads in
-      let before : missed.read < reader.write = elim (cases_lt missed.read reader.write) [
+  forward_lag m k some earliest =
+      let missed = earlier_has_read system sound run legal y.task (k - 1) y.first k y.first earliest.read (omega (arith, some))
+      earliest.reads.is_runnable earliest.reads in
+      let before : missed.read < earliest.write = elim (cases_lt missed.read earliest.write) [
         | inl before ↦ before
-        | inr after ↦ absurd (omega (arith, some, reader.least (k - 1) missed.read missed.reads after))
+        | inr after ↦ absurd (omega (arith, some, earliest.least (k - 1) missed.read missed.reads after))
       ] in
-      arrival_within_lag m (k - 1) missed.read reader.write missed.reads reader.writes before
+      arrival_within_lag m (k - 1) missed.read earliest.write missed.reads earliest.writes before
 
   -- where a job is the latest writer, the one after it writes after the read
   pub backward_lag : (m k : ℕ) → IsLatestWriter (run_moments system run) x y m k → HasWritten (run_moments system run) x (m + 1)
       → (pos (job_at (jobs_of run y.task) k).arrival +ℤ pos 1)
-      ≤ℤ (pos (job_at (jobs_of run x.task) (m + 1)).arrival +ℤ lag (group_timing system responses x) (group_timing system responses y))
+      ≤ℤ (pos (job_at (jobs_of run x.task) (m + 1)).arrival +ℤ lag writer reader)
   unfolding run_moments
-  backward_lag m k writer written =
-      let before : writer.read < written.write = elim (cases_lt writer.read written.write) [
+  backward_lag m k latest written =
+      let before : latest.read < written.write = elim (cases_lt latest.read written.write) [
         | inl after ↦ after
-        | inr by ↦ absurd (omega (arith, writer.greatest (m + 1) written.write written.writes by))
+        | inr by ↦ absurd (omega (arith, latest.greatest (m + 1) written.write written.writes by))
       ] in
-      arrival_within_lag (m + 1) k writer.read written.write writer.reads written.writes before
+      arrival_within_lag (m + 1) k latest.read written.write latest.reads written.writes before

@@ -1,6 +1,7 @@
 pub mod SettledTasks
 pub mod GroupWindows
 pub mod HigherFinished
+pub mod KeptWindows
 pub mod LaterRuns
 pub mod ReadsBeforeWrites
 pub mod LagTable

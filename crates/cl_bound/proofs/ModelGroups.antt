@@ -1,5 +1,5 @@
 -- The groups of a model's chains in the model's system: they are groups of it, and their timings by field.
-use Rattle.std.proofs.Common.{◌≡◌, ℕ, ◌<◌, ◌≤◌, Bool, false, List, length, get_or, sym, ap, ◌∙◌, arith}
+use Rattle.std.proofs.Common.{◌≡◌, ℕ, ◌<◌, ◌≤◌, Bool, false, List, length, get_or, refl, sym, ap, ◌∙◌, arith}
 use Rattle.std.specs.Prelude.{All}
 use Rattle.std.proofs.lemmas.List.{get_or_default}
 use Rattle.std.proofs.lemmas.List.Elements.{All-weaker}
@@ -26,9 +26,10 @@ use Rattle.cl_bound.specs.declared.answer.TaskAnswer.TheVariants.{Late}
 use Rattle.cl_bound.specs.Answers.{answers_of, answer_to, answer_at, is_late, response_in, NoneIsLate}
 use Rattle.cl_bound.proofs.SettledTasks.{settled_task}
 use Rattle.cl_bound.specs.declared.group_timing.GroupTiming.{GroupTiming}
-use Rattle.cl_bound.specs.Hops.{group_timing, IsNear}
+use Rattle.cl_bound.specs.Hops.{timing_in, group_timing, IsNear}
+use Rattle.cl_comm.specs.declared.spot.Window.{Window}
 use Rattle.cl_bound.specs.SettledChains.{IsGroupOfTask, IsSettledChain}
-use Rattle.cl_bound.proofs.GroupWindows.{group_proper, proper_near}
+use Rattle.cl_bound.proofs.GroupWindows.{jitter_within, group_proper, proper_near}
 
 -- a group of a model is one of its system
 pub group_of_system : (model : SystemModel) (group : Group) → IsGroupOf model group → IsGroupOfTask (system_of model) group
@@ -53,17 +54,14 @@ same_timing : (task c p : ℕ) (r : Bool) (j d a b core priority : ℕ) (timed :
     → timing_with task c p r j d a b ≡ timing_with task core priority timed jitter distance read write
 same_timing task c p r j d a b core priority timed jitter distance read write e f g h i k l = cc
 
--- the timing of a group, by its fields
-pub timing_of_group : (model : SystemModel) (group : Group) (response : ℕ) (task : TaskDef) → IsGroupOf model group → task ≡ task_at model group.task
+-- the timing of a group in a window, by its fields
+pub timing_of_group : (model : SystemModel) (group : Group) (task : TaskDef) → IsGroupOf model group → task ≡ task_at model group.task
     → (core jitter distance read write : ℕ) (timed : Bool)
     → core ≡ core_of model group.task → timed ≡ is_timed task.access → jitter ≡ jitter_of model group.task
     → distance ≡ greatest_distance (stimulus_of model group.task)
-    → read ≡ (window_at (timing_at (system_of model) group.task) group.first response).rlo
-    → write ≡ (window_at (timing_at (system_of model) group.task) group.last response).whi
     → ◌≡◌ {A = GroupTiming} (record { task = group.task; core = core; priority = task.priority; is_timed = timed; jitter = jitter; distance = distance; read = read; write = write })
-    (group_timing (system_of model) (λ (_ : ℕ). response) group)
-unfolding group_timing
-timing_of_group model group response task is task_is core jitter distance read write timed core_is timed_is jitter_is distance_is read_is write_is =
+    (timing_in (system_of model) group read write)
+timing_of_group model group task is task_is core jitter distance read write timed core_is timed_is jitter_is distance_is =
     let timing = sym (timing_is model group.task is.known) in
     same_timing _ _ _ _ _ _ _ _ _ _ _ _ _ _ _
     (core_is ∙ ap (λ (t : Timing). t.core) timing)
@@ -71,8 +69,17 @@ timing_of_group model group response task is task_is core jitter distance read w
     (timed_is ∙ ap (λ (t : TaskDef). is_timed t.access) task_is ∙ ap (λ (t : Timing). is_timed t.access) timing)
     (jitter_is ∙ ap (λ (t : Timing). greatest_jitter t.pattern) timing)
     (distance_is ∙ ap (λ (t : Timing). greatest_distance t.pattern) timing)
-    read_is
-    write_is
+    refl
+    refl
+
+-- windows of a response make the timing by it
+pub timing_by_windows : (system : System) (group : Group) (response : ℕ) (first last : Window) (timing : GroupTiming)
+    → first ≡ window_at (timing_at system group.task) group.first response → last ≡ window_at (timing_at system group.task) group.last response
+    → timing ≡ timing_in system group first.rlo last.whi → timing ≡ group_timing system (λ (_ : ℕ). response) group
+unfolding group_timing
+timing_by_windows system group response first last timing first_is last_is is =
+    is ∙ ap (λ (w : Window). timing_in system group w.rlo last.whi) first_is
+    ∙ ap (λ (w : Window). timing_in system group (window_at (timing_at system group.task) group.first response).rlo w.whi) last_is
 
 -- a group is as its own response makes it
 pub timing_with_response : (system : System) (responses : ℕ → ℕ) (group : Group) (response : ℕ) → response ≡ responses group.task
@@ -110,3 +117,18 @@ timing_near model valid group response is holds by_deadline =
     proper_near (group_timing (system_of model) (λ (_ : ℕ). response) group)
     (group_proper (system_of model) (system_sound model valid) (λ (_ : ℕ). response) group (group_of_system model group is) holds by_deadline)
     (distance_near model valid (λ (_ : ℕ). response) group is.known)
+
+-- so are those of a group in a window whose ends are
+pub window_near : (model : SystemModel) → IsValid model → (group : Group) → group.task < length model.tasks → (read write : ℕ)
+    → read ≤ MOST_TICKS → write ≤ MOST_TICKS → IsNear (timing_in (system_of model) group read write)
+unfolding group_timing
+window_near model valid group known read write soon late =
+    let system = system_of model in
+    let distance = distance_near model valid (λ (_ : ℕ). 0) group known in
+    let jitter = jitter_within system (system_sound model valid) group.task (omega (arith, known, count_is model)) in
+    record {
+      jitter = omega (arith, jitter, distance);
+      distance = distance;
+      read = soon;
+      write = late;
+    }

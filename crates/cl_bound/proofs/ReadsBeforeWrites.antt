@@ -14,9 +14,10 @@ use Rattle.cl_runs.specs.Legal.{IsLegal}
 use Rattle.cl_runs.specs.Moments.{Reads, Writes}
 use Rattle.cl_runs.proofs.MomentFacts.{writes_once}
 use Rattle.cl_runs.proofs.RunArrivals.{released_within}
-use Rattle.cl_runs.specs.Responses.{IsTimely}
-use Rattle.cl_comm.proofs.AccessTimes.{reads_come_late, readers_run, readers_write_by_their_finish, writes_come_before_the_next_read}
-use Rattle.cl_bound.specs.Hops.{group_timing, saves}
+use Rattle.cl_comm.proofs.AccessTimes.{readers_run, readers_write_by_their_finish, writes_come_before_the_next_read}
+use Rattle.cl_bound.specs.Hops.{saves}
+use Rattle.cl_bound.specs.Timings.{IsTimingOf, AlwaysKeeps}
+use Rattle.cl_bound.specs.declared.group_timing.GroupTiming.{GroupTiming}
 use Rattle.cl_bound.proofs.HigherFinished.{finished_before}
 use Rattle.cl_bound.proofs.LaterRuns.{writes_in_time}
 
@@ -59,36 +60,48 @@ module _ (system : System) (sound : IsSound system) (run : Run) (legal : IsLegal
         absurd (omega (arith, before, by, earlier, writes_once system run x m q other w again writes))
   ]
 
-module _ (system : System) (sound : IsSound system) (responses : ℕ → ℕ) (x y : Group)
-    (timely_x : IsTimely system x.task (responses x.task)) (timely_y : IsTimely system y.task (responses y.task))
+-- a hop between groups saves by what is so of their tasks
+saves_by_tasks : (system : System) (x y : Group) (writer reader : GroupTiming) → IsTimingOf system x writer → IsTimingOf system y reader
+    → saves writer reader
+    ≡ ((timing_at system x.task).core == (timing_at system y.task).core)
+    && (nat_lt (timing_at system y.task).priority (timing_at system x.task).priority
+    && (not (is_timed (timing_at system x.task).access) && not (is_timed (timing_at system y.task).access)))
+saves_by_tasks system x y writer reader w r =
+    let core = w.core in
+    let priority = w.priority in
+    let timed = w.is_timed in
+    let other_core = r.core in
+    let other_priority = r.priority in
+    let other_timed = r.is_timed in
+    cc
+
+module _ (system : System) (sound : IsSound system) (x y : Group) (writer reader : GroupTiming)
+    (keeps_x : AlwaysKeeps system x writer) (keeps_y : AlwaysKeeps system y reader)
     (run : Run) (legal : IsLegal system run) (k m r w : ℕ)
     (reads : Reads system run y.task k y.first r) (writes : Writes system run x.task m x.last w) (before : r < w) where
-  reads_late : (job_at (jobs_of run y.task) k).arrival + (group_timing system responses y).read ≤ r
-  unfolding group_timing
-  reads_late = reads_come_late system sound run legal y.task k y.first (responses y.task) r reads
+  reads_late : (job_at (jobs_of run y.task) k).arrival + reader.read ≤ r
+  reads_late = (keeps_y.always run legal).reads k r reads
 
   -- a job that reads before a write arrived at most the jitter after the writer, where the hop saves
-  pub arrival_where_saved : saves (group_timing system responses x) (group_timing system responses y) ≡ true
-      → (job_at (jobs_of run y.task) k).arrival + (group_timing system responses y).read + 1
-      ≤ (job_at (jobs_of run x.task) m).arrival + (group_timing system responses x).jitter
-  unfolding group_timing
+  pub arrival_where_saved : saves writer reader ≡ true
+      → (job_at (jobs_of run y.task) k).arrival + reader.read + 1 ≤ (job_at (jobs_of run x.task) m).arrival + writer.jitter
   arrival_where_saved saved = omega (
     arith,
     reads_late,
-    read_before_release system sound run legal x.task y.task timely_x.is_task timely_y.is_task
-        (is_saving (timing_at system x.task) (timing_at system y.task) saved) k y.first r m x.last w reads writes before,
-    released_within system sound run legal x.task timely_x.is_task m writes.in_table,
+    read_before_release system sound run legal x.task y.task keeps_x.is_group.is_task keeps_y.is_group.is_task
+        (is_saving (timing_at system x.task) (timing_at system y.task)
+        (sym (saves_by_tasks system x y writer reader keeps_x.of_group keeps_y.of_group) ∙ saved)) k y.first r m x.last w reads writes before,
+    released_within system sound run legal x.task keeps_x.is_group.is_task m writes.in_table,
+    keeps_x.of_group.jitter,
   )
 
   -- and at most as long after it as its write comes
-  pub arrival_before_write : (job_at (jobs_of run y.task) k).arrival + (group_timing system responses y).read + 1
-      ≤ (job_at (jobs_of run x.task) m).arrival + (group_timing system responses x).write
-  unfolding group_timing
+  pub arrival_before_write : (job_at (jobs_of run y.task) k).arrival + reader.read + 1 ≤ (job_at (jobs_of run x.task) m).arrival + writer.write
   arrival_before_write = omega (
     arith,
     reads_late,
     before,
-    writes_in_time system sound run legal x.task (responses x.task) timely_x m x.last w writes,
+    writes_in_time system sound run legal x writer keeps_x m w writes,
   )
 
 -- of one task, a job that reads before another writes is no later job

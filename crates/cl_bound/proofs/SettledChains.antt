@@ -1,4 +1,4 @@
--- Settled chains: all of their tasks are timely, so their bounds are their sums, safe, positive and limited.
+-- Settled chains: all of their tasks are timely and so their windows are always kept, so their bounds are their sums, safe, positive and limited.
 use Rattle.std.proofs.Common.{◌≡◌, ℕ, pos, ◌*◌, ◌<◌, ◌≤◌, List, [], ◌∷◌, length, ap, arith}
 use Rattle.std.specs.Prelude.{◌+ℤ◌, ◌≤ℤ◌, nat_abs, All}
 use Rattle.std.proofs.Math.ListN.{length-map}
@@ -23,7 +23,8 @@ use Rattle.cl_bound.specs.SettledChains.{IsSettledChain, AreWithin}
 use Rattle.cl_bound.proofs.SettledTasks.{settled_task, in_deadline}
 use Rattle.cl_bound.proofs.GroupWindows.{IsProper, group_proper}
 use Rattle.cl_bound.proofs.HopBounds.{forward_arrival, backward_arrival}
-use Rattle.cl_bound.proofs.ChainBounds.{AreTimely, at_least}
+use Rattle.cl_bound.proofs.ChainBounds.{AreAlwaysKept, at_least}
+use Rattle.cl_bound.proofs.KeptWindows.{timely_keeps}
 use Rattle.cl_bound.proofs.SumsOfHops.{IsAtMost, reaction_absolute, age_absolute, reduced_absolute, reaction_some, age_some, reduced_some, reaction_at_most, age_at_most, reduced_at_most}
 
 -- the response in the answer for a task of a system
@@ -44,8 +45,9 @@ module _ (system : System) (sound : IsSound system) (groups : List Group) (chain
   settled_at : (i : ℕ) → i < length groups → IsSettled system (group_at groups i).task (response_at system (group_at groups i).task)
   settled_at i h = settled_task system (group_at groups i).task (chain.groups_of i no_group h).is_task (chain.settled i no_group h)
 
-  pub chain_timely : AreTimely system (response_at system) groups
-  chain_timely i h = settled_timely system sound (group_at groups i).task (response_at system (group_at groups i).task) (settled_at i h)
+  pub chain_kept : AreAlwaysKept system (settled_timing system) groups
+  chain_kept i h = timely_keeps system sound (response_at system) (group_at groups i) (chain.groups_of i no_group h)
+      (settled_timely system sound (group_at groups i).task (response_at system (group_at groups i).task) (settled_at i h))
 
   -- the timings of its groups are proper
   pub chain_proper : All IsProper (settled_timings system groups)
@@ -66,23 +68,23 @@ module _ (system : System) (sound : IsSound system) (groups : List Group) (chain
 
   -- and are safe
   pub settled_safe : AreSafe system groups (bounds_of system groups)
-  settled_safe run legal = at_least system sound (response_at system) groups chain_timely run legal (bounds_of system groups) settled_sums
+  settled_safe run legal = at_least system sound (settled_timing system) groups chain_kept run legal (bounds_of system groups) settled_sums
 
 module _ (system : System) (sound : IsSound system) (x y : Group) (chain : IsSettledChain system (x ∷ y ∷ [])) (run : Run) (legal : IsLegal system run)
     (m k : ℕ) where
-  timely : AreTimely system (response_at system) (x ∷ y ∷ [])
-  timely = chain_timely system sound (x ∷ y ∷ []) chain
+  kept : AreAlwaysKept system (settled_timing system) (x ∷ y ∷ [])
+  kept = chain_kept system sound (x ∷ y ∷ []) chain
 
   -- the hops between two groups of a settled chain
   pub settled_forward : 1 ≤ k → IsEarliestReader (run_moments system run) x y m k
       → pos (job_at (jobs_of run y.task) k).arrival
       ≤ℤ (pos (job_at (jobs_of run x.task) m).arrival +ℤ forward_hop (settled_timing system x) (settled_timing system y))
-  settled_forward = forward_arrival system sound (response_at system) x y (timely 0 (omega arith)) (timely 1 (omega arith)) run legal m k
+  settled_forward = forward_arrival system sound x y (settled_timing system x) (settled_timing system y) (kept 0 (omega arith)) (kept 1 (omega arith)) run legal m k
 
   pub settled_backward : IsLatestWriter (run_moments system run) x y m k
       → pos (job_at (jobs_of run y.task) k).arrival
       ≤ℤ (pos (job_at (jobs_of run x.task) m).arrival +ℤ backward_hop (settled_timing system x) (settled_timing system y))
-  settled_backward = backward_arrival system sound (response_at system) x y (timely 0 (omega arith)) (timely 1 (omega arith)) run legal m k
+  settled_backward = backward_arrival system sound x y (settled_timing system x) (settled_timing system y) (kept 0 (omega arith)) (kept 1 (omega arith)) run legal m k
 
 module _ (system : System) (sound : IsSound system) (groups : List Group) (chain : IsSettledChain system groups) where
   some_timing : 0 < length groups → 0 < length (settled_timings system groups)

@@ -8,10 +8,10 @@ use Rattle.cl_runs.specs.TaskTiming.{System, timing_at}
 use Rattle.cl_comm.specs.Windows.{window_at}
 use Rattle.cl_bound.specs.declared.group_timing.GroupTiming.{GroupTiming}
 
--- what the bounds know of a group, where these are the responses of the tasks: where its task runs and how it accesses
--- labels, how its jobs arrive, and when it reads and writes: it reads at its first runnable and writes at its last
-unfoldable pub group_timing : System → (responses : ℕ → ℕ) → Group → GroupTiming
-group_timing system responses group =
+-- what the bounds know of a group that reads and writes in this window: where its task runs and how it accesses labels,
+-- how its jobs arrive, and when it reads and writes
+abbrev pub timing_in : System → Group → (read write : ℕ) → GroupTiming
+timing_in system group read write =
     let timing = timing_at system group.task in
     record {
       task = group.task;
@@ -20,9 +20,15 @@ group_timing system responses group =
       is_timed = is_timed timing.access;
       jitter = greatest_jitter timing.pattern;
       distance = greatest_distance timing.pattern;
-      read = (window_at timing group.first (responses group.task)).rlo;
-      write = (window_at timing group.last (responses group.task)).whi;
+      read = read;
+      write = write;
     }
+
+-- where these are the responses of the tasks: it reads at its first runnable and writes at its last
+unfoldable pub group_timing : System → (responses : ℕ → ℕ) → Group → GroupTiming
+group_timing system responses group =
+    let timing = timing_at system group.task in
+    timing_in system group (window_at timing group.first (responses group.task)).rlo (window_at timing group.last (responses group.task)).whi
 
 -- no number of a group is greater than the greatest of a valid model
 pub record IsNear (group : GroupTiming) : Type 0 where

@@ -1,17 +1,17 @@
--- Groups that write no later, and bounds that are no greater.
+-- Groups that read no earlier and write no later, and bounds that are no greater.
 use Rattle.std.specs.Prelude.{◌≡◌, ◌≤◌}
 use Rattle.cl_bound.specs.Bounds.{Lengths}
 use Rattle.cl_bound.specs.declared.group_timing.GroupTiming.{GroupTiming}
 
--- a group is as another one, and writes no later
-pub record WritesNoLater (group other : GroupTiming) : Type 0 where
+-- a group is as another one, reads no earlier and writes no later
+pub record StaysWithin (group other : GroupTiming) : Type 0 where
   pub task : group.task ≡ other.task
   pub core : group.core ≡ other.core
   pub priority : group.priority ≡ other.priority
   pub is_timed : group.is_timed ≡ other.is_timed
   pub jitter : group.jitter ≡ other.jitter
   pub distance : group.distance ≡ other.distance
-  pub read : group.read ≡ other.read
+  pub read : other.read ≤ group.read
   pub write : group.write ≤ other.write
 
 -- none of the bounds is greater than that of its kind

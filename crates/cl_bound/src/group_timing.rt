@@ -10,14 +10,14 @@ ghost use Rattle.cl_runs.specs.TaskTiming.{timing_at};
 ghost use Rattle.cl_stim.specs.Integers.{IsIntegerWithin};
 ghost use Rattle.cl_comm.specs.Windows.{window_at};
 ghost use Rattle.cl_resp.specs.Question.{greatest_execution};
-ghost use Rattle.cl_bound.specs.Hops.{group_timing, IsNear, saves, lag, hop, forward_hop, backward_hop};
+ghost use Rattle.cl_bound.specs.Hops.{timing_in, group_timing, IsNear, saves, lag, hop, forward_hop, backward_hop};
 
 use cl_comm::{Access, AnyAccess, Window, spot_of};
 use cl_model::{Group, ValidModel};
 use cl_stim::{AnyStimulus, Arrivals};
 
 /// What the bounds know of a group. Times are in ticks.
-#[derive(Clone, Copy)]
+#[derive(Clone, Copy, Default)]
 pub struct GroupTiming {
     pub(crate) task: u32,
     pub(crate) core: u32,
@@ -48,6 +48,28 @@ fn access_window(model: &ValidModel, task: u32, place: u32, response: u64) -> Wi
 }
 
 impl GroupTiming {
+    /// Puts together what the bounds know of a group of a valid model, if each of its jobs reads
+    /// `read` ticks after its arrival or later, and has written `write` ticks after it.
+    pub fn in_window(model: &ValidModel, group: Group, read: u64, write: u64) -> GroupTiming
+        requires group { IsGroupOf model.now group }
+        ensures timing { result ≡ timing_in (system_of model.now) group read write }
+        ensures near { read ≤ MOST_TICKS → write ≤ MOST_TICKS → IsNear result }
+        ensures valid { IsValid model.now }
+    {
+        let task = model.task(group.task);
+        let stimulus = AnyStimulus::of(model.stimulus_of(group.task));
+        GroupTiming {
+            task: group.task,
+            core: model.core_of(group.task),
+            priority: task.priority,
+            is_timed: task.access.is_timed(),
+            jitter: stimulus.jitter(),
+            distance: stimulus.greatest_gap(),
+            read,
+            write,
+        }
+    }
+
     /// Puts together what the bounds know of a group of a valid model, if each job of its task
     /// finishes at most `response` ticks after its arrival.
     pub fn of(model: &ValidModel, group: Group, response: u64) -> GroupTiming
@@ -60,18 +82,9 @@ impl GroupTiming {
         ensures near { IsNear result }
         ensures valid { IsValid model.now }
     {
-        let task = model.task(group.task);
-        let stimulus = AnyStimulus::of(model.stimulus_of(group.task));
-        GroupTiming {
-            task: group.task,
-            core: model.core_of(group.task),
-            priority: task.priority,
-            is_timed: task.access.is_timed(),
-            jitter: stimulus.jitter(),
-            distance: stimulus.greatest_gap(),
-            read: access_window(model, group.task, group.first, response).rlo,
-            write: access_window(model, group.task, group.last, response).whi,
-        }
+        let read = access_window(model, group.task, group.first, response).rlo;
+        let write = access_window(model, group.task, group.last, response).whi;
+        GroupTiming::in_window(model, group, read, write)
     }
 
     /// Returns the number of its task.

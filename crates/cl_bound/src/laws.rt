@@ -2,3 +2,4 @@
 pub mod hops;
 pub mod safety;
 pub mod sums;
+pub mod timings;

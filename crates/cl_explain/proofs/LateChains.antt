@@ -8,7 +8,8 @@ use Rattle.cl_runs.specs.SystemOf.{system_of}
 use Rattle.cl_bound.specs.declared.answer.TaskAnswer.{TaskAnswer}
 use Rattle.cl_bound.specs.Answers.{answers_of, NoneIsLate}
 use Rattle.cl_bound.specs.Bounds.{Lengths}
-use Rattle.cl_phase.specs.TightAnswers.{tight_answers_of, tight_response}
+use Rattle.cl_tight.specs.TightAnswers.{tight_answers_of}
+use Rattle.cl_tight.specs.TightTimings.{tight_timing}
 use Rattle.cl_phase.specs.TightBounds.{tight_bounds}
 use Rattle.cl_analyse.specs.declared.findings.ChainAnswer.{ChainAnswer}
 use Rattle.cl_analyse.specs.declared.findings.ChainAnswer.TheVariants.{Bounds, Late}
@@ -37,10 +38,10 @@ none_found_late model chain answers none = settled_groups answers model (chain_a
 -- the tight answer for a chain, by the first late task
 pub tight_where_none : (model : SystemModel) (chain : ℕ) (answers : List TaskAnswer) → answers ≡ tight_answers_of (system_of model)
     → first_late answers (steps_of model (chain_at model chain)) ≡ None
-    → Bounds (tight_bounds (system_of model) (tight_response (system_of model)) (groups_at model chain)) ≡ tight_chain_answer_of model (chain_at model chain)
+    → Bounds (tight_bounds (system_of model) (tight_timing (system_of model)) (groups_at model chain)) ≡ tight_chain_answer_of model (chain_at model chain)
 unfolding tight_chain_answer_of
 tight_where_none model chain answers are none =
-    let own = tight_bounds (system_of model) (tight_response (system_of model)) (groups_at model chain) in
+    let own = tight_bounds (system_of model) (tight_timing (system_of model)) (groups_at model chain) in
     sym (ap (λ (o : Option ℕ). chain_answer o own) (ap (λ (all : List TaskAnswer). first_late all (steps_of model (chain_at model chain))) (sym are) ∙ none))
 
 pub tight_where_late : (model : SystemModel) (chain task : ℕ) (answers : List TaskAnswer) → answers ≡ tight_answers_of (system_of model)
@@ -48,7 +49,7 @@ pub tight_where_late : (model : SystemModel) (chain task : ℕ) (answers : List 
     → Late task ≡ tight_chain_answer_of model (chain_at model chain)
 unfolding tight_chain_answer_of
 tight_where_late model chain task answers are late =
-    let own = tight_bounds (system_of model) (tight_response (system_of model)) (groups_at model chain) in
+    let own = tight_bounds (system_of model) (tight_timing (system_of model)) (groups_at model chain) in
     sym (ap (λ (o : Option ℕ). chain_answer o own) (ap (λ (all : List TaskAnswer). first_late all (steps_of model (chain_at model chain))) (sym are) ∙ late))
 
 -- a late task that a chain names is a task of the model

@@ -15,13 +15,15 @@ use Rattle.cl_runs.specs.SystemOf.{system_of}
 use Rattle.cl_bound.specs.Bounds.{Lengths}
 use Rattle.cl_phase.specs.declared.stop.Stop.{Stop}
 use Rattle.cl_phase.specs.Pace.{previous}
-use Rattle.cl_phase.specs.TightAnswers.{tight_response}
+use Rattle.cl_tight.specs.TightTimings.{tight_timing}
 use Rattle.cl_phase.specs.Walks.{pace_at, last_place, onward, back}
 use Rattle.cl_phase.specs.TightBounds.{stops_of, span_of, slowest, hyperperiod_in, starts, ticks_or_none, length_from, bounds_from, tight_bounds}
 use Rattle.cl_phase.specs.Walked.{start_among, walk_start, missed, taken, walked_of}
 use Rattle.cl_analyse.specs.declared.findings.ChainAnswer.TheVariants.{Bounds}
 use Rattle.cl_analyse.specs.ChainAnswers.{chain_answer}
+use Rattle.cl_model.specs.Validity.{IsValid}
 use Rattle.cl_tight.specs.TightFindings.{tight_chain_answer_of}
+use Rattle.cl_tight.proofs.TightChains.{tight_answer, tight_bounds_some}
 use Rattle.cl_explain.specs.Promises.{LastsAsLong, ShowsItsWalk}
 
 -- ---- the greatest is found
@@ -104,17 +106,20 @@ bounds_in None own bounds is = cc
 bounds_in (Some task) own bounds is = absurd (cc)
 
 reaction_is : (model : SystemModel) (chain : ChainDef) (bounds : Lengths) → tight_chain_answer_of model chain ≡ Bounds bounds
-    → (tight_bounds (system_of model) (tight_response (system_of model)) (groups_of model chain)).reaction ≡ bounds.reaction
+    → (tight_bounds (system_of model) (tight_timing (system_of model)) (groups_of model chain)).reaction ≡ bounds.reaction
 unfolding tight_chain_answer_of
 reaction_is model chain bounds is = ap (λ (b : Lengths). b.reaction) (bounds_in _ _ bounds is)
 
-shown : (system : System) (groups : List Group) (reaction : ℕ) → (tight_bounds system (tight_response system) groups).reaction ≡ reaction
+shown : (system : System) (groups : List Group) (reaction : ℕ) → (tight_bounds system (tight_timing system) groups).reaction ≡ reaction → 1 ≤ reaction
     → ShowsItsWalk system groups reaction
 unfolding tight_bounds bounds_from walked_of
 shown system groups reaction is some =
-    let stops = stops_of system (tight_response system) groups in
-    walk_lasts stops (span_of system (tight_response system) groups) (slowest stops) reaction some is
+    let stops = stops_of system (tight_timing system) groups in
+    walk_lasts stops (span_of (tight_timing system) groups) (slowest stops) reaction some is
 
-pub shows_walk : (model : SystemModel) (chain : ℕ) (bounds : Lengths) → tight_chain_answer_of model (chain_at model chain) ≡ Bounds bounds
+pub shows_walk : (model : SystemModel) → IsValid model → (chain : ℕ) (bounds : Lengths) → chain < length model.chains
+    → tight_chain_answer_of model (chain_at model chain) ≡ Bounds bounds
     → ShowsItsWalk (system_of model) (groups_at model chain) bounds.reaction
-shows_walk model chain bounds is = shown (system_of model) (groups_at model chain) bounds.reaction (reaction_is model (chain_at model chain) bounds is)
+shows_walk model valid chain bounds within is =
+    shown (system_of model) (groups_at model chain) bounds.reaction (reaction_is model (chain_at model chain) bounds is)
+    (tight_bounds_some model valid chain within bounds (tight_answer model valid chain within ∙ is)).reaction

@@ -8,9 +8,9 @@ use Rattle.cl_resp.specs.Response.{Response, response_to}
 use Rattle.cl_resp.proofs.LeastAnswers.{least_is_found}
 use Rattle.cl_resp.proofs.LeastRound.{asked_comes_round}
 use Rattle.cl_bound.specs.Answers.{answer_with, answer_at, is_late}
-use Rattle.cl_phase.specs.TightAnswers.{tight_answers_of}
+use Rattle.cl_tight.specs.TightAnswers.{tight_answers_of}
 use Rattle.cl_resp.proofs.AnsweredSooner.{tight_by_phase}
-use Rattle.cl_phase.proofs.TightTasks.{phased_answer}
+use Rattle.cl_tight.proofs.TightTasks.{phased_answer}
 use Rattle.cl_analyse.proofs.LateTasks.{late_question}
 use Rattle.cl_explain.specs.Promises.{HasNoResponse}
 use Rattle.cl_explain.proofs.Unanswered.{not_some, unanswered}

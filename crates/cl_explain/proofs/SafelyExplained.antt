@@ -11,7 +11,7 @@ use Rattle.cl_runs.specs.Responses.{AlwaysFinishesWithin}
 use Rattle.cl_bound.specs.declared.group_timing.GroupTiming.{GroupTiming}
 use Rattle.cl_bound.specs.Answers.{answer_at, is_late}
 use Rattle.cl_bound.specs.Bounds.{AreBoundsOf}
-use Rattle.cl_phase.specs.TightAnswers.{tight_answers_of}
+use Rattle.cl_tight.specs.TightAnswers.{tight_answers_of}
 use Rattle.cl_analyse.specs.declared.findings.ChainAnswer.TheVariants.{Late}
 use Rattle.cl_analyse.proofs.SafeFindings.{responses_hold, bounds_hold, bounds_found, answer_of_chain}
 use Rattle.cl_tight.specs.TightFindings.{tight_chain_answer_of}
@@ -33,7 +33,7 @@ module _ (model : SystemModel) (valid : IsValid model) where
         groups_sum first later bounds (subst (λ (timings : List GroupTiming). AreBoundsOf timings bounds) are (bounds_found model valid chain bounds within (answer_of_chain model chain within ∙ is)));
     tight = λ chain bounds within is. (
       tight_bounds_hold model valid chain within bounds (get_or-map (tight_chain_answer_of model) model.chains chain no_chain (Late 0) within ∙ is),
-      shows_walk model chain bounds is,
+      shows_walk model valid chain bounds within is,
     );
   }
 

@@ -1,22 +1,33 @@
 -- The walk that is shown has an arrival for each group of its chain.
-use Rattle.std.proofs.Common.{◌≡◌, ℕ, ◌+◌, ◌-◌, ◌<◌, ◌≤◌, pos, ℤ, List, [], ◌++◌, length, sym, ap, ◌∙◌, subst, codes, arith}
+use Rattle.std.proofs.Common.{◌≡◌, ℕ, ◌+◌, ◌-◌, ◌<◌, ◌≤◌, pos, ℤ, List, [], ◌++◌, length, map, sym, ap, ◌∙◌, subst, codes, arith}
 use Rattle.std.proofs.lemmas.List.{append_assoc}
 use Rattle.std.proofs.lemmas.List.FromFn.{length-map-range_with_len}
 use Rattle.cl_model.specs.declared.model.SystemModel.{SystemModel}
 use Rattle.cl_model.specs.declared.limits.TheConstants.{MOST_STEPS}
+use Rattle.cl_model.specs.declared.group.Group.{Group}
+use Rattle.cl_bound.specs.declared.group_timing.GroupTiming.{GroupTiming}
 use Rattle.cl_model.specs.Groups.{groups_at}
 use Rattle.cl_model.specs.Validity.{IsValid}
 use Rattle.cl_model.proofs.GroupFacts.{groups_at_some, groups_at_few}
 use Rattle.cl_runs.specs.SystemOf.{system_of}
 use Rattle.cl_phase.specs.declared.walked.Walked.{Walked}
 use Rattle.cl_phase.specs.Pace.{previous}
-use Rattle.cl_phase.specs.TightAnswers.{tight_response}
+use Rattle.cl_tight.specs.TightTimings.{tight_timing}
 use Rattle.cl_phase.specs.Walks.{pace_at, last_place, onward, back}
 use Rattle.cl_phase.specs.TightBounds.{stops_of, span_of, slowest}
 use Rattle.cl_phase.specs.Walked.{walk_start, missed, taken, walked_of}
 use Rattle.cl_explain.specs.Explanation.{arrival_lines, walk_lines}
 use Rattle.cl_phase.proofs.SlowestFacts.{slowest_within}
 use Rattle.cl_phase.proofs.StopFacts.{length_stops}
+
+-- the walk that is found of the groups of a chain, from what is known of each, is that of the chain
+pub its_walk : (model : SystemModel) (chain : ℕ) (timings : List GroupTiming) (groups : List Group) (reaction : ℕ) (walk : Walked)
+    → groups ≡ groups_at model chain → timings ≡ map (tight_timing (system_of model)) (groups_at model chain)
+    → ((timing : Group → GroupTiming) → timings ≡ map timing groups → walk ≡ walked_of (system_of model) timing groups reaction)
+    → walk ≡ walked_of (system_of model) (tight_timing (system_of model)) (groups_at model chain) reaction
+its_walk model chain timings groups reaction walk same are found =
+    let timing = tight_timing (system_of model) in
+    found timing (are ∙ ap (map timing) (sym same)) ∙ ap (λ (g : List Group). walked_of (system_of model) timing g reaction) same
 
 -- of so many groups, which are few
 pub record IsWithin (groups : ℕ) (walk : Walked) : Type 0 where
@@ -26,15 +37,15 @@ pub record IsWithin (groups : ℕ) (walk : Walked) : Type 0 where
   pub taken : walk.place + length walk.taken ≤ groups
 
 module _ (model : SystemModel) (valid : IsValid model) (chain : ℕ) (h : chain < length model.chains) (reaction : ℕ) where
-  shown_within : IsWithin (length (groups_at model chain)) (walked_of (system_of model) (groups_at model chain) reaction)
+  shown_within : IsWithin (length (groups_at model chain)) (walked_of (system_of model) (tight_timing (system_of model)) (groups_at model chain) reaction)
   unfolding walked_of missed taken
   shown_within =
       let system = system_of model in
       let groups = groups_at model chain in
-      let stops = stops_of system (tight_response system) groups in
+      let stops = stops_of system (tight_timing system) groups in
       let place = slowest stops in
-      let start = pos (walk_start stops (span_of system (tight_response system) groups) place reaction) in
-      let count : length stops ≡ length groups = length_stops system (tight_response system) groups [] in
+      let start = pos (walk_start stops (span_of (tight_timing system) groups) place reaction) in
+      let count : length stops ≡ length groups = length_stops system (tight_timing system) groups [] in
       let some = groups_at_some model valid chain h in
       let within : place < length stops = slowest_within stops (omega (arith, count, some)) in
       record {
@@ -44,11 +55,11 @@ module _ (model : SystemModel) (valid : IsValid model) (chain : ℕ) (h : chain 
         taken = omega (arith, within, count, length-map-range_with_len (onward stops place start) 0 (last_place stops - place + 1));
       }
 
-  pub walk_within : (walk : Walked) → walk ≡ walked_of (system_of model) (groups_at model chain) reaction → IsWithin (length (groups_at model chain)) walk
+  pub walk_within : (walk : Walked) → walk ≡ walked_of (system_of model) (tight_timing (system_of model)) (groups_at model chain) reaction → IsWithin (length (groups_at model chain)) walk
   walk_within walk is = subst (IsWithin (length (groups_at model chain))) (sym is) shown_within
 
 -- its lines
-pub walk_lines_are : (model : SystemModel) (chain reaction : ℕ) (walk : Walked) → walk ≡ walked_of (system_of model) (groups_at model chain) reaction
+pub walk_lines_are : (model : SystemModel) (chain reaction : ℕ) (walk : Walked) → walk ≡ walked_of (system_of model) (tight_timing (system_of model)) (groups_at model chain) reaction
     → (miss take : List ℤ) → miss ≡ walk.missed → take ≡ walk.taken → (t0 t1 t2 : List ℕ)
     → t1 ≡ t0 ++ arrival_lines (codes "missed ") model chain 0 miss → t2 ≡ t1 ++ arrival_lines (codes "taken ") model chain walk.place take
     → t2 ≡ t0 ++ walk_lines model chain reaction

@@ -13,7 +13,7 @@ use Rattle.cl_model.specs.Named.{same_name, has_name, all_runnables}
 use Rattle.cl_model.specs.ByNumber.{core_at, task_at}
 use Rattle.cl_runs.specs.SystemOf.{system_of}
 use Rattle.cl_bound.specs.Answers.{is_late, answer_at}
-use Rattle.cl_phase.specs.TightAnswers.{tight_answers_of}
+use Rattle.cl_tight.specs.TightAnswers.{tight_answers_of}
 use Rattle.cl_explain.specs.declared.labels.LabelUse.{LabelUse}
 use Rattle.cl_explain.specs.declared.labels.LabelUse.TheVariants.{Input, Output, Unused}
 use Rattle.cl_explain.specs.Loads.{sure_load, MILLION}

@@ -11,6 +11,7 @@ use Rattle.cl_bound.specs.declared.group_timing.GroupTiming.{GroupTiming}
 use Rattle.cl_bound.specs.Answers.{answers_of, answer_at}
 use Rattle.cl_bound.specs.Bounds.{Lengths, settled_timing}
 use Rattle.cl_bound.specs.Hops.{saves, forward_hop, backward_hop}
+use Rattle.cl_tight.specs.TightTimings.{tight_timing}
 use Rattle.cl_phase.specs.Walked.{walked_of}
 use Rattle.cl_analyse.specs.declared.findings.ChainAnswer.{ChainAnswer}
 use Rattle.cl_analyse.specs.declared.findings.ChainAnswer.TheVariants.{Bounds, Late}
@@ -94,7 +95,7 @@ arrival_lines word model chain from arrivals =
 -- the jobs of a walk that lasts as long as the tight reaction: those that just miss the input, and those that take it
 unfoldable pub walk_lines : SystemModel → (chain : ℕ) → (reaction : ℕ) → List ℕ
 walk_lines model chain reaction =
-    let walk = walked_of (system_of model) (groups_at model chain) reaction in
+    let walk = walked_of (system_of model) (tight_timing (system_of model)) (groups_at model chain) reaction in
     arrival_lines (codes "missed ") model chain 0 walk.missed
     ++ arrival_lines (codes "taken ") model chain walk.place walk.taken
 

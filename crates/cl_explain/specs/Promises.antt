@@ -18,7 +18,8 @@ use Rattle.cl_bound.specs.Bounds.{Lengths, last_of, settled_timings}
 use Rattle.cl_bound.specs.Promises.{AreSafe}
 use Rattle.cl_bound.specs.Hops.{forward_hop, backward_hop, hops}
 use Rattle.cl_bound.specs.declared.group_timing.GroupTiming.{GroupTiming}
-use Rattle.cl_phase.specs.TightAnswers.{tight_answers_of, tight_response}
+use Rattle.cl_tight.specs.TightAnswers.{tight_answers_of}
+use Rattle.cl_tight.specs.TightTimings.{tight_timing}
 use Rattle.cl_phase.specs.TightBounds.{span_of}
 use Rattle.cl_phase.specs.Walked.{walked_of}
 use Rattle.cl_analyse.specs.declared.findings.ChainAnswer.TheVariants.{Bounds}
@@ -58,18 +59,18 @@ pub record LastsAsLong (missed taken : List ℤ) (span : ℤ) (reaction : ℕ) :
   pub takes : 0 < length taken
   pub lasts : pos reaction ≡ ((slice_index_or taken (length taken - 1) (pos 0) -ℤ slice_index_or missed 0 (pos 0)) +ℤ span)
 
--- so it is for groups of a system, where the reaction is 1 or more
+-- so it is for groups of a system
 abbrev pub ShowsItsWalk : System → (groups : List Group) → (reaction : ℕ) → Type 0
 ShowsItsWalk system groups reaction =
-    let walk = walked_of system groups reaction in
-    1 ≤ reaction → LastsAsLong walk.missed walk.taken (span_of system (tight_response system) groups) reaction
+    let walk = walked_of system (tight_timing system) groups reaction in
+    LastsAsLong walk.missed walk.taken (span_of (tight_timing system) groups) reaction
 
 -- ---- all of it
 
 -- What an explanation shows of a model is safe. In every legal run, of any length, each job of a settled task finishes
 -- within its response, and each bound, plain or tight, is at least the length of every complete chain of its kind. The
 -- parts of a task add up to its response, or past its deadline; those of a chain to its bounds; and the walk that is shown
--- lasts as long as the tight reaction, where the reaction is 1 or more.
+-- lasts as long as the tight reaction.
 pub record IsSafelyExplained (model : SystemModel) : Type 0 where
   pub responses : (task : ℕ) (response : Response) → task < length model.tasks
       → answer_at (answers_of (system_of model)) task ≡ answer.Settled response

@@ -7,7 +7,7 @@ ghost use Rattle.cl_runs.specs.SystemOf.{system_of};
 ghost use Rattle.cl_resp.specs.Question.{IsQuestionInRange};
 ghost use Rattle.cl_resp.specs.Response.{response_to};
 ghost use Rattle.cl_bound.specs.Answers.{answer_with, answers_of, answer_at};
-ghost use Rattle.cl_phase.specs.TightAnswers.{tight_answers_of};
+ghost use Rattle.cl_tight.specs.TightAnswers.{tight_answers_of};
 ghost use Rattle.cl_analyse.specs.ChainAnswers.{chain_answer_of};
 ghost use Rattle.cl_explain.specs.Explanation.{core_line, task_lines_of, lines_where_bounded, report_lines_of, chain_lines_of, explanation};
 
@@ -22,7 +22,7 @@ use cl_model::{List, ValidModel};
 use cl_report::{put_chain, put_name, put_task};
 use cl_resp::{Question, ask, settle};
 use cl_text::Text;
-use cl_tight::answer_tightly;
+use cl_tight::{AccessWindows, answer_tightly};
 use cl_time::{NoMemory, Steps};
 use std::alloc::Global;
 use std::sync::ledger::Ledger;
@@ -143,9 +143,10 @@ fn put_chains<L: Ledger>(
         (text.new ≡ text.old ++ flat_map (chain_lines_of model.now) (range_with_len 0 (length model.now.chains))) }
     ensures steps { steps.new ≤ steps.old + length model.now.chains }
 {
+    let mut windows = AccessWindows::new(alloc, model)?;
     for chain in 0..model.chains() {
         put_chain_lines(text, model, chain, settled, steps)?;
-        put_tight(alloc, text, model, chain, tight)?;
+        put_tight(alloc, text, model, chain, tight, &mut windows)?;
     }
     Ok(())
 }

@@ -52,12 +52,13 @@ pub fn groups_add_up_to_bounds()
         → AddUpToBounds first later bounds }
 {}
 
-/// The walk that is shown of a chain with tight bounds lasts as long as the tight bound on its
-/// reaction, where that bound is a tick or more: the bound is the last arrival that is taken minus
-/// the first that is missed, plus the latest write of the last group after its arrival, minus the
-/// earliest read of the first group after its arrival.
+/// The walk that is shown of a chain of a valid model with tight bounds lasts as long as the tight
+/// bound on its reaction: the bound is the last arrival that is taken minus the first that is
+/// missed, plus the latest write of the last group after its arrival, minus the earliest read of
+/// the first group after its arrival.
 pub fn walks_last_as_long_as_bounds()
-    ensures { (model : SystemModel) → (chain : ℕ) (bounds : Lengths)
+    ensures { (model : SystemModel) → IsValid model → (chain : ℕ) (bounds : Lengths)
+        → chain < length model.chains
         → tight_chain_answer_of model (chain_at model chain) ≡ Bounds bounds
         → ShowsItsWalk (system_of model) (groups_at model chain) bounds.reaction }
 {}

@@ -1,26 +1,30 @@
 //! The tight bounds of a chain, and a walk that lasts as long as the tight bound on its reaction.
 //! Times are in ticks.
-ghost use Rattle.std.specs.Prelude.{◌≡◌, ◌+◌, ◌<◌, ◌≤◌, ◌++◌, length, OnOk};
+ghost use Rattle.std.specs.Prelude.{◌≡◌, ◌+◌, ◌<◌, ◌≤◌, ◌++◌, length, map, All, OnOk};
 ghost use Rattle.cl_model.specs.ByNumber.{chain_at};
 ghost use Rattle.cl_model.specs.declared.limits.TheConstants.{MOST_STEPS};
 ghost use Rattle.cl_model.specs.Groups.{groups_at};
 ghost use Rattle.cl_model.specs.Validity.{IsValid};
 ghost use Rattle.cl_runs.specs.SystemOf.{system_of};
 ghost use Rattle.cl_bound.specs.Answers.{NoneIsLate};
-ghost use Rattle.cl_phase.specs.TightAnswers.{tight_answers_of, tight_response};
+ghost use Rattle.cl_bound.specs.Hops.{IsNear};
+ghost use Rattle.cl_tight.specs.TightAnswers.{tight_answers_of};
+ghost use Rattle.cl_tight.specs.TightTimings.{tight_timing};
 ghost use Rattle.cl_phase.specs.TightBounds.{tight_bounds};
 ghost use Rattle.cl_analyse.specs.declared.findings.ChainAnswer.TheVariants as answers;
 ghost use Rattle.cl_tight.specs.TightFindings.{tight_chain_answer_of};
+ghost use Rattle.cl_tight.specs.Found.{AreWindowsOf};
 ghost use Rattle.cl_explain.specs.Explanation.{arrival_line, arrival_lines, walk_lines, tight_line, tight_lines};
 
 use crate::groups::put_task_of_group;
 use crate::numbers::put_signed;
 use cl_analyse::first_late;
-use cl_bound::{Bounds, TaskAnswer};
+use cl_bound::{Bounds, GroupTiming, TaskAnswer};
 use cl_model::{List, ValidModel};
 use cl_phase::{tight_bounds, walk_lasting};
 use cl_report::{put_bounds, put_chain_name};
 use cl_text::Text;
+use cl_tight::AccessWindows;
 use cl_time::NoMemory;
 use std::alloc::Global;
 
@@ -72,23 +76,24 @@ fn put_arrivals(
 }
 
 /// Puts the lines of the walk that `walk_lasting` finds for `reaction` ticks, along a chain none of
-/// whose tasks is late by phases: the arrivals of the jobs that just miss the input, then those of
-/// the jobs that take it.
+/// whose tasks is late by phases, from what is known of its groups: the arrivals of the jobs that
+/// just miss the input, then those of the jobs that take it.
 fn put_walk(
     alloc: Global,
     text: &mut Text,
     model: &ValidModel,
     chain: u32,
-    tight: &List<TaskAnswer>,
+    timings: &[GroupTiming],
     reaction: u64,
 ) -> Result<(), NoMemory>
     requires valid { IsValid model.now }
     requires chain { chain < length model.now.chains }
-    requires answers { tight.now ≡ tight_answers_of (system_of model.now) }
-    requires not_late { NoneIsLate tight.now (groups_at model.now chain) }
+    requires timings { timings.now
+        ≡ map (tight_timing (system_of model.now)) (groups_at model.now chain) }
+    requires near { All IsNear timings.now }
     ensures { OnOk result (text.new ≡ text.old ++ walk_lines model.now chain reaction) }
 {
-    let walk = walk_lasting(alloc, model, chain, tight, reaction)?;
+    let walk = walk_lasting(alloc, model, model.groups(chain), timings, reaction)?;
     let place = walk.place as u32;
     put_arrivals(text, model, chain, b"missed ", 0, walk.missed.as_slice())?;
     put_arrivals(text, model, chain, b"taken ", place, walk.taken.as_slice())
@@ -118,17 +123,29 @@ fn put_bounded(
     model: &ValidModel,
     chain: u32,
     tight: &List<TaskAnswer>,
+    windows: &mut AccessWindows,
 ) -> Result<(), NoMemory>
     requires valid { IsValid model.now }
     requires chain { chain < length model.now.chains }
     requires answers { tight.now ≡ tight_answers_of (system_of model.now) }
     requires not_late { NoneIsLate tight.now (groups_at model.now chain) }
-    ensures { OnOk result (text.new ≡ text.old ++ tight_lines model.now chain
-        (answers.Bounds (tight_bounds (system_of model.now) (tight_response (system_of model.now)) (groups_at model.now chain)))) }
+    requires windows { AreWindowsOf (system_of model.now) windows.old }
+    ensures text { OnOk result (text.new ≡ text.old ++ tight_lines model.now chain
+        (answers.Bounds (tight_bounds (system_of model.now) (tight_timing (system_of model.now)) (groups_at model.now chain)))) }
+    ensures windows { AreWindowsOf (system_of model.now) windows.new }
 {
-    let bounds = tight_bounds(model, chain, tight);
+    let groups = model.groups(chain);
+    let timings = windows.timings(alloc, model, groups, tight)?;
+    let bounds = tight_bounds(model, groups, timings.as_slice());
     put_tight_bounds(text, model, chain, &bounds)?;
-    put_walk(alloc, text, model, chain, tight, bounds.reaction())
+    put_walk(
+        alloc,
+        text,
+        model,
+        chain,
+        timings.as_slice(),
+        bounds.reaction(),
+    )
 }
 
 /// Puts the lines of the tight bounds of a chain and of its walk, if none of its tasks is late by
@@ -139,15 +156,18 @@ pub(crate) fn put_tight(
     model: &ValidModel,
     chain: u32,
     tight: &List<TaskAnswer>,
+    windows: &mut AccessWindows,
 ) -> Result<(), NoMemory>
     requires valid { IsValid model.now }
     requires chain { chain < length model.now.chains }
     requires answers { tight.now ≡ tight_answers_of (system_of model.now) }
-    ensures { OnOk result (text.new
+    requires windows { AreWindowsOf (system_of model.now) windows.old }
+    ensures text { OnOk result (text.new
         ≡ text.old ++ tight_lines model.now chain (tight_chain_answer_of model.now (chain_at model.now chain))) }
+    ensures windows { AreWindowsOf (system_of model.now) windows.new }
 {
     match first_late(model, chain, tight) {
         Some(_) => Ok(()),
-        None => put_bounded(alloc, text, model, chain, tight),
+        None => put_bounded(alloc, text, model, chain, tight, windows),
     }
 }

@@ -1,9 +1,8 @@
 -- The groups of a chain, put together one after the other. Times are in ticks.
-use Rattle.std.proofs.Common.{◌≡◌, ℕ, suc, ◌+◌, ◌-◌, ◌<◌, ◌≤◌, ℤ, pos, ◌-ℤ◌, List, [], ◌∷◌, ◌++◌, map, min, length, take, drop, Option, refl, ap, sym, ◌∙◌, subst, arith, inl, inr, append_assoc, append-nil, length-append, drop-cons}
+use Rattle.std.proofs.Common.{◌≡◌, ℕ, suc, ◌+◌, ◌-◌, ◌<◌, ◌≤◌, ℤ, pos, ◌-ℤ◌, List, [], ◌∷◌, ◌++◌, map, length, get_or, drop, Option, refl, ap, sym, ◌∙◌, subst, arith, inl, inr, append_assoc, append-nil, length-append, drop-cons}
 use Rattle.std.specs.Prelude.{slice_index_or}
 use Rattle.std.proofs.lemmas.Bool.{cases_lt}
-use Rattle.std.proofs.lemmas.List.{drop_all, map-append}
-use Rattle.std.proofs.lemmas.List.{length-drop, take_all}
+use Rattle.std.proofs.lemmas.List.{drop_all, map-append, drop-map}
 use Rattle.std.proofs.lemmas.List.Elements.{All-nil}
 use Rattle.std.proofs.Math.ListN.{get_or-append}
 use Rattle.std.proofs.Math.Seq.{get_or-append_seam}
@@ -18,17 +17,15 @@ use Rattle.cl_stim.specs.Integers.{IsIntegerWithin}
 use Rattle.cl_stim.specs.Phase.{phase_of}
 use Rattle.cl_bound.specs.declared.group_timing.GroupTiming.{GroupTiming}
 use Rattle.cl_bound.specs.Bounds.{last_of}
-use Rattle.cl_bound.specs.Hops.{lag, IsNear}
 use Rattle.cl_phase.specs.declared.pace.Pace.{Pace}
 use Rattle.cl_phase.specs.declared.stop.Stop.{Stop}
 use Rattle.cl_phase.specs.declared.keeping.Keeping.{Keeping}
 use Rattle.cl_phase.specs.Kept.{phase_beside, kept_with, pace_with}
 use Rattle.cl_phase.specs.Walks.{no_stop}
-use Rattle.cl_phase.specs.TightAnswers.{tight_response}
 use Rattle.cl_phase.specs.TightBounds.{lag_to_next, stops_beside, stops_of, span_of}
 use Rattle.cl_phase.specs.Inner.Ranges.{IsPaceInRange, AreStopsInRange}
 use Rattle.cl_phase.specs.Inner.Keeping.{AreKept, AreKeptIn, IsBeside}
-use Rattle.cl_phase.specs.Inner.Course.{tight_timing, lag_from, next_from}
+use Rattle.cl_phase.specs.Inner.Course.{first_lag}
 use Rattle.cl_phase.proofs.SlowestGroups.{pace_of}
 use Rattle.cl_phase.proofs.KeptAfter.{phase_in, kept_after, after_more, phase_of_pace, kept_in}
 use Rattle.cl_stim.proofs.Hyperperiods.{HasPeriod, hyperperiod_positive}
@@ -39,32 +36,18 @@ pub record IsStopInRange (stop : Stop) : Type 0 where
   pub lag : IsIntegerWithin MOST_TICKS stop.lag
 
 -- the first groups of a chain are put together, and what is known then
-pub record IsCourseTo (system : System) (groups : List Group) (place : ℕ) (stops : List Stop) (keeping : Keeping) (timing : GroupTiming) : Type 0 where
+pub record IsCourseTo (system : System) (groups : List Group) (timings : List GroupTiming) (place : ℕ) (stops : List Stop) (keeping : Keeping) : Type 0 where
   pub as_many : length stops ≡ place
   pub in_range : (here : ℕ) → here < place → IsStopInRange (slice_index_or stops here no_stop)
   pub kept : AreKept (kept_after [] (map pace_of stops)) keeping
   pub some : 1 ≤ keeping.hyperperiod
-  pub stops_are : stops_of system (tight_response system) groups
-      ≡ stops ++ stops_beside system (tight_response system) (kept_after [] (map pace_of stops)) (drop place groups)
-  pub timing_is : timing ≡ tight_timing system (group_at groups (min place (length groups - 1)))
-  pub near : IsNear timing
+  pub stops_are : (timing : Group → GroupTiming) → timings ≡ map timing groups
+      → stops_of system timing groups ≡ stops ++ stops_beside system timing (kept_after [] (map pace_of stops)) (drop place groups)
 
-lags_same : (system : System) (group : Group) (timing : GroupTiming) (later : List Group) → timing ≡ tight_timing system group
-    → lag_from system timing later ≡ lag_to_next system (tight_response system) group later
-lags_same system group timing [] is = refl
-lags_same system group timing (next ∷ later) is = ap (λ (t : GroupTiming). lag t (tight_timing system next)) is
-
-next_same : (system : System) (timing : GroupTiming) (groups : List Group) (place : ℕ) → place < length groups
-    → timing ≡ tight_timing system (group_at groups place)
-    → next_from system timing (drop (place + 1) groups) ≡ tight_timing system (group_at groups (min (place + 1) (length groups - 1)))
-next_same system timing groups place within is = elim (cases_lt (place + 1) (length groups)) [
-  | inl less ↦
-      let here : min (place + 1) (length groups - 1) ≡ place + 1 = omega (arith, less) in
-      ap (next_from system timing) (drop-cons groups (place + 1) no_group less) ∙ ap (λ n. tight_timing system (group_at groups n)) (sym here)
-  | inr not ↦
-      let here : min (place + 1) (length groups - 1) ≡ place = omega (arith, not, within) in
-      ap (next_from system timing) (drop_all (place + 1) groups not) ∙ is ∙ ap (λ n. tight_timing system (group_at groups n)) (sym here)
-]
+-- the lag to the next group, by the timings of a group and those after it
+lags_same : (timing : Group → GroupTiming) (group : Group) (later : List Group) → first_lag (map timing (group ∷ later)) ≡ lag_to_next timing group later
+lags_same timing group [] = refl
+lags_same timing group (next ∷ later) = refl
 
 -- a group and those after it
 with_rest : (groups : List Group) (place : ℕ) → place < length groups → drop place groups ≡ group_at groups place ∷ drop (place + 1) groups
@@ -95,48 +78,41 @@ same_stop : (pace : Pace) (d : ℤ) (pace' : Pace) (d' : ℤ) → pace ≡ pace'
 same_stop pace d pace' d' e f = cc
 
 -- what is left with one group
-beside_more : (system : System) (kept : List Phase) (group : Group) (later : List Group) (kind : StimulusKind) (pace : Pace) (d : ℤ)
+beside_more : (system : System) (timing : Group → GroupTiming) (kept : List Phase) (group : Group) (later : List Group) (kind : StimulusKind) (pace : Pace) (d : ℤ)
     → kind ≡ (timing_at system group.task).pattern → pace ≡ pace_with (greatest_distance kind) (phase_beside kept (phase_of kind))
-    → d ≡ lag_to_next system (tight_response system) group later
-    → stops_beside system (tight_response system) kept (group ∷ later)
-    ≡ (record { pace = pace; lag = d }) ∷ stops_beside system (tight_response system) (kept_with kept (phase_in pace)) later
+    → d ≡ lag_to_next timing group later
+    → stops_beside system timing kept (group ∷ later)
+    ≡ (record { pace = pace; lag = d }) ∷ stops_beside system timing (kept_with kept (phase_in pace)) later
 unfolding stops_beside
-beside_more system kept group later kind pace d is pace_is lag_is =
+beside_more system timing kept group later kind pace d is pace_is lag_is =
     let pattern = (timing_at system group.task).pattern in
     let made : pace_with (greatest_distance pattern) (phase_beside kept (phase_of pattern)) ≡ pace =
     ap (λ (k : StimulusKind). pace_with (greatest_distance k) (phase_beside kept (phase_of k))) (sym is) ∙ sym pace_is in
     let phase : phase_beside kept (phase_of pattern) ≡ phase_in pace =
     sym (phase_of_pace (greatest_distance pattern) (phase_beside kept (phase_of pattern))) ∙ ap phase_in made in
-    ap (λ (s : Stop). s ∷ stops_beside system (tight_response system) (kept_with kept (phase_beside kept (phase_of pattern))) later)
+    ap (λ (s : Stop). s ∷ stops_beside system timing (kept_with kept (phase_beside kept (phase_of pattern))) later)
     (same_stop _ _ _ _ made (sym lag_is))
-    ∙ ap (λ (o : Option Phase). (record { pace = pace; lag = d }) ∷ stops_beside system (tight_response system) (kept_with kept o) later) phase
+    ∙ ap (λ (o : Option Phase). (record { pace = pace; lag = d }) ∷ stops_beside system timing (kept_with kept o) later) phase
 
-module _ (system : System) (groups : List Group) (some_groups : 0 < length groups) where
-  pub course_begins : (stops : List Stop) (keeping : Keeping) (timing : GroupTiming) → stops ≡ [] → AreKept [] keeping
-      → timing ≡ tight_timing system (group_at groups 0) → IsNear timing → IsCourseTo system groups 0 stops keeping timing
-  course_begins stops keeping timing none kept is near =
-      let first : min 0 (length groups - 1) ≡ 0 = omega arith in
-      subst (λ (s : List Stop). IsCourseTo system groups 0 s keeping timing) (sym none) (record {
+module _ (system : System) (groups : List Group) (some_groups : 0 < length groups) (timings : List GroupTiming) where
+  pub course_begins : (stops : List Stop) (keeping : Keeping) → stops ≡ [] → AreKept [] keeping → IsCourseTo system groups timings 0 stops keeping
+  course_begins stops keeping none kept =
+      subst (λ (s : List Stop). IsCourseTo system groups timings 0 s keeping) (sym none) (record {
         as_many = refl;
         in_range = λ here below. absurd (omega (arith, below));
         kept = kept;
         some = rw kept.hyperperiod (hyperperiod_positive [] (All-nil HasPeriod));
-        stops_are = refl;
-        timing_is = is ∙ ap (λ n. tight_timing system (group_at groups n)) (sym first);
-        near = near;
+        stops_are = λ timing is. refl;
       })
 
-  module _ (place : ℕ) (stops : List Stop) (keeping : Keeping) (timing : GroupTiming) (so_far : IsCourseTo system groups place stops keeping timing) where
-    pub course_goes_on : (within : place < length groups) (kind : StimulusKind) (pace : Pace) (more : Keeping) (d : ℤ) (next : GroupTiming)
+  module _ (place : ℕ) (stops : List Stop) (keeping : Keeping) (so_far : IsCourseTo system groups timings place stops keeping) where
+    pub course_goes_on : (within : place < length groups) (kind : StimulusKind) (pace : Pace) (more : Keeping) (d : ℤ)
         → kind ≡ (timing_at system (group_at groups place).task).pattern → IsBeside kind (kept_after [] (map pace_of stops)) pace more → 1 ≤ more.hyperperiod
-        → d ≡ lag_from system timing (drop (place + 1) groups) → IsIntegerWithin MOST_TICKS d
-        → next ≡ next_from system timing (drop (place + 1) groups) → IsNear next
-        → IsCourseTo system groups (place + 1) (stops ++ (record { pace = pace; lag = d }) ∷ []) more next
-    course_goes_on within kind pace more d next is beside some lag_is small next_is near =
+        → d ≡ first_lag (drop place timings) → IsIntegerWithin MOST_TICKS d
+        → IsCourseTo system groups timings (place + 1) (stops ++ (record { pace = pace; lag = d }) ∷ []) more
+    course_goes_on within kind pace more d is beside some lag_is small =
         let stop : Stop = record { pace = pace; lag = d } in
         let kept = kept_after [] (map pace_of stops) in
-        let here : min place (length groups - 1) ≡ place = omega (arith, within) in
-        let timing_is : timing ≡ tight_timing system (group_at groups place) = so_far.timing_is ∙ ap (λ n. tight_timing system (group_at groups n)) here in
         let phase : phase_beside kept (phase_of kind) ≡ phase_in pace =
         sym (phase_of_pace (greatest_distance kind) (phase_beside kept (phase_of kind))) ∙ ap phase_in (sym beside.pace_is) in
         let phases = phases_more stops stop in
@@ -145,26 +121,28 @@ module _ (system : System) (groups : List Group) (some_groups : 0 < length group
           in_range = in_range_more stops stop place so_far.as_many so_far.in_range (record { pace = beside.in_range; lag = small });
           kept = subst (λ (k : List Phase). AreKept k more) (ap (kept_with kept) phase ∙ sym phases) beside.are;
           some = some;
-          stops_are = so_far.stops_are
-              ∙ ap (λ (left : List Group). stops ++ stops_beside system (tight_response system) kept left) (with_rest groups place within)
+          stops_are = λ timing timings_are.
+              let lag : d ≡ lag_to_next timing (group_at groups place) (drop (place + 1) groups) =
+              lag_is ∙ ap (λ (list : List GroupTiming). first_lag (drop place list)) timings_are ∙ ap first_lag (drop-map timing place groups)
+              ∙ ap (λ (left : List Group). first_lag (map timing left)) (with_rest groups place within)
+              ∙ lags_same timing (group_at groups place) (drop (place + 1) groups) in
+              so_far.stops_are timing timings_are
+              ∙ ap (λ (left : List Group). stops ++ stops_beside system timing kept left) (with_rest groups place within)
               ∙ ap (λ (left : List Stop). stops ++ left)
-              (beside_more system kept (group_at groups place) (drop (place + 1) groups) kind pace d is beside.pace_is
-              (lag_is ∙ lags_same system (group_at groups place) timing (drop (place + 1) groups) timing_is))
-              ∙ sym (append_assoc stops (stop ∷ []) (stops_beside system (tight_response system) (kept_with kept (phase_in pace)) (drop (place + 1) groups)))
-              ∙ ap (λ (k : List Phase). (stops ++ stop ∷ []) ++ stops_beside system (tight_response system) k (drop (place + 1) groups)) (sym phases);
-          timing_is = next_is ∙ next_same system timing groups place within timing_is;
-          near = near;
+              (beside_more system timing kept (group_at groups place) (drop (place + 1) groups) kind pace d is beside.pace_is lag)
+              ∙ sym (append_assoc stops (stop ∷ []) (stops_beside system timing (kept_with kept (phase_in pace)) (drop (place + 1) groups)))
+              ∙ ap (λ (k : List Phase). (stops ++ stop ∷ []) ++ stops_beside system timing k (drop (place + 1) groups)) (sym phases);
         }
 
     -- all of them
     module _ (few : length groups ≤ MOST_STEPS) (all : place ≡ length groups) where
-      pub course_stops : stops_of system (tight_response system) groups ≡ stops
+      pub course_stops : (timing : Group → GroupTiming) → timings ≡ map timing groups → stops ≡ stops_of system timing groups
       unfolding stops_beside
-      course_stops =
-          so_far.stops_are
-          ∙ ap (λ (left : List Group). stops ++ stops_beside system (tight_response system) (kept_after [] (map pace_of stops)) left)
+      course_stops timing timings_are = sym (
+          so_far.stops_are timing timings_are
+          ∙ ap (λ (left : List Group). stops ++ stops_beside system timing (kept_after [] (map pace_of stops)) left)
           (drop_all place groups (omega (arith, all)))
-          ∙ append-nil stops
+          ∙ append-nil stops)
 
       pub course_in_range : AreStopsInRange stops
       course_in_range = record {
@@ -177,26 +155,16 @@ module _ (system : System) (groups : List Group) (some_groups : 0 < length group
       pub course_kept : AreKeptIn stops keeping
       course_kept = kept_in stops keeping so_far.kept
 
-      pub course_last : timing ≡ tight_timing system (group_at groups (length groups - 1))
-      course_last =
-          let last : min place (length groups - 1) ≡ length groups - 1 = omega (arith, all) in
-          so_far.timing_is ∙ ap (λ n. tight_timing system (group_at groups n)) last
-
--- from the first read to the last write
-last_is : (timing : Group → GroupTiming) (first : Group) (later : List Group)
-    → last_of (timing first) (map timing later) ≡ timing (group_at (first ∷ later) (length later))
-last_is timing first [] = refl
-last_is timing first (next ∷ later) = last_is timing next later
-
-pub span_by : (system : System) (groups : List Group) → 0 < length groups
-    → (pos (tight_timing system (group_at groups (length groups - 1))).write -ℤ pos (tight_timing system (group_at groups 0)).read)
-    ≡ span_of system (tight_response system) groups
-span_by system [] some = absurd (omega (arith, some))
-span_by system (first ∷ later) some =
-    let last : suc (length later) - 1 ≡ length later = omega arith in
-    ap (λ n. pos (tight_timing system (group_at (first ∷ later) n)).write -ℤ pos (tight_timing system first).read) last
-    ∙ ap (λ (t : GroupTiming). pos t.write -ℤ pos (tight_timing system first).read) (sym (last_is (tight_timing system) first later))
-
--- what stands past a group is all that is left
-pub rest_from : (groups : List Group) (from : ℕ) → take (length groups - from) (drop from groups) ≡ drop from groups
-rest_from groups from = take_all (length groups - from) (drop from groups) (omega (arith, length-drop from groups))
+-- from the first read to the last write, by the list of timings
+pub span_by : (timing : Group → GroupTiming) (groups : List Group) → 0 < length groups → (d : GroupTiming)
+    → (pos (get_or (map timing groups) (length (map timing groups) - 1) d).write -ℤ pos (get_or (map timing groups) 0 d).read) ≡ span_of timing groups
+span_by timing [] some d = absurd (omega (arith, some))
+span_by timing (first ∷ later) some d =
+    let last : get_or (map timing (first ∷ later)) (length (map timing later)) d ≡ last_of (timing first) (map timing later) = last_in (timing first) (map timing later) d in
+    let place : length (map timing (first ∷ later)) - 1 ≡ length (map timing later) = omega arith in
+    ap (λ n. pos (get_or (map timing (first ∷ later)) n d).write -ℤ pos (timing first).read) place
+    ∙ ap (λ (t : GroupTiming). pos t.write -ℤ pos (timing first).read) last
+  where
+    last_in : (first : GroupTiming) (later : List GroupTiming) (d : GroupTiming) → get_or (first ∷ later) (length later) d ≡ last_of first later
+    last_in first [] d = refl
+    last_in first (next ∷ later) d = last_in next later d

@@ -8,6 +8,7 @@ use Rattle.cl_runs.specs.TaskTiming.{System, IsSound}
 use Rattle.cl_stim.specs.declared.phase.Phase.{Phase}
 use Rattle.cl_stim.specs.Phase.{IsPhase, IsArrivalOf}
 use Rattle.cl_stim.proofs.PhaseSteps.{first_arrives, first_after, first_before, last_arrives, last_before, last_after}
+use Rattle.cl_bound.specs.declared.group_timing.GroupTiming.{GroupTiming}
 use Rattle.cl_bound.specs.SettledChains.{IsGroupOfTask}
 use Rattle.cl_phase.specs.declared.pace.Pace.TheVariants.{Kept}
 use Rattle.cl_phase.specs.declared.stop.Stop.{Stop}
@@ -54,26 +55,26 @@ over_starts phase is ticks value greatest same above = record {
   ];
 }
 
-module _ (system : System) (sound : IsSound system) (responses : ℕ → ℕ) (groups : List Group) (all : All (IsGroupOfTask system) groups) where
+module _ (system : System) (sound : IsSound system) (timing : Group → GroupTiming) (groups : List Group) (all : All (IsGroupOfTask system) groups) where
   abbrev stops : List Stop
-  stops = stops_of system responses groups
+  stops = stops_of system timing groups
 
   module _ (place : ℕ) (phase : Phase) (within : place < length stops) (keeps : pace_at stops place ≡ Kept phase) where
     in_groups : (other : ℕ) → other < length stops → other < length groups
-    in_groups other below = omega (arith, below, length_stops system responses groups [])
+    in_groups other below = omega (arith, below, length_stops system timing groups [])
 
     is_phase : IsPhase phase
-    is_phase = subst IsPace keeps (stop_is_pace system responses sound groups all [] place (in_groups place within))
+    is_phase = subst IsPace keeps (stop_is_pace system timing sound groups all [] place (in_groups place within))
 
     are_stops : AreStops stops place
     are_stops = record {
       is_place = within;
-      stepped = λ other below. stops_step system responses sound groups all [] other (in_groups other below);
-      some_tick = stops_hyperperiod system responses sound groups all [];
-      round = λ other below. stops_come_round system responses sound groups all [] other (in_groups other below);
+      stepped = λ other below. stops_step system timing sound groups all [] other (in_groups other below);
+      some_tick = stops_hyperperiod system timing sound groups all [];
+      round = λ other below. stops_come_round system timing sound groups all [] other (in_groups other below);
       start = inl (phase, keeps);
       taken = λ (other : Phase) keeps_other number moment below arrives.
-          start_within other (subst IsPace keeps_other (stop_is_pace system responses sound groups all [] place (in_groups place within)))
+          start_within other (subst IsPace keeps_other (stop_is_pace system timing sound groups all [] place (in_groups place within)))
           (hyperperiod_in stops) number moment (record { within = below; arrives = arrives });
     }
 
@@ -104,12 +105,12 @@ module _ (system : System) (sound : IsSound system) (responses : ℕ → ℕ) (g
 
   -- each group that keeps its phase gives the tight bounds
   pub phases_agree : (place : ℕ) → place < length groups → (phase : Phase) → pace_at stops place ≡ Kept phase
-      → bounds_from stops (span_of system responses groups) place ≡ tight_bounds system responses groups
+      → bounds_from stops (span_of timing groups) place ≡ tight_bounds system timing groups
   unfolding tight_bounds
   phases_agree place within phase keeps =
-      let here : place < length stops = omega (arith, within, length_stops system responses groups []) in
+      let here : place < length stops = omega (arith, within, length_stops system timing groups []) in
       let slow = slowest_is_kept stops place phase here keeps in
-      let span = span_of system responses groups in
-      each_phase stops (λ other below. stops_step system responses sound groups all [] other (omega (arith, below, length_stops system responses groups []))) span
+      let span = span_of timing groups in
+      each_phase stops (λ other below. stops_step system timing sound groups all [] other (omega (arith, below, length_stops system timing groups []))) span
       place (slowest stops) (IsArrivalOf phase) (IsArrivalOf slow.phase) (over_all place phase here keeps span)
       (over_all (slowest stops) slow.phase (slowest_within stops (omega (arith, here))) slow.keeps span)

@@ -8,7 +8,6 @@ pub mod ScannedStarts
 pub mod FewestArrivals
 pub mod KeptPhases
 pub mod SlowestGroups
-pub mod TightTimings
 pub mod KeptAfter
 pub mod CourseFacts
 pub mod BoundsByWalks
@@ -26,7 +25,7 @@ pub mod StartFacts
 pub mod StopFacts
 pub mod StopsOfGroups
 pub mod TightSafety
-pub mod TightTasks
+pub mod WiderWalks
 pub mod WalkStarts
 pub mod WalkSums
 pub mod Walking
@@ -34,3 +33,10 @@ pub mod WalksBothWays
 pub mod WalksMove
 pub mod ShownStarts
 pub mod ShownWalks
+pub mod FirstPast
+pub mod JobsInTime
+pub mod ForwardExists
+pub mod BackwardExists
+pub mod KeptInTime
+pub mod ChainsComplete
+pub mod SomeTicks

@@ -1,4 +1,4 @@
--- The bounds by walks are at most the sums of the report, over the same responses.
+-- The bounds by walks are at most the sums of the report, over the same timings.
 use Rattle.std.proofs.Common.{◌≡◌, ℕ, ℤ, pos, negsuc, suc, ◌<◌, ◌≤◌, List, [], ◌∷◌, length, get_or, map, sym, ap, ◌∙◌, arith}
 use Rattle.std.specs.Prelude.{◌+ℤ◌, ◌≤ℤ◌}
 use Rattle.std.proofs.lemmas.Int.{ints}
@@ -8,7 +8,7 @@ use Rattle.cl_model.specs.Holds.{greatest_by}
 use Rattle.cl_runs.specs.TaskTiming.{System}
 use Rattle.cl_model.proofs.Greatest.{greatest_within}
 use Rattle.cl_bound.specs.declared.group_timing.GroupTiming.{GroupTiming}
-use Rattle.cl_bound.specs.Hops.{group_timing, forward_hop, backward_hop, hops}
+use Rattle.cl_bound.specs.Hops.{forward_hop, backward_hop, hops}
 use Rattle.cl_bound.specs.Bounds.{Lengths, AreBoundsOf, greatest_reaction, greatest_reduced}
 use Rattle.cl_bound.specs.NoGreater.{AreNoGreater}
 use Rattle.cl_bound.proofs.ReactionIsAge.{reaction_is_age}
@@ -34,15 +34,12 @@ sum_of_hops hop timing first (next ∷ groups) at each =
     omega (arith, ints, step, rest)
 
 -- the greatest distances of stops are those of groups
-pub record AreStepsOf (system : System) (responses : ℕ → ℕ) (groups : List Group) (stops : List Stop) : Type 0 where
+pub record AreStepsOf (timing : Group → GroupTiming) (groups : List Group) (stops : List Stop) : Type 0 where
   pub steps : (place : ℕ) → place < length groups
-      → greatest_step (pace_at stops place) ≡ (group_timing system responses (group_at groups place)).distance
+      → greatest_step (pace_at stops place) ≡ (timing (group_at groups place)).distance
 
-module _ (system : System) (responses : ℕ → ℕ) (first : Group) (later : List Group) (stops : List Stop)
-    (of : AreStopsOf system responses (first ∷ later) stops) (steps : AreStepsOf system responses (first ∷ later) stops) where
-  abbrev timing : Group → GroupTiming
-  timing = group_timing system responses
-
+module _ (system : System) (timing : Group → GroupTiming) (first : Group) (later : List Group) (stops : List Stop)
+    (of : AreStopsOf system timing (first ∷ later) stops) (steps : AreStepsOf timing (first ∷ later) stops) where
   same_last : last_place stops ≡ length later
   same_last = omega (arith, of.as_many)
 
@@ -59,20 +56,20 @@ module _ (system : System) (responses : ℕ → ℕ) (first : Group) (later : Li
       omega (arith, ints, ap (behind stops) same_last, sum)
 
   module _ (stepped : (place : ℕ) → place < length stops → IsStepped (pace_at stops place)) (place : ℕ) (is : place < length stops) (arrival : ℤ) where
-    length_within_sum : length_from stops (span_of system responses (first ∷ later)) place arrival ≤ℤ greatest_reaction (map timing (first ∷ later))
+    length_within_sum : length_from stops (span_of timing (first ∷ later)) place arrival ≤ℤ greatest_reaction (map timing (first ∷ later))
     length_within_sum = omega (
       arith,
       ints,
-      length_near stops stepped place is arrival (span_of system responses (first ∷ later)),
+      length_near stops stepped place is arrival (span_of timing (first ∷ later)),
       ahead_is,
       ap pos (steps.steps 0 (omega arith)),
     )
 
-    reduced_within_sum : reduced_from stops (span_of system responses (first ∷ later)) place arrival ≤ℤ greatest_reduced (map timing (first ∷ later))
+    reduced_within_sum : reduced_from stops (span_of timing (first ∷ later)) place arrival ≤ℤ greatest_reduced (map timing (first ∷ later))
     reduced_within_sum = omega (
       arith,
       ints,
-      reduced_near stops stepped place is arrival (span_of system responses (first ∷ later)),
+      reduced_near stops stepped place is arrival (span_of timing (first ∷ later)),
       behind_is,
     )
 
@@ -88,20 +85,20 @@ greatest_ticks length most bound is each moments = greatest_within (λ moment. t
     (λ i d h. ticks_within (length (pos (get_or moments i d))) most (omega (arith, ints, is, each (pos (get_or moments i d)))))
 
 -- the bounds by walks are at most the sums
-pub no_greater_than_sums : (system : System) (responses : ℕ → ℕ) (groups : List Group) → 0 < length groups → (stops : List Stop)
-    → AreStopsOf system responses groups stops → AreStepsOf system responses groups stops → (place : ℕ) → AreStops stops place
-    → (sums : Lengths) → AreBoundsOf (map (group_timing system responses) groups) sums
-    → AreNoGreater (bounds_from stops (span_of system responses groups) place) sums
+pub no_greater_than_sums : (system : System) (timing : Group → GroupTiming) (groups : List Group) → 0 < length groups → (stops : List Stop)
+    → AreStopsOf system timing groups stops → AreStepsOf timing groups stops → (place : ℕ) → AreStops stops place
+    → (sums : Lengths) → AreBoundsOf (map timing groups) sums
+    → AreNoGreater (bounds_from stops (span_of timing groups) place) sums
 unfolding bounds_from
-no_greater_than_sums system responses [] some stops of steps place are sums sum = absurd (omega (arith, some))
-no_greater_than_sums system responses (first ∷ later) some stops of steps place are sums sum =
-    let span = span_of system responses (first ∷ later) in
+no_greater_than_sums system timing [] some stops of steps place are sums sum = absurd (omega (arith, some))
+no_greater_than_sums system timing (first ∷ later) some stops of steps place are sums sum =
+    let span = span_of timing (first ∷ later) in
     let from = starts (pace_at stops place) (hyperperiod_in stops) in
-    let each = length_within_sum system responses first later stops of steps are.stepped place are.is_place in
+    let each = length_within_sum system timing first later stops of steps are.stepped place are.is_place in
     record {
       reaction = greatest_ticks (length_from stops span place) sums.reaction _ sum.reaction each from;
       age = greatest_ticks (length_from stops span place) sums.age _
-          (sum.age ∙ sym (reaction_is_age (map (group_timing system responses) (first ∷ later)))) each from;
+          (sum.age ∙ sym (reaction_is_age (map timing (first ∷ later)))) each from;
       reduced = greatest_ticks (reduced_from stops span place) sums.reduced _ sum.reduced
-          (reduced_within_sum system responses first later stops of steps are.stepped place are.is_place) from;
+          (reduced_within_sum system timing first later stops of steps are.stepped place are.is_place) from;
     }

@@ -10,7 +10,7 @@ use Rattle.cl_runs.specs.Table.{job_at}
 use Rattle.cl_runs.specs.Run.{Run, jobs_of}
 use Rattle.cl_runs.specs.Legal.{IsLegal}
 use Rattle.cl_runs.specs.Chains.{first_group, last_group}
-use Rattle.cl_bound.specs.Hops.{group_timing, lag}
+use Rattle.cl_bound.specs.Hops.{lag}
 use Rattle.cl_bound.specs.declared.group_timing.GroupTiming.{GroupTiming}
 use Rattle.cl_bound.proofs.AlongChains.{last_timing}
 use Rattle.cl_phase.specs.declared.stop.Stop.{Stop}
@@ -25,29 +25,29 @@ abbrev pub arrival_in : Run → List Group → (place job : ℕ) → ℕ
 arrival_in run groups place job = (job_at (jobs_of run (group_at groups place).task) job).arrival
 
 -- the lag of the hop from the group of a place to the next
-abbrev pub lag_from : System → (responses : ℕ → ℕ) → List Group → (place : ℕ) → ℤ
-lag_from system responses groups place =
-    lag (group_timing system responses (group_at groups place)) (group_timing system responses (group_at groups (suc place)))
+abbrev pub lag_between : (timing : Group → GroupTiming) → List Group → (place : ℕ) → ℤ
+lag_between timing groups place =
+    lag (timing (group_at groups place)) (timing (group_at groups (suc place)))
 
 -- stops are those of groups of a system: one a group, with the lags of their hops, and in each legal run neighbouring
 -- jobs of a group arrive as its pace says
-pub record AreStopsOf (system : System) (responses : ℕ → ℕ) (groups : List Group) (stops : List Stop) : Type 0 where
+pub record AreStopsOf (system : System) (timing : Group → GroupTiming) (groups : List Group) (stops : List Stop) : Type 0 where
   pub as_many : length stops ≡ length groups
-  pub lags : (place : ℕ) → suc place < length groups → lag_at stops place ≡ lag_from system responses groups place
+  pub lags : (place : ℕ) → suc place < length groups → lag_at stops place ≡ lag_between timing groups place
   pub neighbours : (run : Run) → IsLegal system run → (place job : ℕ) → place < length groups
       → suc job < length (jobs_of run (group_at groups place).task)
       → AreNeighbours (pace_at stops place) (pos (arrival_in run groups place job)) (pos (arrival_in run groups place (suc job)))
 
 -- the span of groups, by their first and last
-pub span_is : (system : System) (responses : ℕ → ℕ) (groups : List Group) → 0 < length groups
-    → span_of system responses groups
-    ≡ (pos (group_timing system responses (last_group groups)).write -ℤ pos (group_timing system responses (first_group groups)).read)
-span_is system responses [] some = absurd (omega (arith, some))
-span_is system responses (first ∷ later) some =
+pub span_is : (timing : Group → GroupTiming) (groups : List Group) → 0 < length groups
+    → span_of timing groups
+    ≡ (pos (timing (last_group groups)).write -ℤ pos (timing (first_group groups)).read)
+span_is timing [] some = absurd (omega (arith, some))
+span_is timing (first ∷ later) some =
     let place : length later ≡ length (first ∷ later) - 1 = omega arith in
-    ap (λ (timing : GroupTiming). pos timing.write -ℤ pos (group_timing system responses first).read)
-    (last_timing (group_timing system responses) first later
-    ∙ ap (λ n. group_timing system responses (group_at (first ∷ later) n)) place)
+    ap (λ (t : GroupTiming). pos t.write -ℤ pos (timing first).read)
+    (last_timing timing first later
+    ∙ ap (λ n. timing (group_at (first ∷ later) n)) place)
 
 through : (a b c : ℤ) → a ≤ℤ b → b ≤ℤ c → a ≤ℤ c
 through a b c h k = omega (arith, ints, h, k)
@@ -56,15 +56,15 @@ follows : (before after lag other : ℤ) → other ≡ lag → (before +ℤ pos 
 follows before after lag other same h = omega (arith, ints, same, h)
 
 -- of each group a job of the run that isn't the last one, with its next job less than the lag before the next group's
-pub record AreMissedJobs (system : System) (responses : ℕ → ℕ) (groups : List Group) (run : Run) (jobs : ℕ → ℕ) : Type 0 where
+pub record AreMissedJobs (timing : Group → GroupTiming) (groups : List Group) (run : Run) (jobs : ℕ → ℕ) : Type 0 where
   pub in_table : (place : ℕ) → place < length groups → suc (jobs place) < length (jobs_of run (group_at groups place).task)
   pub missed : (place : ℕ) → suc place < length groups
       → (pos (arrival_in run groups (suc place) (jobs (suc place))) +ℤ pos 1)
-      ≤ℤ (pos (arrival_in run groups place (suc (jobs place))) +ℤ lag_from system responses groups place)
+      ≤ℤ (pos (arrival_in run groups place (suc (jobs place))) +ℤ lag_between timing groups place)
 
-module _ (system : System) (responses : ℕ → ℕ) (groups : List Group) (stops : List Stop) (of : AreStopsOf system responses groups stops)
+module _ (system : System) (timing : Group → GroupTiming) (groups : List Group) (stops : List Stop) (of : AreStopsOf system timing groups stops)
     (place : ℕ) (are : AreStops stops place) (span : ℤ) (run : Run) (legal : IsLegal system run) (jobs : ℕ → ℕ)
-    (missed : AreMissedJobs system responses groups run jobs) where
+    (missed : AreMissedJobs timing groups run jobs) where
   abbrev before : ℕ → ℤ
   before other = pos (arrival_in run groups other (jobs other))
 

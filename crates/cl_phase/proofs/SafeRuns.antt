@@ -11,12 +11,11 @@ use Rattle.cl_runs.specs.Moments.{Reads, Writes}
 use Rattle.cl_runs.specs.Chains.{JobChain, chain_length, first_group, last_group, first_job, last_job, IsForwardChain, IsAgeChain, IsReducedChain, AreBackwardLinks}
 use Rattle.cl_runs.specs.RunChains.{run_moments}
 use Rattle.cl_runs.proofs.ChainsKept.{run_age_kept, run_reduced_kept}
-use Rattle.cl_comm.proofs.AccessTimes.{reads_come_late}
-use Rattle.cl_bound.specs.Hops.{group_timing}
+use Rattle.cl_bound.specs.declared.group_timing.GroupTiming.{GroupTiming}
 use Rattle.cl_bound.specs.Promises.{AreAtLeast}
 use Rattle.cl_bound.proofs.LaterRuns.{writes_in_time}
 use Rattle.cl_bound.proofs.LagBounds.{forward_lag, backward_lag}
-use Rattle.cl_bound.proofs.ChainBounds.{AreTimely}
+use Rattle.cl_bound.proofs.ChainBounds.{AreAlwaysKept}
 use Rattle.cl_phase.specs.declared.stop.Stop.{Stop}
 use Rattle.cl_phase.specs.Walks.{last_place}
 use Rattle.cl_phase.specs.TightBounds.{span_of, bounds_from}
@@ -29,23 +28,19 @@ within_walks : (from to first last last_there write read most : ℕ) (span : ℤ
     → first + read ≤ from → to ≤ last + write → ((pos last_there -ℤ pos first) +ℤ span) ≤ℤ pos most → to - from ≤ most
 within_walks from to first last last_there write read most span is same reads writes covers = omega (arith, ints, is, same, reads, writes, covers)
 
-module _ (system : System) (sound : IsSound system) (responses : ℕ → ℕ) (groups : List Group) (some : 0 < length groups)
-    (timely : AreTimely system responses groups) (run : Run) (legal : IsLegal system run) where
+module _ (system : System) (sound : IsSound system) (timing : Group → GroupTiming) (groups : List Group) (some : 0 < length groups)
+    (keep : AreAlwaysKept system timing groups) (run : Run) (legal : IsLegal system run) where
   -- the first group reads and the last writes as their windows say
   first_reads : (job tick : ℕ) → Reads system run (first_group groups).task job (first_group groups).first tick
-      → arrival_in run groups 0 job + (group_timing system responses (first_group groups)).read ≤ tick
-  unfolding group_timing
-  first_reads job tick = reads_come_late system sound run legal (first_group groups).task job (first_group groups).first
-      (responses (first_group groups).task) tick
+      → arrival_in run groups 0 job + (timing (first_group groups)).read ≤ tick
+  first_reads = ((keep 0 some).always run legal).reads
 
   last_writes : (job tick : ℕ) → Writes system run (last_group groups).task job (last_group groups).last tick
-      → tick ≤ arrival_in run groups (length groups - 1) job + (group_timing system responses (last_group groups)).write
-  unfolding group_timing
-  last_writes job tick = writes_in_time system sound run legal (last_group groups).task (responses (last_group groups).task)
-      (timely (length groups - 1) (omega (arith, some))) job (last_group groups).last tick
+      → tick ≤ arrival_in run groups (length groups - 1) job + (timing (last_group groups)).write
+  last_writes = writes_in_time system sound run legal (last_group groups) (timing (last_group groups)) (keep (length groups - 1) (omega (arith, some)))
 
 -- the job before each of a forward chain is one that is missed
-module _ (system : System) (sound : IsSound system) (responses : ℕ → ℕ) (groups : List Group) (timely : AreTimely system responses groups)
+module _ (system : System) (sound : IsSound system) (timing : Group → GroupTiming) (groups : List Group) (keep : AreAlwaysKept system timing groups)
     (run : Run) (legal : IsLegal system run) (chain : JobChain) (complete : IsForwardChain (run_moments system run) groups chain) where
   abbrev job_before : ℕ → ℕ
   job_before place = slice_index chain.jobs place - 1
@@ -53,27 +48,27 @@ module _ (system : System) (sound : IsSound system) (responses : ℕ → ℕ) (g
   next_is : (place : ℕ) → place < length groups → slice_index chain.jobs place ≡ suc (job_before place)
   next_is place h = omega (arith, complete.not_first place h)
 
-  pub forward_missed : AreMissedJobs system responses groups run job_before
+  pub forward_missed : AreMissedJobs timing groups run job_before
   unfolding run_moments
   forward_missed = record {
     in_table = λ place h. subst (λ n. n < length (jobs_of run (group_at groups place).task)) (next_is place h) (complete.written place h).writes.in_table;
     missed = λ place h.
         let here : place < length groups = omega (arith, h) in
-        let late = forward_lag system sound responses (group_at groups place) (group_at groups (suc place)) (timely place here) (timely (suc place) h)
-        run legal (slice_index chain.jobs place) (slice_index chain.jobs (suc place)) (complete.not_first (suc place) h) (complete.linked place h) in
+        let late = forward_lag system sound (group_at groups place) (group_at groups (suc place)) (timing (group_at groups place))
+        (timing (group_at groups (suc place))) (keep place here) (keep (suc place) h) run legal (slice_index chain.jobs place) (slice_index chain.jobs (suc place)) (complete.not_first (suc place) h) (complete.linked place h) in
         omega (arith, ints, late, ap (λ n. pos (arrival_in run groups place n)) (next_is place here));
   }
 
 -- each job of a backward chain is one that the next one misses, in a run in which the next ones have written
-module _ (system : System) (sound : IsSound system) (responses : ℕ → ℕ) (groups : List Group) (timely : AreTimely system responses groups)
+module _ (system : System) (sound : IsSound system) (timing : Group → GroupTiming) (groups : List Group) (keep : AreAlwaysKept system timing groups)
     (run : Run) (jobs : List ℕ) (next : HasNextJobs system run groups jobs) (links : AreBackwardLinks (run_moments system next.longer) groups jobs) where
-  pub backward_missed : AreMissedJobs system responses groups next.longer (slice_index jobs)
+  pub backward_missed : AreMissedJobs timing groups next.longer (slice_index jobs)
   backward_missed = record {
     in_table = next.in_table;
     missed = λ place h.
         let here : place < length groups = omega (arith, h) in
-        let late = backward_lag system sound responses (group_at groups place) (group_at groups (suc place)) (timely place here) (timely (suc place) h)
-        next.longer next.legal (slice_index jobs place) (slice_index jobs (suc place)) (links.linked place h) (next.written place here) in
+        let late = backward_lag system sound (group_at groups place) (group_at groups (suc place)) (timing (group_at groups place))
+        (timing (group_at groups (suc place))) (keep place here) (keep (suc place) h) next.longer next.legal (slice_index jobs place) (slice_index jobs (suc place)) (links.linked place h) (next.written place here) in
         let one : slice_index jobs place + 1 ≡ suc (slice_index jobs place) = omega arith in
         omega (arith, ints, late, ap (λ n. pos (arrival_in next.longer groups place n)) one);
   }
@@ -86,30 +81,30 @@ last_at run groups stops jobs job number same is =
     let place : length groups - 1 ≡ last_place stops = omega (arith, same) in
     ap (arrival_in run groups (length groups - 1)) is ∙ ap (λ n. arrival_in run groups n (job n)) place
 
-module _ (system : System) (sound : IsSound system) (responses : ℕ → ℕ) (groups : List Group) (timely : AreTimely system responses groups)
-    (stops : List Stop) (of : AreStopsOf system responses groups stops) (place : ℕ) (are : AreStops stops place)
+module _ (system : System) (sound : IsSound system) (timing : Group → GroupTiming) (groups : List Group) (keep : AreAlwaysKept system timing groups)
+    (stops : List Stop) (of : AreStopsOf system timing groups stops) (place : ℕ) (are : AreStops stops place)
     (run : Run) (legal : IsLegal system run) where
   reaction_safe : (chain : JobChain) → IsForwardChain (run_moments system run) groups chain
-      → chain_length chain ≤ (bounds_from stops (span_of system responses groups) place).reaction
+      → chain_length chain ≤ (bounds_from stops (span_of timing groups) place).reaction
   unfolding run_moments
   reaction_safe chain complete =
-      let job = job_before system sound responses groups timely run legal chain complete in
+      let job = job_before system sound timing groups keep run legal chain complete in
       let last : length chain.jobs - 1 ≡ length groups - 1 = omega (arith, complete.one_a_group) in
       let number : last_job chain ≡ suc (job (length groups - 1))
-      = ap (slice_index chain.jobs) last ∙ next_is system sound responses groups timely run legal chain complete (length groups - 1) (omega (arith, complete.some_group)) in
+      = ap (slice_index chain.jobs) last ∙ next_is system sound timing groups keep run legal chain complete (length groups - 1) (omega (arith, complete.some_group)) in
       within_walks chain.from chain.to (arrival_in run groups 0 (job 0)) (arrival_in run groups (length groups - 1) (last_job chain)) _ _ _ _
-      (span_of system responses groups) (span_is system responses groups complete.some_group)
+      (span_of timing groups) (span_is timing groups complete.some_group)
       (last_at run groups stops chain.jobs (λ n. suc (job n)) (last_job chain) of.as_many number)
-      (first_reads system sound responses groups complete.some_group timely run legal (job 0) chain.from complete.from)
-      (last_writes system sound responses groups complete.some_group timely run legal (last_job chain) chain.to complete.to)
-      (reaction_covers system responses groups stops of place are (span_of system responses groups) run legal job
-      (forward_missed system sound responses groups timely run legal chain complete))
+      (first_reads system sound timing groups complete.some_group keep run legal (job 0) chain.from complete.from)
+      (last_writes system sound timing groups complete.some_group keep run legal (last_job chain) chain.to complete.to)
+      (reaction_covers system timing groups stops of place are (span_of timing groups) run legal job
+      (forward_missed system sound timing groups keep run legal chain complete))
 
   age_safe : (chain : JobChain) → IsAgeChain (run_moments system run) groups chain
-      → chain_length chain ≤ (bounds_from stops (span_of system responses groups) place).age
+      → chain_length chain ≤ (bounds_from stops (span_of timing groups) place).age
   unfolding run_moments
   age_safe chain complete =
-      let next = next_jobs system sound responses groups timely run legal chain.jobs complete.links in
+      let next = next_jobs system sound timing groups keep run legal chain.jobs complete.links in
       let there : IsAgeChain (run_moments system next.longer) groups chain
       = run_age_kept system sound run next.longer legal next.legal next.goes_on groups chain complete in
       let some = complete.links.some_group in
@@ -117,30 +112,30 @@ module _ (system : System) (sound : IsSound system) (responses : ℕ → ℕ) (g
       let number : last_job chain + 1 ≡ suc (slice_index chain.jobs (length groups - 1)) = omega (arith, ap (slice_index chain.jobs) last) in
       within_walks chain.from chain.to (arrival_in next.longer groups 0 (first_job chain))
       (arrival_in next.longer groups (length groups - 1) (last_job chain + 1)) _ _ _ _
-      (span_of system responses groups) (span_is system responses groups some)
+      (span_of timing groups) (span_is timing groups some)
       (last_at next.longer groups stops chain.jobs (λ n. suc (slice_index chain.jobs n)) (last_job chain + 1) of.as_many number)
-      (first_reads system sound responses groups some timely next.longer next.legal (first_job chain) chain.from there.from)
-      (last_writes system sound responses groups some timely next.longer next.legal (last_job chain + 1) chain.to there.to)
-      (age_covers system responses groups stops of place are (span_of system responses groups) next.longer next.legal (slice_index chain.jobs)
-      (backward_missed system sound responses groups timely run chain.jobs next there.links))
+      (first_reads system sound timing groups some keep next.longer next.legal (first_job chain) chain.from there.from)
+      (last_writes system sound timing groups some keep next.longer next.legal (last_job chain + 1) chain.to there.to)
+      (age_covers system timing groups stops of place are (span_of timing groups) next.longer next.legal (slice_index chain.jobs)
+      (backward_missed system sound timing groups keep run chain.jobs next there.links))
 
   reduced_safe : (chain : JobChain) → IsReducedChain (run_moments system run) groups chain
-      → chain_length chain ≤ (bounds_from stops (span_of system responses groups) place).reduced
+      → chain_length chain ≤ (bounds_from stops (span_of timing groups) place).reduced
   unfolding run_moments
   reduced_safe chain complete =
-      let next = next_jobs system sound responses groups timely run legal chain.jobs complete.links in
+      let next = next_jobs system sound timing groups keep run legal chain.jobs complete.links in
       let there : IsReducedChain (run_moments system next.longer) groups chain
       = run_reduced_kept system sound run next.longer legal next.legal next.goes_on groups chain complete in
       let some = complete.links.some_group in
       let last : length chain.jobs - 1 ≡ length groups - 1 = omega (arith, complete.links.one_a_group) in
       within_walks chain.from chain.to (arrival_in next.longer groups 0 (first_job chain))
       (arrival_in next.longer groups (length groups - 1) (last_job chain)) _ _ _ _
-      (span_of system responses groups) (span_is system responses groups some)
+      (span_of timing groups) (span_is timing groups some)
       (last_at next.longer groups stops chain.jobs (slice_index chain.jobs) (last_job chain) of.as_many (ap (slice_index chain.jobs) last))
-      (first_reads system sound responses groups some timely next.longer next.legal (first_job chain) chain.from there.from)
-      (last_writes system sound responses groups some timely next.longer next.legal (last_job chain) chain.to there.to)
-      (reduced_covers_jobs system responses groups stops of place are (span_of system responses groups) next.longer next.legal (slice_index chain.jobs)
-      (backward_missed system sound responses groups timely run chain.jobs next there.links))
+      (first_reads system sound timing groups some keep next.longer next.legal (first_job chain) chain.from there.from)
+      (last_writes system sound timing groups some keep next.longer next.legal (last_job chain) chain.to there.to)
+      (reduced_covers_jobs system timing groups stops of place are (span_of timing groups) next.longer next.legal (slice_index chain.jobs)
+      (backward_missed system sound timing groups keep run chain.jobs next there.links))
 
-  pub bounds_at_least : AreAtLeast system groups (bounds_from stops (span_of system responses groups) place) run
+  pub bounds_at_least : AreAtLeast system groups (bounds_from stops (span_of timing groups) place) run
   bounds_at_least = record { reaction = reaction_safe; age = age_safe; reduced = reduced_safe }

@@ -39,7 +39,7 @@ no_fewer_by_fewest ticks phase few (Kept other ∷ paces) =
     ∙ both_by_least (arrivals_in ticks phase) (arrivals_in ticks other) (fewest_in ticks (phases_in paces))
 no_fewer_by_fewest ticks phase few (Free greatest ∷ paces) = no_fewer_by_fewest ticks phase few paces
 
-along : (test : Pace → Bool) (stops : List Stop) → list_all (λ (stop : Stop). test stop.pace) stops ≡ list_all test (map pace_of stops)
+pub along : (test : Pace → Bool) (stops : List Stop) → list_all (λ (stop : Stop). test stop.pace) stops ≡ list_all test (map pace_of stops)
 along test [] = refl
 along test (stop ∷ stops) = ap (λ b. test stop.pace && b) (along test stops)
 

@@ -8,7 +8,8 @@ use Rattle.cl_model.specs.Timing.{greatest_distance}
 use Rattle.cl_runs.specs.TaskTiming.{System, timing_at, IsSound}
 use Rattle.cl_stim.specs.declared.phase.Phase.{Phase}
 use Rattle.cl_stim.specs.Phase.{phase_of}
-use Rattle.cl_bound.specs.Hops.{group_timing, lag}
+use Rattle.cl_bound.specs.Hops.{lag}
+use Rattle.cl_bound.specs.declared.group_timing.GroupTiming.{GroupTiming}
 use Rattle.cl_bound.specs.SettledChains.{IsGroupOfTask}
 use Rattle.cl_phase.specs.declared.stop.Stop.{Stop}
 use Rattle.cl_phase.specs.Pace.{IsPace, ComesRound, greatest_step}
@@ -29,15 +30,15 @@ given_pace pattern kept = by (phase_of pattern) refl
     by (Some phase) is = cond_both (come_round_soon (phase ∷ kept)) (Some phase) None
         (λ o. IsPaceOf pattern (pace_with (greatest_distance pattern) o)) (λ yes. is) (λ no. refl)
 
-module _ (system : System) (responses : ℕ → ℕ) where
-  pub length_stops : (groups : List Group) (kept : List Phase) → length (stops_beside system responses kept groups) ≡ length groups
+module _ (system : System) (timing : Group → GroupTiming) where
+  pub length_stops : (groups : List Group) (kept : List Phase) → length (stops_beside system timing kept groups) ≡ length groups
   unfolding stops_beside
   length_stops [] kept = refl
   length_stops (group ∷ later) kept = ap suc (length_stops later (kept_with kept (phase_beside kept (phase_of (timing_at system group.task).pattern))))
 
   -- the pace at a place is one of the pattern of that group's task
   pub stop_pace : (groups : List Group) (kept : List Phase) (place : ℕ) → place < length groups
-      → IsPaceOf (timing_at system (group_at groups place).task).pattern (pace_at (stops_beside system responses kept groups) place)
+      → IsPaceOf (timing_at system (group_at groups place).task).pattern (pace_at (stops_beside system timing kept groups) place)
   unfolding stops_beside
   stop_pace [] kept place within = absurd (omega (arith, within))
   stop_pace (group ∷ later) kept zero within = given_pace (timing_at system group.task).pattern kept
@@ -46,8 +47,8 @@ module _ (system : System) (responses : ℕ → ℕ) where
 
   -- the lag there is that of the hop to the next group
   pub stop_lag : (groups : List Group) (kept : List Phase) (place : ℕ) → suc place < length groups
-      → lag_at (stops_beside system responses kept groups) place
-      ≡ lag (group_timing system responses (group_at groups place)) (group_timing system responses (group_at groups (suc place)))
+      → lag_at (stops_beside system timing kept groups) place
+      ≡ lag (timing (group_at groups place)) (timing (group_at groups (suc place)))
   unfolding stops_beside
   stop_lag [] kept place within = absurd (omega (arith, within))
   stop_lag (group ∷ []) kept place within = absurd (omega (arith, within))
@@ -57,7 +58,7 @@ module _ (system : System) (responses : ℕ → ℕ) where
 
   module _ (sound : IsSound system) (groups : List Group) (all : All (IsGroupOfTask system) groups) (kept : List Phase) where
     abbrev stops : List Stop
-    stops = stops_beside system responses kept groups
+    stops = stops_beside system timing kept groups
 
     group_task : (place : ℕ) → place < length groups → (group_at groups place).task < length system.tasks
     group_task place within = (all place _ within).is_task

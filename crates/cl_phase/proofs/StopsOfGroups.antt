@@ -1,10 +1,11 @@
 -- The stops of groups of a sound system are such as bounds by walks need.
-use Rattle.std.proofs.Common.{◌≡◌, ℕ, ◌<◌, ◌⊎◌, inl, inr, List, [], length, subst, arith}
+use Rattle.std.proofs.Common.{◌≡◌, ℕ, ◌<◌, ◌⊎◌, inl, inr, List, [], length, sym, ◌∙◌, subst, arith}
 use Rattle.std.specs.Prelude.{All}
 use Rattle.cl_model.specs.Groups.{no_group, group_at}
 use Rattle.cl_model.specs.declared.group.Group.{Group}
 use Rattle.cl_runs.specs.TaskTiming.{System, IsSound}
-use Rattle.cl_bound.specs.Hops.{group_timing}
+use Rattle.cl_bound.specs.declared.group_timing.GroupTiming.{GroupTiming}
+use Rattle.cl_bound.specs.Timings.{IsTimingOf}
 use Rattle.cl_bound.specs.SettledChains.{IsGroupOfTask}
 use Rattle.cl_phase.specs.declared.stop.Stop.{Stop}
 use Rattle.cl_phase.specs.Walks.{pace_at}
@@ -21,10 +22,9 @@ use Rattle.cl_phase.proofs.RunWalks.{AreStopsOf}
 use Rattle.cl_phase.proofs.NoGreaterSums.{AreStepsOf}
 
 -- all that they need
-pub record HaveStops (system : System) (responses : ℕ → ℕ) (groups : List Group) : Type 0 where
-  pub are : AreStops (stops_of system responses groups) (slowest (stops_of system responses groups))
-  pub of : AreStopsOf system responses groups (stops_of system responses groups)
-  pub steps : AreStepsOf system responses groups (stops_of system responses groups)
+pub record HaveStops (system : System) (timing : Group → GroupTiming) (groups : List Group) : Type 0 where
+  pub are : AreStops (stops_of system timing groups) (slowest (stops_of system timing groups))
+  pub of : AreStopsOf system timing groups (stops_of system timing groups)
 
 -- walks start from a group that keeps its phase, or from the first where none does
 starts_from : (stops : List Stop)
@@ -34,15 +34,15 @@ starts_from stops = elim (slowest_keeps stops) [
   | inr none ↦ inr (none.first, none.none)
 ]
 
-module _ (system : System) (sound : IsSound system) (responses : ℕ → ℕ) (groups : List Group) (all : All (IsGroupOfTask system) groups) where
+module _ (system : System) (sound : IsSound system) (timing : Group → GroupTiming) (groups : List Group) (all : All (IsGroupOfTask system) groups) where
   abbrev stops : List Stop
-  stops = stops_of system responses groups
+  stops = stops_of system timing groups
 
   as_many : length stops ≡ length groups
-  as_many = length_stops system responses groups []
+  as_many = length_stops system timing groups []
 
   paced : ArePaced stops
-  paced place h = stop_is_pace system responses sound groups all [] place (omega (arith, h, as_many))
+  paced place h = stop_is_pace system timing sound groups all [] place (omega (arith, h, as_many))
 
   are_stops : 0 < length groups → AreStops stops (slowest stops)
   are_stops some = record {
@@ -56,17 +56,19 @@ module _ (system : System) (sound : IsSound system) (responses : ℕ → ℕ) (g
         (record { within = below; arrives = arrives });
   }
 
-  are_stops_of : AreStopsOf system responses groups stops
+  are_stops_of : AreStopsOf system timing groups stops
   are_stops_of = record {
     as_many = as_many;
-    lags = stop_lag system responses groups [];
+    lags = stop_lag system timing groups [];
     neighbours = λ run legal place job h below. run_neighbours system sound run legal (group_at groups place).task (all place no_group h).is_task
-        (pace_at stops place) (stop_pace system responses groups [] place h) job below;
+        (pace_at stops place) (stop_pace system timing groups [] place h) job below;
   }
 
-  are_steps_of : AreStepsOf system responses groups stops
-  unfolding group_timing
-  are_steps_of = record { steps = stop_step system responses sound groups all [] }
+  -- where what is known of groups is of them, they go no further than it says
+  pub are_steps_of : All (λ (group : Group). IsTimingOf system group (timing group)) groups → AreStepsOf timing groups stops
+  are_steps_of is = record {
+    steps = λ place h. stop_step system timing sound groups all [] place h ∙ sym (is place no_group h).distance;
+  }
 
-  pub have_stops : 0 < length groups → HaveStops system responses groups
-  have_stops some = record { are = are_stops some; of = are_stops_of; steps = are_steps_of }
+  pub have_stops : 0 < length groups → HaveStops system timing groups
+  have_stops some = record { are = are_stops some; of = are_stops_of }

@@ -3,5 +3,5 @@ pub mod Kept
 pub mod Walks
 pub mod TightBounds
 pub mod Walked
-pub mod TightAnswers
+pub mod CompleteChains
 pub mod Inner

@@ -9,7 +9,8 @@ use Rattle.cl_stim.specs.declared.phase.Phase.{Phase}
 use Rattle.cl_stim.specs.Phase.{phase_of, arrives_at, arrivals_in}
 use Rattle.cl_stim.specs.Multiples.{hyperperiod_of}
 use Rattle.cl_bound.specs.Bounds.{Lengths, last_of}
-use Rattle.cl_bound.specs.Hops.{group_timing, lag}
+use Rattle.cl_bound.specs.Hops.{lag}
+use Rattle.cl_bound.specs.declared.group_timing.GroupTiming.{GroupTiming}
 use Rattle.cl_phase.specs.declared.pace.Pace.{Pace}
 use Rattle.cl_phase.specs.declared.pace.Pace.TheVariants.{Kept, Free}
 use Rattle.cl_phase.specs.declared.stop.Stop.{Stop}
@@ -19,23 +20,23 @@ use Rattle.cl_phase.specs.Walks.{pace_at, last_place, arrival_at_last, arrival_a
 
 -- ---- the groups of a chain
 
--- the lag of the hop from a group to the one after it, where these are the responses of the tasks
-abbrev pub lag_to_next : System → (responses : ℕ → ℕ) → Group → (later : List Group) → ℤ
-lag_to_next system responses group [] = pos 0
-lag_to_next system responses group (next ∷ later) = lag (group_timing system responses group) (group_timing system responses next)
+-- the lag of the hop from a group to the one after it, where this is what is known of groups
+abbrev pub lag_to_next : (timing : Group → GroupTiming) → Group → (later : List Group) → ℤ
+lag_to_next timing group [] = pos 0
+lag_to_next timing group (next ∷ later) = lag (timing group) (timing next)
 
 -- groups with their paces, beside the phases that are kept so far, and the lags of their hops
-unfoldable pub stops_beside : System → (responses : ℕ → ℕ) → (kept : List Phase) → List Group → List Stop
-stops_beside system responses kept [] = []
-stops_beside system responses kept (group ∷ later) =
+unfoldable pub stops_beside : System → (timing : Group → GroupTiming) → (kept : List Phase) → List Group → List Stop
+stops_beside system timing kept [] = []
+stops_beside system timing kept (group ∷ later) =
     let kind = (timing_at system group.task).pattern in
     let phase = phase_beside kept (phase_of kind) in
-    record { pace = pace_with (greatest_distance kind) phase; lag = lag_to_next system responses group later }
-    ∷ stops_beside system responses (kept_with kept phase) later
+    record { pace = pace_with (greatest_distance kind) phase; lag = lag_to_next timing group later }
+    ∷ stops_beside system timing (kept_with kept phase) later
 
 -- the groups of a whole chain
-abbrev pub stops_of : System → (responses : ℕ → ℕ) → List Group → List Stop
-stops_of system responses groups = stops_beside system responses [] groups
+abbrev pub stops_of : System → (timing : Group → GroupTiming) → List Group → List Stop
+stops_of system timing groups = stops_beside system timing [] groups
 
 -- the hyperperiod of the phases that are kept
 abbrev pub hyperperiod_in : List Stop → ℕ
@@ -95,16 +96,16 @@ bounds_from stops span place =
 -- ---- the tight bounds
 
 -- the latest write of the last group less the earliest read of the first
-abbrev pub span_of : System → (responses : ℕ → ℕ) → List Group → ℤ
-span_of system responses [] = pos 0
-span_of system responses (first ∷ later) =
-    pos (last_of (group_timing system responses first) (map (group_timing system responses) later)).write
-    -ℤ pos (group_timing system responses first).read
+abbrev pub span_of : (timing : Group → GroupTiming) → List Group → ℤ
+span_of timing [] = pos 0
+span_of timing (first ∷ later) =
+    pos (last_of (timing first) (map timing later)).write
+    -ℤ pos (timing first).read
 
--- The tight bounds of groups of a system that follow each other, where these are the responses of the tasks: by the
--- walks from the group that has the fewest to make. All groups that keep their phase give the same numbers, which is a
+-- The tight bounds of groups of a system that follow each other, where this is what is known of groups: by the walks
+-- from the group that has the fewest to make. All groups that keep their phase give the same numbers, which is a
 -- law.
-unfoldable pub tight_bounds : System → (responses : ℕ → ℕ) → List Group → Lengths
-tight_bounds system responses groups =
-    let stops = stops_of system responses groups in
-    bounds_from stops (span_of system responses groups) (slowest stops)
+unfoldable pub tight_bounds : System → (timing : Group → GroupTiming) → List Group → Lengths
+tight_bounds system timing groups =
+    let stops = stops_of system timing groups in
+    bounds_from stops (span_of timing groups) (slowest stops)

@@ -3,10 +3,10 @@ use Rattle.std.specs.Prelude.{ℕ, ◌+◌, ◌-◌, ℤ, pos, ◌==◌, List, m
 use Rattle.std.specs.List.{range_with_len}
 use Rattle.cl_model.specs.declared.group.Group.{Group}
 use Rattle.cl_runs.specs.TaskTiming.{System}
+use Rattle.cl_bound.specs.declared.group_timing.GroupTiming.{GroupTiming}
 use Rattle.cl_phase.specs.declared.stop.Stop.{Stop}
 use Rattle.cl_phase.specs.declared.walked.Walked.{Walked}
 use Rattle.cl_phase.specs.Pace.{previous}
-use Rattle.cl_phase.specs.TightAnswers.{tight_response}
 use Rattle.cl_phase.specs.Walks.{pace_at, last_place, onward, back}
 use Rattle.cl_phase.specs.TightBounds.{stops_of, span_of, slowest, hyperperiod_in, starts, ticks_or_none, length_from}
 
@@ -28,11 +28,11 @@ missed stops place start = map (λ group. back stops place (previous (pace_at st
 unfoldable pub taken : List Stop → (place : ℕ) → (start : ℤ) → List ℤ
 taken stops place start = map (onward stops place start) (range_with_len 0 (last_place stops - place + 1))
 
--- the walk of groups of a system from the group that has the fewest to make, which lasts this long where tasks respond
--- by phases
-unfoldable pub walked_of : System → List Group → (reaction : ℕ) → Walked
-walked_of system groups reaction =
-    let stops = stops_of system (tight_response system) groups in
+-- the walk of groups of a system, where this is what is known of them, from the group that has the fewest to make, which
+-- lasts this long
+unfoldable pub walked_of : System → (timing : Group → GroupTiming) → List Group → (reaction : ℕ) → Walked
+walked_of system timing groups reaction =
+    let stops = stops_of system timing groups in
     let place = slowest stops in
-    let start = pos (walk_start stops (span_of system (tight_response system) groups) place reaction) in
+    let start = pos (walk_start stops (span_of timing groups) place reaction) in
     record { place = place; missed = missed stops place start; taken = taken stops place start }

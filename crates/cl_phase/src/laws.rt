@@ -1,4 +1,5 @@
 //! What holds of phases and of the tight bounds of groups of every sound system.
+pub mod complete;
 pub mod phases_agree;
 pub mod safety;
 pub mod sums;

@@ -14,7 +14,7 @@ mod stop;
 mod walk;
 mod walked;
 
-pub use bounding::{tight_bounds, tight_bounds_of_groups};
+pub use bounding::tight_bounds;
 pub use pace::{MOST_ARRIVALS, Pace};
 pub use stop::Stop;
 pub use walked::{Walked, walk_lasting};

@@ -1,12 +1,13 @@
 //! The walk of a chain that shows why its tight bound is what it is. Times are in ticks.
-ghost use Rattle.std.specs.Prelude.{◌≡◌, ◌<◌, ◌≤◌, pos, length, IfOk};
-ghost use Rattle.cl_bound.specs.Answers.{NoneIsLate};
-ghost use Rattle.cl_model.specs.declared.limits.TheConstants.{MOST_TICKS};
-ghost use Rattle.cl_model.specs.Groups.{groups_at};
+ghost use Rattle.std.specs.Prelude.{◌≡◌, ◌<◌, ◌≤◌, pos, length, map, All, IfOk};
+ghost use Rattle.cl_bound.specs.Hops.{IsNear};
+ghost use Rattle.cl_bound.specs.declared.group_timing.GroupTiming.{GroupTiming};
+ghost use Rattle.cl_model.specs.declared.group.Group.{Group};
+ghost use Rattle.cl_model.specs.declared.limits.TheConstants.{MOST_TICKS, MOST_STEPS};
+ghost use Rattle.cl_model.specs.Groups.{IsGroupOf};
 ghost use Rattle.cl_runs.specs.SystemOf.{system_of};
 ghost use Rattle.cl_stim.specs.Integers.{IsIntegerWithin};
 ghost use Rattle.cl_phase.specs.declared.pace.Pace.{Pace};
-ghost use Rattle.cl_phase.specs.TightAnswers.{tight_answers_of};
 ghost use Rattle.cl_phase.specs.TightBounds.{starts};
 ghost use Rattle.cl_phase.specs.Walks.{pace_at};
 ghost use Rattle.cl_phase.specs.Walked.{start_among, missed, taken, walked_of};
@@ -16,8 +17,8 @@ use crate::course::course_of;
 use crate::pace::Pace;
 use crate::stop::Stop;
 use crate::walk::{arrival_back, arrival_onward, lengths_at};
-use cl_bound::TaskAnswer;
-use cl_model::{List, ValidModel};
+use cl_bound::GroupTiming;
+use cl_model::{Group, List, MOST_STEPS, ValidModel};
 use cl_stim::Phase;
 use cl_time::NoMemory;
 use std::alloc::Global;
@@ -104,26 +105,29 @@ fn taken(alloc: Global, stops: &[Stop], place: usize, start: i64) -> Result<List
     Ok(arrivals)
 }
 
-/// Finds a walk of a chain of a valid model, given by its number, that is as long as `reaction`,
-/// from the answer by phases for each task of the model. None of the chain's tasks is late. It is
-/// the first such walk from the slowest group that keeps its phase, or from the first group where
-/// none keeps it. If no walk is as long, the walk starts at 0.
+/// Finds a walk of groups of a valid model that follow each other, a chain of it or a part of one,
+/// that is as long as `reaction`, from what is known of each group. It is the first such walk from
+/// the slowest group that keeps its phase, or from the first group where none keeps it. If no walk
+/// is as long, the walk starts at 0.
 ///
 /// `NoMemory` comes where there is no memory for the arrivals; it leaves nothing.
 pub fn walk_lasting(
     alloc: Global,
     model: &ValidModel,
-    chain: u32,
-    settled: &List<TaskAnswer>,
+    groups: &[Group],
+    timings: &[GroupTiming],
     reaction: u64,
 ) -> Result<Walked, NoMemory>
-    requires is_chain { chain < length model.now.chains }
-    requires answers { settled.now ≡ tight_answers_of (system_of model.now) }
-    requires not_late { NoneIsLate settled.now (groups_at model.now chain) }
-    ensures { IfOk result
-        (λ walk. walk ≡ walked_of (system_of model.now) (groups_at model.now chain) reaction) }
+    requires some { 0 < length groups.now }
+    requires few { length groups.now ≤ MOST_STEPS }
+    requires of_tasks { All (IsGroupOf model.now) groups.now }
+    requires as_many { length timings.now ≡ length groups.now }
+    requires near { All IsNear timings.now }
+    ensures { IfOk result (λ walk. (timing : Group → GroupTiming)
+        → timings.now ≡ map timing groups.now
+        → walk ≡ walked_of (system_of model.now) timing groups.now reaction) }
 {
-    let course = course_of(model, model.groups(chain), settled);
+    let course = course_of(model, groups, timings);
     let stops = course.stops.as_slice();
     let place = course.keeping.slowest(stops);
     let start = start_of(

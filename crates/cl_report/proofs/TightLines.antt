@@ -16,9 +16,10 @@ use Rattle.cl_runs.specs.SystemOf.{system_of}
 use Rattle.cl_runs.proofs.FirstFound.{first_found}
 use Rattle.cl_bound.specs.declared.answer.TaskAnswer.{TaskAnswer}
 use Rattle.cl_bound.specs.Answers.{answer_at, is_late}
-use Rattle.cl_phase.specs.TightAnswers.{tight_answers_of, tight_response}
+use Rattle.cl_tight.specs.TightAnswers.{tight_answers_of}
+use Rattle.cl_tight.specs.TightTimings.{tight_timing}
 use Rattle.cl_phase.specs.TightBounds.{tight_bounds}
-use Rattle.cl_phase.proofs.TightTimings.{answer_count}
+use Rattle.cl_tight.proofs.TightTimings.{answer_count}
 use Rattle.cl_analyse.specs.declared.findings.ChainAnswer.{ChainAnswer}
 use Rattle.cl_analyse.specs.declared.findings.ChainAnswer.TheVariants.{Late}
 use Rattle.cl_analyse.specs.ChainAnswers.{first_late, chain_answer_at}
@@ -68,7 +69,7 @@ tight_late_known model answers valid is chain late within named =
     let system = system_of model in
     let of_chain = get_or-map (tight_chain_answer_of model) model.chains chain no_chain (Late 0) within in
     let first = late_where (first_late (tight_answers_of system) (steps_of model (chain_at model chain)))
-    (tight_bounds system (tight_response system) (groups_of model (chain_at model chain))) late
+    (tight_bounds system (tight_timing system) (groups_of model (chain_at model chain))) late
     (sym of_chain ∙ ap (λ (all : List ChainAnswer). chain_answer_at all chain) (sym is) ∙ named) in
     late_step_known model (tight_answers_of system) (steps_of model (chain_at model chain)) late
     (All-map (λ (step : Step). step.task < length model.tasks) (step_named model) (chain_at model chain).runnables

@@ -1,23 +1,21 @@
--- Responses by phases, whole and up to a runnable: they hold, leave room for the execution, and
--- that of a part is no later.
-use Rattle.std.proofs.Common.{◌≡◌, ℕ, suc, ◌+◌, ◌-◌, ◌<◌, ◌≤◌, Bool, Option, Some, None, ℤ, pos, ◌+ℤ◌, ◌-ℤ◌, ◌≤ℤ◌, length, ap, arith}
+-- Responses by phases, whole and up to a runnable: they hold, and leave room for the execution.
+use Rattle.std.proofs.Common.{◌≡◌, ℕ, ◌+◌, ◌-◌, ◌<◌, ◌≤◌, Bool, Option, Some, None, ℤ, pos, ◌+ℤ◌, ◌-ℤ◌, ◌≤ℤ◌, length, ap, arith}
 use Rattle.std.specs.Option.{option_map}
 use Rattle.std.proofs.lemmas.Int.{ints}
-use Rattle.std.proofs.lemmas.List.Sums.{sum_by-take-le}
 use Rattle.std.proofs.lemmas.Option.{same_Some}
 use Rattle.cl_model.specs.Timing.{greatest_jitter}
-use Rattle.cl_runs.specs.TaskTiming.{TimeRange, Timing, System, timing_at, IsSound}
+use Rattle.cl_runs.specs.TaskTiming.{System, timing_at, IsSound}
 use Rattle.cl_runs.specs.Responses.{IsTimely}
 use Rattle.cl_stim.specs.Phase.{IsPhase, last_arrival}
 use Rattle.cl_stim.proofs.PhaseSteps.{last_arrives, last_before}
 use Rattle.cl_cycle.specs.Cycles.{is_one_of, in_phase_above, cycle_of}
 use Rattle.cl_resp.specs.Asked.{Asked, least_response, AnswersWithin, IsLeastResponse}
-use Rattle.cl_resp.specs.ByPhase.{demand_by, asked_with, asked_by_phase, response_by_phase, response_through, IsSettledByPhase}
+use Rattle.cl_resp.specs.ByPhase.{demand_by, asked_by_phase, response_by_phase, response_through, IsSettledByPhase}
 use Rattle.cl_resp.specs.Clear.{greatest_through}
 use Rattle.cl_resp.specs.Promises.{AlwaysFinishesThrough}
 use Rattle.cl_resp.specs.Question.{greatest_execution}
 use Rattle.cl_resp.specs.Response.{Response}
-use Rattle.cl_resp.proofs.LeastAnswers.{found_is_least, finds_some}
+use Rattle.cl_resp.proofs.LeastAnswers.{found_is_least}
 use Rattle.cl_resp.proofs.AnsweredJobs.{whole_jobs_finish, parts_finish}
 use Rattle.cl_resp.proofs.LeastRound.{asked_comes_round}
 
@@ -94,37 +92,3 @@ execution_in_response system sound task response settled =
     work_within (asked_by_phase system task own) (asked_comes_round system sound task own settled.is_task).phase own response
     (own_asked system (is_one_of (in_phase_above system task)) task own)
     (settled_least system sound task response settled).answers
-
--- ---- that of a part is no later
-
-less_asked : (system : System) (in_phase : ℕ → Bool) (task less own : ℕ) → less ≤ own → (start : ℤ) (width : ℕ)
-    → demand_by system in_phase task less start width ≤ demand_by system in_phase task own start width
-unfolding demand_by
-less_asked system in_phase task less own le start width = omega (arith, le)
-
--- what answers for some work answers for less
-pub less_answered : (system : System) (in_phase : ℕ → Bool) (cycle task less own response : ℕ) → less ≤ own
-    → AnswersWithin (asked_with system in_phase cycle task own) response → AnswersWithin (asked_with system in_phase cycle task less) response
-less_answered system in_phase cycle task less own response le answers arrival start arrives begins =
-    let ends = answers arrival start arrives (record { after = begins.after; by = begins.by }) in
-    record {
-      width = ends.width;
-      some = ends.some;
-      by = ends.by;
-      enough = omega (arith, less_asked system in_phase task less own le start ends.width, ends.enough);
-    }
-
-pub through_execution : (task : Timing) (place : ℕ) → greatest_through task place ≤ greatest_execution task
-unfolding greatest_through greatest_execution
-through_execution task place = sum_by-take-le (λ (range : TimeRange). range.greatest) task.ranges (suc place)
-
-pub part_no_later : (system : System) → IsSound system → (task response : ℕ) → IsSettledByPhase system task response
-    → (place : ℕ) → place < length (timing_at system task).ranges
-    → (through : ℕ) × (response_through system task place ≡ Some through) × (through ≤ response)
-unfolding response_through
-part_no_later system sound task response settled place within =
-    let least = settled_least system sound task response settled in
-    let own = greatest_through (timing_at system task) place in
-    finds_some (asked_by_phase system task own) (asked_comes_round system sound task own settled.is_task) response least.some least.by_deadline
-    (less_answered system (is_one_of (in_phase_above system task)) (cycle_of system task) task own (greatest_execution (timing_at system task)) response
-    (through_execution (timing_at system task) place) least.answers)

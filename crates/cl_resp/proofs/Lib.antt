@@ -34,6 +34,8 @@ pub mod PhasedQuestions
 pub mod PhasedReleases
 pub mod PhasedWindows
 pub mod PhasedAnswers
+pub mod LeastBehind
+pub mod PartAnswers
 pub mod CountedWindows
 pub mod CountedSearches
 pub mod SearchedLists

@@ -1,18 +1,17 @@
 -- The response of a task by phases: it is that of its question, and a window of its tight question
 -- serves anywhere.
-use Rattle.std.proofs.Common.{◌≡◌, ℕ, suc, ◌+◌, ◌-◌, ◌<◌, ◌≤◌, ℤ, pos, ◌-ℤ◌, Bool, true, false, List, [], ◌∷◌, length, take, refl, sym, ap, ◌∙◌, subst, arith, get_or, add-one}
+use Rattle.std.proofs.Common.{◌≡◌, ℕ, suc, ◌+◌, ◌-◌, ◌<◌, ◌≤◌, ℤ, pos, ◌-ℤ◌, Bool, true, false, List, [], ◌∷◌, length, take, refl, sym, ap, ◌∙◌, subst, arith, get_or}
 use Rattle.std.specs.Prelude.{All, IfSome, Option, Some, None}
 use Rattle.std.specs.Option.{option_map}
 use Rattle.std.specs.List.{range_with_len, sum_by}
 use Rattle.std.proofs.Math.Nat.{mul-le-mul_right}
-use Rattle.std.proofs.lemmas.List.{get_or-take, length-map, length-take, take-map}
+use Rattle.std.proofs.lemmas.List.{get_or-take, length-map, length-take}
 use Rattle.std.proofs.lemmas.List.Elements.{All-head, All-tail, All-filter}
 use Rattle.std.proofs.lemmas.List.FromFn.{get_or-range_with_len, length-range_with_len}
-use Rattle.std.proofs.lemmas.List.Sums.{sum_by-cons, sum_by_more, sum_by-take-le, get_or-le-sum_by}
+use Rattle.std.proofs.lemmas.List.Sums.{sum_by-cons, sum_by-take-le, get_or-le-sum_by}
 use Rattle.cl_model.specs.declared.limits.TheConstants.{MOST_TICKS}
 use Rattle.cl_model.specs.declared.model.SystemModel.{SystemModel}
 use Rattle.cl_model.specs.declared.stimulus.StimulusKind.{StimulusKind}
-use Rattle.cl_model.specs.declared.task.RunnableDef.{RunnableDef}
 use Rattle.cl_model.specs.ByNumber.{task_at}
 use Rattle.cl_model.specs.Timing.{greatest_jitter}
 use Rattle.cl_model.specs.Validity.{IsValid}
@@ -115,18 +114,6 @@ serves system sound task own less question is width enough start =
 
 -- ---- for the runnables up to a place
 
--- their times are those of the model
-pub through_is : (model : SystemModel) (i : ℕ) → i < length model.tasks → (place : ℕ)
-    → greatest_through (timing_at (system_of model) i) place
-    ≡ sum_by (λ (runnable : RunnableDef). runnable.greatest) (take (place + 1) (task_at model i).runnables)
-unfolding greatest_through
-through_is model i h place =
-    let runnables = (task_at model i).runnables in
-    ap (λ (t : Timing). sum_by (λ (range : TimeRange). range.greatest) (take (suc place) t.ranges)) (timing_is model i h)
-    ∙ ap (sum_by (λ (range : TimeRange). range.greatest)) (take-map range_of (suc place) runnables)
-    ∙ sum_mapped (λ (range : TimeRange). range.greatest) range_of (take (suc place) runnables)
-    ∙ ap (λ n. sum_by (λ (runnable : RunnableDef). runnable.greatest) (take n runnables)) (sym (add-one place))
-
 pub ranges_counted : (model : SystemModel) (i : ℕ) → i < length model.tasks → length (timing_at (system_of model) i).ranges ≡ length (task_at model i).runnables
 ranges_counted model i h = ap (λ (t : Timing). length t.ranges) (timing_is model i h) ∙ length-map (task_at model i).runnables range_of
 
@@ -142,22 +129,6 @@ through_between system sound task known place =
     let one = get_or-le-sum_by greatest (take (suc place) ranges) 0 no_range (omega (arith, length-take (suc place) ranges, is.some_runnable)) in
     let same : get_or (take (suc place) ranges) 0 no_range ≡ get_or ranges 0 no_range = get_or-take (suc place) ranges 0 no_range (omega arith) in
     (omega (arith, first.0, first.1, one, ap greatest same), sum_by-take-le greatest ranges (suc place))
-
--- with one more of them, the time is no longer than all take
-pub one_more_fits : (runnables : List RunnableDef) (n i time : ℕ) (runnable : RunnableDef)
-    → i < length (take n runnables) → runnable ≡ get_or (take n runnables) i runnable
-    → time ≡ sum_by (λ (one : RunnableDef). one.greatest) (take i (take n runnables))
-    → time + runnable.greatest ≤ sum_by (λ (one : RunnableDef). one.greatest) runnables
-one_more_fits runnables n i time runnable within at is =
-    let greatest : RunnableDef → ℕ = λ one. one.greatest in
-    omega (
-      arith,
-      is,
-      ap greatest at,
-      sum_by_more greatest (take n runnables) i runnable within,
-      sum_by-take-le greatest (take n runnables) (i + 1),
-      sum_by-take-le greatest runnables n,
-    )
 
 -- ---- for a task of a valid model
 
@@ -228,7 +199,7 @@ module _ (model : SystemModel) (valid : IsValid model) (task : ℕ) (h : task < 
     part_some = (through_between system (system_sound model valid) task known place).0
 
     -- the question for the runnables up to a place
-    abbrev for_part : PhasedQuestion → (time : ℕ) → PhasedQuestion
+    abbrev pub for_part : PhasedQuestion → (time : ℕ) → PhasedQuestion
     for_part question time = record {
       arrivals = question.arrivals;
       cycle = question.cycle;

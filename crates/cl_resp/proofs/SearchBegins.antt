@@ -1,10 +1,10 @@
 -- Where the search begins: at the least window of the tasks that aren't in phase, which ask no more than all do.
-use Rattle.std.proofs.Common.{◌≡◌, ℕ, ◌≤◌, Option, Some, None, ap, arith}
+use Rattle.std.proofs.Common.{◌≡◌, ℕ, ◌≤◌, Option, Some, None, true, ap, arith}
 use Rattle.std.specs.Prelude.{IfSome}
 use Rattle.std.specs.Option.{option_map}
 use Rattle.cl_model.specs.declared.limits.TheConstants.{MOST_TICKS}
 use Rattle.cl_resp.specs.declared.phased.PhasedQuestion.{PhasedQuestion}
-use Rattle.cl_resp.specs.Asked.{least_response}
+use Rattle.cl_resp.specs.Asked.{suffices, least_response}
 use Rattle.cl_resp.specs.Response.{busy_window}
 use Rattle.cl_resp.specs.Inner.Phased.{asked_of, IsPhasedInRange, ServesAnywhere}
 use Rattle.cl_resp.specs.Inner.Searching.{IsSearchOf}
@@ -18,8 +18,9 @@ module _ (question : PhasedQuestion) (range : IsPhasedInRange question) where
   -- what a search knows at first
   pub search_begins : (least : ℕ) → busy_window question.beside ≡ Some least
       → (widest : Option ℕ) → IfSome widest (ServesAnywhere (asked_of question)) → IfSome widest (λ width. width ≤ MOST_TICKS)
-      → IsSearchOf question (record { least = least; widest = widest })
-  search_begins least found widest serves short =
+      → (most : Option ℕ) → IfSome most (λ response. suffices (asked_of question) response ≡ true)
+      → IsSearchOf question (record { least = least; widest = widest; most = most })
+  search_begins least found widest serves short most answers =
       let jitter = question.beside.jitter in
       let answered = ap (option_map (answer_of jitter)) found in
       record {
@@ -29,6 +30,7 @@ module _ (question : PhasedQuestion) (range : IsPhasedInRange question) where
             omega (arith, less);
         serves = serves;
         short = short;
+        answers = answers;
       }
 
   -- where the others alone have no window in time, there is no response

@@ -10,6 +10,7 @@ use Rattle.cl_resp.specs.declared.phased.PhasedQuestion.{PhasedQuestion}
 use Rattle.cl_resp.specs.Asked.{suffices, MayBegin, EndsBy}
 use Rattle.cl_resp.specs.Inner.Phased.{asked_of, IsPhasedInRange, IsLeastFrom}
 use Rattle.cl_resp.specs.Inner.Searching.{AreWithin, NoneReleased, IsAfter}
+use Rattle.cl_resp.proofs.Windows.{demand_some}
 use Rattle.cl_resp.proofs.SearchedStarts.{ends_later, least_ends, answered_from, suffices_from}
 use Rattle.cl_resp.proofs.SearchedReleases.{ends_a_tick_earlier, holds_back, after_last}
 
@@ -71,17 +72,31 @@ module _ (question : PhasedQuestion) where
   pub none_within : (response : ℕ) (after before : ℤ) → before ≤ℤ (after +ℤ pos 1) → AreWithin (asked_of question) response after before
   none_within response after before next start later earlier = absurd (omega (arith, ints, next, later, earlier))
 
+  -- a window as wide as the longest that holds its own demand ends within it
+  pub held_within : (longest : ℕ) (start : ℤ) → 1 ≤ question.beside.time → (asked_of question).demand start longest ≤ longest
+      → EndsBy (asked_of question) start (start +ℤ pos longest)
+  held_within longest start some enough = record {
+    width = longest;
+    some = omega (arith, some, demand_some question.beside longest, enough);
+    by = omega (arith, ints);
+    enough = enough;
+  }
+
+  -- and so does the least
+  pub least_within : (longest width : ℕ) (start : ℤ) → IsLeastFrom (asked_of question) start width → width ≤ longest
+      → EndsBy (asked_of question) start (start +ℤ pos longest)
+  least_within longest width start window enough =
+      ends_later (asked_of question) start (start +ℤ pos width) (start +ℤ pos longest) (omega (arith, ints, enough)) (least_ends (asked_of question) start width window)
+
   -- the search at its next start
-  pub within_further : (longest longer width : ℕ) (start end next other : ℤ) (last : Option ℤ)
-      → AreWithin (asked_of question) longest start end → IsLeastFrom (asked_of question) start width
-      → longest ≤ longer → width ≤ longer
+  pub within_further : (longest longer : ℕ) (start end next other : ℤ) (last : Option ℤ)
+      → AreWithin (asked_of question) longest start end → longest ≤ longer → EndsBy (asked_of question) start (start +ℤ pos longer)
       → next ≡ unwrap_or last other → ((moment : ℤ) → IsAfter last moment → moment <ℤ start → NoneReleased question moment)
       → AreWithin (asked_of question) longer next end
-  within_further longest longer width start end next other last within window more enough is none begin after before =
+  within_further longest longer start end next other last within more here is none begin after before =
       by_lt_z start begin
       (λ later. ends_later (asked_of question) begin (begin +ℤ pos longest) (begin +ℤ pos longer) (omega (arith, ints, more)) (within begin later before))
       (λ earlier. holds_back question (λ moment. EndsBy (asked_of question) moment (moment +ℤ pos longer)) last start none
       (λ moment free ends. ends_a_tick_earlier question moment (moment +ℤ pos longer) free
       (ends_later (asked_of question) (moment +ℤ pos 1) ((moment +ℤ pos 1) +ℤ pos longer) ((moment +ℤ pos longer) +ℤ pos 1) (omega (arith, ints)) ends))
-      (ends_later (asked_of question) start (start +ℤ pos width) (start +ℤ pos longer) (omega (arith, ints, enough)) (least_ends (asked_of question) start width window))
-      begin (after_last last other begin (subst (λ z. z <ℤ begin) is after)) earlier)
+      here begin (after_last last other begin (subst (λ z. z <ℤ begin) is after)) earlier)

@@ -1,6 +1,6 @@
 -- Clear moments of a task in a run, where the window of a job begins, and what a window of the run
 -- holds.
-use Rattle.std.specs.Prelude.{◌≡◌, ℕ, suc, ◌+◌, ◌*◌, ◌<◌, ◌≤◌, true, cond, nat_lt, List, length, take, sum, sum_by}
+use Rattle.std.specs.Prelude.{◌≡◌, ℕ, suc, ◌+◌, ◌*◌, ◌<◌, ◌≤◌, true, cond, nat_lt, List, length, take, drop, sum, sum_by}
 use Rattle.cl_runs.specs.TaskTiming.{TimeRange, Timing, System, timing_at}
 use Rattle.cl_runs.specs.declared.job.Job.{Job}
 use Rattle.cl_runs.specs.Table.{job_at}
@@ -43,6 +43,11 @@ pub record IsBeginning (system : System) (run : Run) (task job start : ℕ) : Ty
 unfoldable pub greatest_through : Timing → (place : ℕ) → ℕ
 greatest_through task place =
     sum_by (λ (range : TimeRange). range.greatest) (take (suc place) task.ranges)
+
+-- and that of the runnables behind it
+unfoldable pub greatest_behind : Timing → (place : ℕ) → ℕ
+greatest_behind task place =
+    sum_by (λ (range : TimeRange). range.greatest) (drop (suc place) task.ranges)
 
 -- the greatest time of the jobs of a task that are released in the `width` ticks from `start` on
 abbrev pub time_released : System → Run → (start width task : ℕ) → ℕ

@@ -9,7 +9,7 @@ ghost use Rattle.cl_resp.specs.Response.{demand, busy_window, response_to, NoneS
 use crate::question::{Above, Question};
 use crate::rising::Rising;
 use crate::settled::{Late, Settled};
-use cl_model::{MOST_RUNNABLES, MOST_TICKS};
+use cl_model::{MOST_RUNNABLES, MOST_TASKS_OF_CORE, MOST_TICKS};
 use cl_stim::{Arrivals, MOST_WIDTH};
 use cl_time::Steps;
 use std::sync::ledger::Ledger;
@@ -31,6 +31,17 @@ pub fn demand(question: &Question, width: u64) -> u128
     requires in_range { IsQuestionInRange question.now }
     requires width { width ≤ MOST_WIDTH }
     ensures { result ≡ demand question.now width }
+{
+    small_demand(question, width)
+}
+
+/// As `demand`, which is small enough for more to be added.
+pub(crate) fn small_demand(question: &Question, width: u64) -> u128
+    requires in_range { IsQuestionInRange question.now }
+    requires width { width ≤ MOST_WIDTH }
+    ensures demand { result ≡ demand question.now width }
+    ensures small { result
+        ≤ 2 ^ 64 + MOST_TASKS_OF_CORE * (2 ^ 64 * (MOST_RUNNABLES * MOST_TICKS)) }
 {
     let mut needed = u128::from(question.block) + u128::from(question.time);
     for above in question.above.as_slice() {

@@ -2,14 +2,16 @@
 ghost use Rattle.std.specs.Prelude.{◌≡◌, ◌+◌, ◌*◌, ◌<◌, ◌≤◌, pos, ◌+ℤ◌, ◌≤ℤ◌, ◌<ℤ◌, true, false, [], length, Some, None, MatchOption, MatchResult, IfOk, IfSome};
 ghost use Rattle.std.specs.Option.{IsSomeAnd};
 ghost use Rattle.cl_model.specs.declared.limits.TheConstants.{MOST_TICKS};
+ghost use Rattle.cl_model.specs.Validity.{IsValid};
 ghost use Rattle.cl_runs.specs.Responses.{AlwaysFinishesWithin};
 ghost use Rattle.cl_runs.specs.SystemOf.{system_of};
 ghost use Rattle.cl_runs.specs.TaskTiming.{timing_at};
 ghost use Rattle.cl_stim.specs.Integers.{IsIntegerWithin};
 ghost use Rattle.cl_stim.specs.Phase.{arrives_at};
 ghost use Rattle.cl_resp.specs.Asked.{is_answered, suffices, least_response};
-ghost use Rattle.cl_resp.specs.ByPhase.{response_by_phase, response_through};
-ghost use Rattle.cl_resp.specs.Clear.{greatest_through};
+ghost use Rattle.cl_resp.specs.ByPhase.{response_by_phase, response_through, IsSettledByPhase};
+ghost use Rattle.cl_resp.specs.Clear.{greatest_behind};
+ghost use Rattle.cl_resp.specs.Promises.{AlwaysFinishesThrough};
 ghost use Rattle.cl_resp.specs.Question.{tight_question_of, IsQuestionInRange};
 ghost use Rattle.cl_resp.specs.Response.{busy_window};
 ghost use Rattle.cl_resp.specs.Inner.Phased.{asked_of, IsPhasedInRange, ServesAnywhere};
@@ -24,23 +26,25 @@ use cl_model::ValidModel;
 use cl_time::NoMemory;
 use std::alloc::Global;
 
-/// What a search knows: the least window of the tasks that aren't in phase alone, and a window that
-/// holds whatever is asked, if one is known.
+/// What a search knows: the least window of the tasks that aren't in phase alone, a window that
+/// holds whatever is asked, if one is known, and a response within which all is answered, if one is
+/// known.
 #[derive(Clone, Copy)]
 struct Search {
     least: u64,
     widest: Option<u64>,
+    most: Option<u64>,
 }
 
 impl Search {
-    /// Checks whether no answer can be longer: the jitter and the widest window together are none.
+    /// Checks whether no answer is longer, since all is answered within the longest.
     fn is_done(&self, question: &PhasedQuestion, longest: u64) -> bool
         requires in_range { IsPhasedInRange question.now }
         requires search { IsSearchOf question.now self.now }
         ensures { result ≡ true → suffices (asked_of question.now) longest ≡ true }
     {
-        match self.widest {
-            Some(widest) => longest == question.beside.jitter + widest,
+        match self.most {
+            Some(most) => longest == most,
             None => false,
         }
     }
@@ -103,7 +107,8 @@ impl Search {
     }
 
     /// Answers all moments of a cycle, where a job can arrive at each and has no jitter. It asks
-    /// only where a job of a task in phase is released at the latest, and where the cycle ends.
+    /// only where a job of a task in phase is released at the latest, and where the cycle ends, and
+    /// there only if a window as wide as the longest so far doesn't hold its own demand.
     fn answer_each_moment(&self, question: &PhasedQuestion) -> Option<u64>
         requires in_range { IsPhasedInRange question.now }
         requires search { IsSearchOf question.now self.now }
@@ -114,8 +119,10 @@ impl Search {
         let mut longest = 0;
         let mut start = question.cycle as i64 - 1;
         while start >= 0 && !self.is_done(question, longest) {
-            let width = question.window_from(start, self.least, question.beside.deadline)?;
-            longest = longest.max(width);
+            if !question.holds(start, longest) {
+                let width = question.window_from(start, self.least, question.beside.deadline)?;
+                longest = longest.max(width);
+            }
             start = question.last_release_before(start).unwrap_or(-1);
         }
         Some(longest)
@@ -123,19 +130,29 @@ impl Search {
 }
 
 /// Finds the response to a question by phases. `least` is the window of the tasks that aren't in
-/// phase alone, if they have one, and `widest` a window that holds whatever is asked, if one is
-/// known.
-fn longest_answer(question: &PhasedQuestion, least: Option<u64>, widest: Option<u64>) -> Option<u64>
+/// phase alone, if they have one, `widest` a window that holds whatever is asked, if one is known,
+/// and `most` a response within which all is answered, if one is known.
+fn longest_answer(
+    question: &PhasedQuestion,
+    least: Option<u64>,
+    widest: Option<u64>,
+    most: Option<u64>,
+) -> Option<u64>
     requires in_range { IsPhasedInRange question.now }
     requires least { least ≡ busy_window question.now.beside }
     requires widest { IfSome widest (ServesAnywhere (asked_of question.now)) }
     requires short { IfSome widest (λ width. width ≤ MOST_TICKS) }
+    requires most { IfSome most (λ response. suffices (asked_of question.now) response ≡ true) }
     ensures { result ≡ least_response (asked_of question.now) }
 {
     let Some(least) = least else {
         return None;
     };
-    let search = Search { least, widest };
+    let search = Search {
+        least,
+        widest,
+        most,
+    };
     if question.arrivals.period == 1 && question.beside.jitter == 0 {
         search.answer_each_moment(question)
     } else {
@@ -166,6 +183,16 @@ fn least_window(question: &PhasedQuestion, widest: Option<u64>) -> Option<u64>
     } else {
         window_of(&question.beside)
     }
+}
+
+/// Computes the response that a window which holds whatever is asked leaves at the latest release.
+fn response_in_window(question: &PhasedQuestion, widest: Option<u64>) -> Option<u64>
+    requires in_range { IsPhasedInRange question.now }
+    requires widest { IfSome widest (ServesAnywhere (asked_of question.now)) }
+    requires short { IfSome widest (λ width. width ≤ MOST_TICKS) }
+    ensures { IfSome result (λ response. suffices (asked_of question.now) response ≡ true) }
+{
+    Some(question.beside.jitter + widest?)
 }
 
 /// Finds the window of the tight question of a task, given by its number, if it has one: no window
@@ -204,7 +231,8 @@ pub fn respond_by_phase(
 {
     let question = ask_by_phase(alloc, model, task)?;
     let least = least_window(&question, widest);
-    match longest_answer(&question, least, widest) {
+    let most = response_in_window(&question, widest);
+    match longest_answer(&question, least, widest, most) {
         Some(response) => Ok(Ok(Settled {
             window: response - question.beside.jitter,
             response,
@@ -214,34 +242,46 @@ pub fn respond_by_phase(
 }
 
 /// Finds within how many ticks of its arrival the runnables of a job up to one have finished, by
-/// the phases of the tasks above. The task, given by its number, isn't late if its jobs are to do
-/// so in every legal run that lasts until then. It counts no step. `NoMemory` comes where there is
-/// no memory for a list of the tasks above; it leaves nothing.
+/// the phases of the tasks above. The task, given by its number, has this response by phases.
+///
+/// Each job has finished them so long after its arrival at most, in every legal run that lasts
+/// until then. It counts no step. `NoMemory` comes where there is no memory for a list of the tasks
+/// above; it leaves nothing.
 pub fn respond_through(
     alloc: Global,
     model: &ValidModel,
     task: u32,
     place: u32,
-) -> Result<Option<u64>, NoMemory>
-    requires task { task < length model.now.tasks }
+    response: u64,
+) -> Result<u64, NoMemory>
     requires place { place < length (timing_at (system_of model.now) task).ranges }
-    ensures { IfOk result (λ response. response ≡ response_through (system_of model.now) task place) }
+    requires settled { IsSettledByPhase (system_of model.now) task response }
+    ensures through { IfOk result
+        (λ through. response_through (system_of model.now) task place ≡ Some through) }
+    ensures finishing { IfOk result
+        (λ through. AlwaysFinishesThrough (system_of model.now) task place through) }
 {
+    let behind = time_behind(model, task, place);
+    if behind == 0 {
+        return Ok(response);
+    }
     let widest = widest_window(alloc, model, task)?;
     let mut question = ask_by_phase(alloc, model, task)?;
-    question.beside.time = time_through(model, task, place);
+    question.beside.time -= behind;
     let least = window_of(&question.beside);
-    Ok(longest_answer(&question, least, widest))
+    let most = response - behind;
+    Ok(longest_answer(&question, least, widest, Some(most)).unwrap_or(most))
 }
 
-/// Computes the greatest time of a job of a task up to the end of a runnable.
-fn time_through(model: &ValidModel, task: u32, place: u32) -> u64
+/// Computes the greatest time of the runnables of a task behind one.
+fn time_behind(model: &ValidModel, task: u32, place: u32) -> u64
     requires task { task < length model.now.tasks }
     requires place { place < length (timing_at (system_of model.now) task).ranges }
-    ensures { result ≡ greatest_through (timing_at (system_of model.now) task) place }
+    ensures time { result ≡ greatest_behind (timing_at (system_of model.now) task) place }
+    ensures valid { IsValid model.now }
 {
     let mut time = 0;
-    for runnable in &model.task(task).runnables.as_slice()[..place as usize + 1] {
+    for runnable in &model.task(task).runnables.as_slice()[place as usize + 1..] {
         time += runnable.greatest;
     }
     time

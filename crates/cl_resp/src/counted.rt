@@ -14,7 +14,7 @@ use cl_model::{MOST_TASKS_OF_CORE, MOST_TICKS};
 use cl_stim::MOST_WIDTH;
 
 /// Computes how long the jobs of a task in phase take at most of the `width` ticks from `start` on.
-fn time_in_phase(above: &InPhase, start: i64, width: u64) -> u128
+pub(crate) fn time_in_phase(above: &InPhase, start: i64, width: u64) -> u128
     requires phase { IsPhaseInRange above.now.phase }
     requires jitter { above.now.jitter ≤ MOST_TICKS }
     requires time { above.now.time ≤ MOST_RUNNABLES * MOST_TICKS }

@@ -1,5 +1,5 @@
 //! Windows that begin at fixed moments. Times are in ticks, and moments may lie before 0.
-ghost use Rattle.std.specs.Prelude.{◌≡◌, pos, ◌+ℤ◌, ◌-ℤ◌, ◌≤ℤ◌, ◌<◌, ◌≤◌, ◌*◌, false, [], MatchOption};
+ghost use Rattle.std.specs.Prelude.{◌≡◌, pos, ◌+ℤ◌, ◌-ℤ◌, ◌≤ℤ◌, ◌<◌, ◌≤◌, ◌*◌, false, [], nat_le, MatchOption};
 ghost use Rattle.cl_model.specs.declared.limits.TheConstants.{MOST_TICKS};
 ghost use Rattle.cl_stim.specs.Phase.{IsPhaseInRange};
 ghost use Rattle.cl_stim.specs.Integers.{IsIntegerWithin};
@@ -7,7 +7,8 @@ ghost use Rattle.cl_resp.specs.Asked.{holds_within};
 ghost use Rattle.cl_resp.specs.Inner.Phased.{asked_of, IsPhasedInRange, NoneBefore, IsLeastFrom};
 ghost use Rattle.cl_resp.specs.Inner.Releases.{IsLaterOf, IsLastReleaseOf, IsLastReleaseBefore};
 
-use crate::counted::Counted;
+use crate::answering::small_demand;
+use crate::counted::{Counted, time_in_phase};
 use crate::phased::{InPhase, PhasedQuestion};
 use crate::rising::Rising;
 use cl_stim::MOST_WIDTH;
@@ -35,6 +36,30 @@ fn later_of(first: Option<i64>, second: i64) -> i64
 }
 
 impl PhasedQuestion {
+    /// Computes what is asked at most of the `width` ticks from `start` on.
+    fn demand(&self, start: i64, width: u64) -> u128
+        requires in_range { IsPhasedInRange self.now }
+        requires start { IsIntegerWithin (20000 * MOST_TICKS) start }
+        requires width { width ≤ MOST_WIDTH }
+        ensures { result ≡ (asked_of self.now).demand start width }
+    {
+        let mut needed = small_demand(&self.beside, width);
+        for above in self.in_phase.as_slice() {
+            needed += time_in_phase(above, start, width);
+        }
+        needed
+    }
+
+    /// Checks whether the window of `width` ticks from `start` on holds its own demand.
+    pub(crate) fn holds(&self, start: i64, width: u64) -> bool
+        requires in_range { IsPhasedInRange self.now }
+        requires start { IsIntegerWithin (20000 * MOST_TICKS) start }
+        requires width { width ≤ MOST_WIDTH }
+        ensures { result ≡ nat_le ((asked_of self.now).demand start width) width }
+    {
+        self.demand(start, width) <= u128::from(width)
+    }
+
     /// Finds the least window from `start` on that holds its own demand. The search begins at the
     /// width `least`, below which none does. `None` comes exactly where no window of at most `most`
     /// ticks does.

@@ -10,19 +10,16 @@ use Rattle.std.proofs.lemmas.List.Elements.{All-head, All-tail, All-cons, All-ni
 use Rattle.std.proofs.lemmas.List.Folds.{list_any-from_Any}
 use Rattle.std.proofs.lemmas.Nat.Gcd.{le_of_dvd}
 use Rattle.cl_model.specs.declared.group.Group.{Group}
-use Rattle.cl_model.specs.declared.task.AccessKind.{AccessKind}
-use Rattle.cl_model.specs.declared.task.AccessKind.TheVariants.{Explicit, Implicit, Timed}
 use Rattle.cl_model.specs.Groups.{group_at}
 use Rattle.cl_model.specs.Kinds.{is_timed}
 use Rattle.cl_model.specs.Timing.{greatest_distance}
 use Rattle.cl_runs.specs.TaskTiming.{System, timing_at}
 use Rattle.cl_stim.specs.declared.phase.Phase.{Phase}
 use Rattle.cl_stim.specs.Phase.{arrivals_in, phase_of}
-use Rattle.cl_comm.specs.declared.spot.Window.{Window}
-use Rattle.cl_comm.specs.Windows.{spot_at, window_of, window_at}
 use Rattle.cl_stim.specs.Multiples.{hyperperiod_of}
 use Rattle.cl_exact.specs.Hyperperiod.{period_of}
-use Rattle.cl_bound.specs.Hops.{group_timing, saves, lag}
+use Rattle.cl_bound.specs.Hops.{saves, lag}
+use Rattle.cl_bound.specs.declared.group_timing.GroupTiming.{GroupTiming}
 use Rattle.cl_phase.specs.declared.pace.TheConstants.{MOST_ARRIVALS}
 use Rattle.cl_phase.specs.declared.pace.Pace.TheVariants.{Kept}
 use Rattle.cl_phase.specs.declared.stop.Stop.{Stop}
@@ -30,6 +27,7 @@ use Rattle.cl_phase.specs.Kept.{come_round_soon, phase_beside, kept_with, pace_w
 use Rattle.cl_phase.specs.Walks.{pace_at}
 use Rattle.cl_phase.specs.TightBounds.{lag_to_next, stops_beside, stops_of}
 use Rattle.cl_stim.proofs.Hyperperiods.{HasPeriod, Divides, hyperperiod_least}
+use Rattle.cl_tight.specs.ExactBounds.{IsTimedTiming}
 use Rattle.cl_tight.proofs.IdealSteps.{ideal_phase, IsIdealLag}
 use Rattle.cl_tight.proofs.IdealWalks.{IsPeriodicGroup}
 
@@ -40,43 +38,22 @@ pub record IsTurning (system : System) (ticks : ℕ) (group : Group) : Type 0 wh
   pub divides : period_of system group ∣ ticks
 
 -- the stops of periodic groups that all keep their phase
-stop_of : System → (responses : ℕ → ℕ) → Group → List Group → Stop
-stop_of system responses group later = record { pace = Kept (ideal_phase system group); lag = lag_to_next system responses group later }
+stop_of : System → (timing : Group → GroupTiming) → Group → List Group → Stop
+stop_of system timing group later = record { pace = Kept (ideal_phase system group); lag = lag_to_next timing group later }
 
-pub ideal_stops : System → (responses : ℕ → ℕ) → List Group → List Stop
-ideal_stops system responses [] = []
-ideal_stops system responses (group ∷ later) = stop_of system responses group later ∷ ideal_stops system responses later
+pub ideal_stops : System → (timing : Group → GroupTiming) → List Group → List Stop
+ideal_stops system timing [] = []
+ideal_stops system timing (group ∷ later) = stop_of system timing group later ∷ ideal_stops system timing later
 
-module _ (system : System) (responses : ℕ → ℕ) where
+module _ (system : System) (timing : Group → GroupTiming) where
   pub paces : (groups : List Group) (place : ℕ) → place < length groups
-      → pace_at (ideal_stops system responses groups) place ≡ Kept (ideal_phase system (group_at groups place))
+      → pace_at (ideal_stops system timing groups) place ≡ Kept (ideal_phase system (group_at groups place))
   unfolding ideal_stops stop_of
   paces [] place within = absurd (omega (arith, within))
   paces (group ∷ later) zero within = refl
   paces (group ∷ later) (suc place) within = paces later place (omega (arith, within))
 
 -- ---- the lags of timed groups
-
-timed_kind : (access : AccessKind) → is_timed access ≡ true → access ≡ Timed
-timed_kind Explicit passes = cc
-timed_kind Implicit passes = cc
-timed_kind Timed passes = refl
-
--- a timed group reads when it arrives and writes at its deadline
-module _ (system : System) (responses : ℕ → ℕ) (group : Group) (timed : is_timed (timing_at system group.task).access ≡ true) where
-  timed_window : (place response : ℕ) → (window_at (timing_at system group.task) place response
-      ≡ record { rlo = 0; wlo = (timing_at system group.task).deadline; whi = (timing_at system group.task).deadline })
-  unfolding spot_at
-  timed_window place response = ap (λ access. window_of access (spot_at (timing_at system group.task) place) response)
-      (timed_kind (timing_at system group.task).access timed)
-
-  pub reads_at_once : (group_timing system responses group).read ≡ 0
-  unfolding group_timing
-  reads_at_once = ap (λ (window : Window). window.rlo) (timed_window group.first (responses group.task))
-
-  pub writes_late : (group_timing system responses group).write ≡ (timing_at system group.task).deadline
-  unfolding group_timing
-  writes_late = ap (λ (window : Window). window.whi) (timed_window group.last (responses group.task))
 
 -- a timed writer saves nothing
 saves_nothing : (same higher timed other : Bool) → timed ≡ true → (same && (higher && (not timed && not other))) ≡ false
@@ -87,27 +64,23 @@ saves_nothing same higher true other is = both same (both higher refl)
     both false is = refl
 saves_nothing same higher false other is = cc
 
-module _ (system : System) (responses : ℕ → ℕ) (writer reader : Group) (timed : is_timed (timing_at system writer.task).access ≡ true)
-    (also : is_timed (timing_at system reader.task).access ≡ true) where
-  never_saves : saves (group_timing system responses writer) (group_timing system responses reader) ≡ false
-  unfolding group_timing
-  never_saves = saves_nothing _ _ _ _ timed
+module _ (system : System) (writer reader : Group) (one other : GroupTiming) (is_one : IsTimedTiming system writer one)
+    (is_other : IsTimedTiming system reader other) (timed : is_timed (timing_at system writer.task).access ≡ true) where
+  never_saves : saves one other ≡ false
+  never_saves = saves_nothing _ _ _ _ (is_one.of_group.is_timed ∙ timed)
 
-  same_task : (group_timing system responses writer).task ≡ (group_timing system responses reader).task → writer.task ≡ reader.task
-  unfolding group_timing
-  same_task same = same
+  same_task : one.task ≡ other.task → writer.task ≡ reader.task
+  same_task same = sym is_one.of_group.task ∙ same ∙ is_other.of_group.task
 
-  pub timed_lag : IsIdealLag system writer reader (lag (group_timing system responses writer) (group_timing system responses reader))
+  pub timed_lag : IsIdealLag system writer reader (lag one other)
   timed_lag =
-      let one = group_timing system responses writer in
-      let other = group_timing system responses reader in
       cond_both (one.task == other.task) (pos 1)
       (cond (saves one other) (pos one.jitter -ℤ pos other.read) (pos one.write -ℤ pos other.read)) (IsIdealLag system writer reader)
       (λ same. inr (same_task (eqb-true one.task other.task same), refl))
       (λ _. inl (ap (λ b. cond b (pos one.jitter -ℤ pos other.read) (pos one.write -ℤ pos other.read)) never_saves ∙ whole))
     where
-      whole : (pos (group_timing system responses writer).write -ℤ pos (group_timing system responses reader).read) ≡ pos (timing_at system writer.task).deadline
-      whole = omega (arith, ints, writes_late system responses writer timed, reads_at_once system responses reader also)
+      whole : (pos one.write -ℤ pos other.read) ≡ pos (timing_at system writer.task).deadline
+      whole = omega (arith, ints, is_one.write, is_other.read)
 
 -- ---- which groups keep their phase
 
@@ -160,11 +133,11 @@ module _ (system : System) (ticks : ℕ) (some : 1 ≤ ticks) (first : Group) (t
     has_first = has;
   }
 
-  module _ (responses : ℕ → ℕ) where
+  module _ (timing : Group → GroupTiming) where
     -- so a group keeps its phase beside them
     keeps : (phases : List Phase) (group : Group) (later : List Group) → IsTurning system ticks group → AreTurning (ideal_phase system group ∷ phases)
-        → stops_beside system responses phases (group ∷ later)
-        ≡ stop_of system responses group later ∷ stops_beside system responses (ideal_phase system group ∷ phases) later
+        → stops_beside system timing phases (group ∷ later)
+        ≡ stop_of system timing group later ∷ stops_beside system timing (ideal_phase system group ∷ phases) later
     unfolding stops_beside stop_of
     keeps phases group later is are =
         let kind = (timing_at system group.task).pattern in
@@ -172,11 +145,11 @@ module _ (system : System) (ticks : ℕ) (some : 1 ≤ ticks) (first : Group) (t
         let kept : phase_beside phases (phase_of kind) ≡ Some (ideal_phase system group) = ap (phase_beside phases) phase
         ∙ ap (λ b. cond b (Some (ideal_phase system group)) None) (soon (ideal_phase system group ∷ phases) are) in
         ap (λ (phase : Option Phase).
-        record { pace = pace_with (greatest_distance kind) phase; lag = lag_to_next system responses group later }
-        ∷ stops_beside system responses (kept_with phases phase) later) kept
+        record { pace = pace_with (greatest_distance kind) phase; lag = lag_to_next timing group later }
+        ∷ stops_beside system timing (kept_with phases phase) later) kept
 
     all_keep : (phases : List Phase) (groups : List Group) → AreTurning phases → All (IsTurning system ticks) groups
-        → stops_beside system responses phases groups ≡ ideal_stops system responses groups
+        → stops_beside system timing phases groups ≡ ideal_stops system timing groups
     unfolding stops_beside ideal_stops
     all_keep phases [] are all = refl
     all_keep phases (group ∷ later) are all =
@@ -184,11 +157,11 @@ module _ (system : System) (ticks : ℕ) (some : 1 ≤ ticks) (first : Group) (t
         let place = are.has_first in
         let more = more_turning phases group is are.positive are.divide (suc place.0, place.1, omega (arith, place.2), place.3, place.4) in
         keeps phases group later is more
-        ∙ ap (λ rest. stop_of system responses group later ∷ rest) (all_keep (ideal_phase system group ∷ phases) later more (All-tail (IsTurning system ticks) group later all))
+        ∙ ap (λ rest. stop_of system timing group later ∷ rest) (all_keep (ideal_phase system group ∷ phases) later more (All-tail (IsTurning system ticks) group later all))
 
-    pub all_keep_phase : (later : List Group) → All (IsTurning system ticks) (first ∷ later) → stops_of system responses (first ∷ later) ≡ ideal_stops system responses (first ∷ later)
+    pub all_keep_phase : (later : List Group) → All (IsTurning system ticks) (first ∷ later) → stops_of system timing (first ∷ later) ≡ ideal_stops system timing (first ∷ later)
     unfolding ideal_stops
     all_keep_phase later all =
         let one = more_turning [] first turning (All-nil HasPeriod) (All-nil (Divides ticks)) (0, ideal_phase system first, omega arith, refl, refl) in
         keeps [] first later turning one
-        ∙ ap (λ rest. stop_of system responses first later ∷ rest) (all_keep (ideal_phase system first ∷ []) later one (All-tail (IsTurning system ticks) first later all))
+        ∙ ap (λ rest. stop_of system timing first later ∷ rest) (all_keep (ideal_phase system first ∷ []) later one (All-tail (IsTurning system ticks) first later all))

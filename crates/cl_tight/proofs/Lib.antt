@@ -1,4 +1,11 @@
 pub mod CommonPeriods
+pub mod TightTasks
+pub mod TightTimings
+pub mod LatestWrites
+pub mod EarliestReads
+pub mod PhasedTimings
+pub mod NearTimings
+pub mod TimedTimings
 pub mod TightChains
 pub mod TightRequirements
 pub mod TightLaws
@@ -11,3 +18,5 @@ pub mod IdealWalks
 pub mod TightExact
 pub mod IdealChains
 pub mod PlainWindows
+pub mod FoundNumbers
+pub mod AccessTimes

@@ -30,7 +30,6 @@ use Rattle.cl_exact.specs.Ties.{AreTied}
 use Rattle.cl_exact.proofs.ModelBeats.{AreTimedGroups, timed_chain, task_passes}
 use Rattle.cl_exact.proofs.ModelExact.{groups_are_tied}
 use Rattle.cl_bound.specs.declared.group_timing.GroupTiming.{GroupTiming}
-use Rattle.cl_bound.specs.Hops.{group_timing}
 use Rattle.cl_bound.specs.SettledChains.{IsGroupOfTask}
 use Rattle.cl_bound.proofs.AlongChains.{last_timing}
 use Rattle.cl_bound.proofs.ModelGroups.{group_of_system}
@@ -38,11 +37,13 @@ use Rattle.cl_phase.specs.declared.pace.TheConstants.{MOST_ARRIVALS}
 use Rattle.cl_phase.specs.declared.pace.Pace.TheVariants.{Kept}
 use Rattle.cl_phase.specs.declared.stop.Stop.{Stop}
 use Rattle.cl_phase.specs.Walks.{pace_at}
+use Rattle.cl_tight.specs.TightTimings.{tight_timing}
 use Rattle.cl_phase.specs.TightBounds.{stops_of, span_of, tight_bounds}
-use Rattle.cl_tight.specs.ExactBounds.{AreLengthsOf}
+use Rattle.cl_tight.specs.ExactBounds.{AreLengthsOf, IsTimedTiming}
 use Rattle.cl_tight.proofs.IdealSteps.{ideal_phase, IsIdealLag}
-use Rattle.cl_tight.proofs.IdealStops.{IsTurning, paces, reads_at_once, writes_late, timed_lag, all_keep_phase}
+use Rattle.cl_tight.proofs.IdealStops.{IsTurning, paces, timed_lag, all_keep_phase}
 use Rattle.cl_tight.proofs.IdealWalks.{AreIdealStops}
+use Rattle.cl_tight.proofs.TimedTimings.{timed_by_phases}
 use Rattle.cl_phase.proofs.KeptWalks.{over_all, phases_agree}
 use Rattle.cl_phase.proofs.StopFacts.{length_stops, stop_lag, stops_step}
 use Rattle.cl_tight.proofs.TightExact.{lengths_are_exact}
@@ -96,36 +97,46 @@ some_hyperperiod system groups all ticks is =
     pos_of_dvd_of_pos (is.least common.0 common.2) common.1
 
 -- from the earliest read of timed groups to their latest write, past their arrivals, is the last deadline
-span_is : (system : System) (responses : ℕ → ℕ) (first : Group) (later : List Group)
-    → ((place : ℕ) → place < length (first ∷ later) → is_timed (timing_at system (group_at (first ∷ later) place).task).access ≡ true)
-    → span_of system responses (first ∷ later) ≡ pos (timing_at system (last_group (first ∷ later)).task).deadline
-span_is system responses first later timed =
+span_is : (system : System) (timing : Group → GroupTiming) (first : Group) (later : List Group)
+    → All (λ (group : Group). IsTimedTiming system group (timing group)) (first ∷ later)
+    → span_of timing (first ∷ later) ≡ pos (timing_at system (last_group (first ∷ later)).task).deadline
+span_is system timing first later are =
     let last : ℕ = length later in
     let same : last ≡ length (first ∷ later) - 1 = omega arith in
-    let ends = ap (λ (timing : GroupTiming). timing.write) (last_timing (group_timing system responses) first later)
-    ∙ writes_late system responses (group_at (first ∷ later) last) (timed last (omega arith))
+    let ends = ap (λ (t : GroupTiming). t.write) (last_timing timing first later)
+    ∙ (are last no_group (omega arith)).write
     ∙ ap (λ n. (timing_at system (group_at (first ∷ later) n).task).deadline) same in
-    omega (arith, ints, ends, reads_at_once system responses first (timed 0 (omega arith)))
+    omega (arith, ints, ends, (are 0 no_group (omega arith)).read)
 
-module _ (system : System) (sound : IsSound system) (responses : ℕ → ℕ) (first : Group) (later : List Group)
-    (all : All (IsGroupOfTask system) (first ∷ later)) (timed : are_timed_periodic system (first ∷ later) ≡ true) (ticks : ℕ) (some : 1 ≤ ticks)
+-- the timings by phases of timed groups are such
+phased_timings : (system : System) (groups : List Group) → are_timed_periodic system groups ≡ true
+    → All (λ (group : Group). IsTimedTiming system group (tight_timing system group)) groups
+phased_timings system groups timed place d within =
+    let task = (group_at groups place).task in
+    let parts = and_parts (is_timed (timing_at system task).access) (is_periodic (timing_at system task).pattern) (task_passes system groups place timed within) in
+    subst (λ (group : Group). IsTimedTiming system group (tight_timing system group)) (get_or_default groups place no_group d within)
+    (timed_by_phases system (group_at groups place) parts.0)
+
+module _ (system : System) (sound : IsSound system) (timing : Group → GroupTiming) (first : Group) (later : List Group)
+    (all : All (IsGroupOfTask system) (first ∷ later)) (timed : are_timed_periodic system (first ∷ later) ≡ true)
+    (timings : All (λ (group : Group). IsTimedTiming system group (timing group)) (first ∷ later)) (ticks : ℕ) (some : 1 ≤ ticks)
     (divide : All (λ (group : Group). period_of system group ∣ ticks) (first ∷ later)) (within : ticks ≤ MOST_ARRIVALS * period_of system first) where
   abbrev groups : List Group
   groups = first ∷ later
 
   abbrev stops : List Stop
-  stops = stops_of system responses groups
+  stops = stops_of system timing groups
 
   turns : (place : ℕ) → place < length groups → IsTurning system ticks (group_at groups place)
   turns = turning_at system sound groups all timed ticks divide
 
   keeps : (place : ℕ) → place < length groups → pace_at stops place ≡ Kept (ideal_phase system (group_at groups place))
   keeps place below = ap (λ found. pace_at found place)
-      (all_keep_phase system ticks some first (turns 0 (omega arith)) within responses later (turning system sound groups all timed ticks divide))
-      ∙ paces system responses groups place below
+      (all_keep_phase system ticks some first (turns 0 (omega arith)) within timing later (turning system sound groups all timed ticks divide))
+      ∙ paces system timing groups place below
 
   as_many : length stops ≡ length groups
-  as_many = length_stops system responses groups []
+  as_many = length_stops system timing groups []
 
   are_ideal : AreIdealStops system groups stops
   are_ideal = record {
@@ -133,21 +144,22 @@ module _ (system : System) (sound : IsSound system) (responses : ℕ → ℕ) (f
     as_many = as_many;
     periodic = λ place below. (turns place below).periodic;
     paces = keeps;
-    leads = λ place below. (over_all system sound responses groups all place (ideal_phase system (group_at groups place))
+    leads = λ place below. (over_all system sound timing groups all place (ideal_phase system (group_at groups place))
         (omega (arith, below, as_many)) (keeps place below) (pos 0)).leads;
-    lags = λ place below. subst (IsIdealLag system (group_at groups place) (group_at groups (suc place))) (sym (stop_lag system responses groups [] place below))
-        (timed_lag system responses (group_at groups place) (group_at groups (suc place)) (turns place (omega (arith, below))).timed (turns (suc place) below).timed);
+    lags = λ place below. subst (IsIdealLag system (group_at groups place) (group_at groups (suc place))) (sym (stop_lag system timing groups [] place below))
+        (timed_lag system (group_at groups place) (group_at groups (suc place)) (timing (group_at groups place)) (timing (group_at groups (suc place)))
+        (timings place no_group (omega (arith, below))) (timings (suc place) no_group below) (turns place (omega (arith, below))).timed);
   }
 
   pub tight_is_exact : (exact : Witnesses) → AreExactLengths system groups exact → AreTied system groups exact
-      → AreLengthsOf (tight_bounds system responses groups) exact
+      → AreLengthsOf (tight_bounds system timing groups) exact
   tight_is_exact exact are_exact tied =
-      let span = span_of system responses groups in
+      let span = span_of timing groups in
       let here : 0 < length groups = omega arith in
-      subst (λ bounds. AreLengthsOf bounds exact) (phases_agree system sound responses groups all 0 here (ideal_phase system first) (keeps 0 here))
-      (lengths_are_exact system groups stops (λ place below. stops_step system responses sound groups all [] place (omega (arith, below, as_many))) are_ideal
-      ticks (record { some = some; whole = λ place below. (turns place below).divides }) span (span_is system responses first later (λ place below. (turns place below).timed))
-      (λ place below. over_all system sound responses groups all place (ideal_phase system (group_at groups place)) (omega (arith, below, as_many)) (keeps place below) span)
+      subst (λ bounds. AreLengthsOf bounds exact) (phases_agree system sound timing groups all 0 here (ideal_phase system first) (keeps 0 here))
+      (lengths_are_exact system groups stops (λ place below. stops_step system timing sound groups all [] place (omega (arith, below, as_many))) are_ideal
+      ticks (record { some = some; whole = λ place below. (turns place below).divides }) span (span_is system timing first later timings)
+      (λ place below. over_all system sound timing groups all place (ideal_phase system (group_at groups place)) (omega (arith, below, as_many)) (keeps place below) span)
       exact are_exact tied 0 here)
 
 -- ---- groups of valid models
@@ -159,10 +171,11 @@ module _ (model : SystemModel) (valid : IsValid model) where
   abbrev system : System
   system = system_of model
 
-  groups_tight : (responses : ℕ → ℕ) (groups : List Group) → AreTimedGroups model groups → IsWithinLimit system groups → (exact : Witnesses)
-      → AreExactLengths system groups exact → AreLengthsOf (tight_bounds system responses groups) exact
-  groups_tight responses [] are within exact are_exact = absurd (omega (arith, are.some))
-  groups_tight responses (first ∷ later) are within exact are_exact =
+  groups_tight : (timing : Group → GroupTiming) (groups : List Group) → AreTimedGroups model groups
+      → All (λ (group : Group). IsTimedTiming system group (timing group)) groups → IsWithinLimit system groups → (exact : Witnesses)
+      → AreExactLengths system groups exact → AreLengthsOf (tight_bounds system timing groups) exact
+  groups_tight timing [] are timings within exact are_exact = absurd (omega (arith, are.some))
+  groups_tight timing (first ∷ later) are timings within exact are_exact =
       let sound = system_sound model valid in
       let all = All-weaker (IsGroupOf model) (IsGroupOfTask system) (group_of_system model) (first ∷ later) are.of_tasks in
       let ticks : ℕ = within.hyperperiod in
@@ -171,17 +184,27 @@ module _ (model : SystemModel) (valid : IsValid model) where
       let some = some_hyperperiod system (first ∷ later)
       (All-weaker (IsTurning system ticks) (λ (group : Group). 1 ≤ period_of system group)
       (λ group is. omega (arith, is.periodic.some_deadline, is.periodic.soon)) (first ∷ later) turn) ticks within.is_hyperperiod in
-      tight_is_exact system sound responses first later all are.timed_periodic ticks some divide
+      tight_is_exact system sound timing first later all are.timed_periodic timings ticks some divide
       (first_within ticks (period_of system first) (period_of system (last_group (first ∷ later))) within.within) exact are_exact
       (groups_are_tied model valid (first ∷ later) are exact are_exact)
 
-  pub tight_of_groups : (responses : ℕ → ℕ) (groups : List Group) → 0 < length groups → length groups ≤ MOST_STEPS → All (IsGroupOf model) groups
-      → are_timed_periodic system groups ≡ true → IsWithinLimit system groups → (exact : Witnesses)
-      → AreExactLengths system groups exact → AreLengthsOf (tight_bounds system responses groups) exact
-  tight_of_groups responses groups some few of_tasks timed =
-      groups_tight responses groups (record { some = some; few = few; of_tasks = of_tasks; timed_periodic = timed })
+  pub tight_of_groups : (timing : Group → GroupTiming) (groups : List Group) → 0 < length groups → length groups ≤ MOST_STEPS → All (IsGroupOf model) groups
+      → are_timed_periodic system groups ≡ true → All (λ (group : Group). IsTimedTiming system group (timing group)) groups
+      → IsWithinLimit system groups → (exact : Witnesses)
+      → AreExactLengths system groups exact → AreLengthsOf (tight_bounds system timing groups) exact
+  tight_of_groups timing groups some few of_tasks timed =
+      groups_tight timing groups (record { some = some; few = few; of_tasks = of_tasks; timed_periodic = timed })
 
-  pub tight_of_chain : (responses : ℕ → ℕ) (chain : ℕ) → chain < length model.chains → is_timed_periodic_chain model chain ≡ true
+  pub tight_of_chain : (timing : Group → GroupTiming) (chain : ℕ) → chain < length model.chains → is_timed_periodic_chain model chain ≡ true
+      → All (λ (group : Group). IsTimedTiming system group (timing group)) (groups_at model chain)
       → IsWithinLimit system (groups_at model chain) → (exact : Witnesses)
-      → AreExactLengths system (groups_at model chain) exact → AreLengthsOf (tight_bounds system responses (groups_at model chain)) exact
-  tight_of_chain responses chain below timed = groups_tight responses (groups_at model chain) (timed_chain model valid chain below timed)
+      → AreExactLengths system (groups_at model chain) exact → AreLengthsOf (tight_bounds system timing (groups_at model chain)) exact
+  tight_of_chain timing chain below timed = groups_tight timing (groups_at model chain) (timed_chain model valid chain below timed)
+
+  -- so are those by phases
+  pub phased_of_chain : (chain : ℕ) → chain < length model.chains → is_timed_periodic_chain model chain ≡ true
+      → IsWithinLimit system (groups_at model chain) → (exact : Witnesses)
+      → AreExactLengths system (groups_at model chain) exact → AreLengthsOf (tight_bounds system (tight_timing system) (groups_at model chain)) exact
+  phased_of_chain chain below timed =
+      tight_of_chain (tight_timing system) chain below timed
+      (phased_timings system (groups_at model chain) (timed_chain model valid chain below timed).timed_periodic)

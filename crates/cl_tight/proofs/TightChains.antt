@@ -18,21 +18,30 @@ use Rattle.cl_resp.specs.Response.{Response}
 use Rattle.cl_bound.specs.declared.answer.TaskAnswer.{TaskAnswer}
 use Rattle.cl_bound.specs.declared.answer.TaskAnswer.TheVariants as answer
 use Rattle.cl_bound.specs.Answers.{answer_with, answers_of, answer_at, is_late, response_in, NoneIsLate}
-use Rattle.cl_bound.specs.Bounds.{Lengths, bounds_of}
+use Rattle.cl_bound.specs.Bounds.{Lengths, settled_timing, bounds_of}
 use Rattle.cl_bound.specs.NoGreater.{AreNoGreater}
 use Rattle.cl_bound.specs.Promises.{AreSafe}
 use Rattle.cl_bound.specs.SettledChains.{IsGroupOfTask, IsSettledChain}
+use Rattle.cl_bound.proofs.KeptWindows.{response_timing_is}
 use Rattle.cl_bound.proofs.ModelGroups.{group_of_system}
+use Rattle.cl_bound.proofs.SettledChains.{settled_sums}
 use Rattle.cl_bound.proofs.SettledTasks.{settled_task}
 use Rattle.cl_exact.specs.TimedPeriodic.{is_timed_periodic_chain}
 use Rattle.cl_exact.specs.ExactLengths.{Witnesses}
-use Rattle.cl_phase.specs.TightAnswers.{tight_answers_of, tight_response}
+use Rattle.cl_tight.specs.TightAnswers.{tight_answers_of, tight_response}
+use Rattle.cl_tight.specs.TightTimings.{tight_timing}
 use Rattle.cl_phase.specs.TightBounds.{tight_bounds}
 use Rattle.cl_tight.specs.ExactBounds.{AreLengthsOf}
-use Rattle.cl_tight.proofs.ModelTight.{tight_of_chain}
+use Rattle.cl_tight.proofs.ModelTight.{phased_of_chain}
+use Rattle.cl_tight.proofs.PhasedTimings.{tight_keeps, stays_by_report}
+use Rattle.cl_tight.proofs.TightTasks.{phased_answer, tight_task, tight_of_settled, tight_group}
 use Rattle.cl_resp.proofs.LeastParts.{settled_timely}
-use Rattle.cl_phase.proofs.TightSafety.{tight_safe, tight_no_greater}
-use Rattle.cl_phase.proofs.TightTasks.{phased_answer, tight_task, tight_of_settled, tight_group}
+use Rattle.cl_phase.proofs.TightSafety.{kept_safe, tight_within_sums}
+use Rattle.cl_phase.proofs.WiderWalks.{tight_within_wider}
+use Rattle.cl_phase.specs.CompleteChains.{HasCompleteChains, AreSomeTicks}
+use Rattle.cl_phase.proofs.ChainsComplete.{has_complete_chains}
+use Rattle.cl_phase.proofs.SomeTicks.{take_time}
+use Rattle.cl_bound.specs.Timings.{AlwaysKeeps}
 use Rattle.cl_analyse.specs.declared.findings.ChainAnswer.{ChainAnswer}
 use Rattle.cl_analyse.specs.declared.findings.ChainAnswer.TheVariants.{Bounds, Late}
 use Rattle.cl_analyse.specs.declared.findings.ExactAnswer.{ExactAnswer}
@@ -46,6 +55,14 @@ use Rattle.cl_tight.specs.TightFindings.{tight_chain_answer_of, tight_chain_answ
 bounds_where : (first : Option ℕ) (own bounds : Lengths) → chain_answer first own ≡ Bounds bounds → (first ≡ None) × (own ≡ bounds)
 bounds_where None own bounds is = (refl, cc)
 bounds_where (Some task) own bounds is = absurd (cc)
+
+-- bounds that are no greater than some that are no greater than others
+no_greater_through : (bounds middle other : Lengths) → AreNoGreater bounds middle → AreNoGreater middle other → AreNoGreater bounds other
+no_greater_through bounds middle other first second = record {
+  reaction = omega (arith, first.reaction, second.reaction);
+  age = omega (arith, first.age, second.age);
+  reduced = omega (arith, first.reduced, second.reduced);
+}
 
 module _ (model : SystemModel) (valid : IsValid model) where
   abbrev system : System
@@ -97,10 +114,10 @@ module _ (model : SystemModel) (valid : IsValid model) where
 
     -- the tight bounds of the chain
     abbrev pub own_bounds : Lengths
-    own_bounds = tight_bounds system (tight_response system) groups
+    own_bounds = tight_bounds system (tight_timing system) groups
 
     module _ (within : chain < length model.chains) where
-      tight_answer : chain_answer_at (tight_chain_answers_of model) chain ≡ tight_chain_answer_of model (chain_at model chain)
+      pub tight_answer : chain_answer_at (tight_chain_answers_of model) chain ≡ tight_chain_answer_of model (chain_at model chain)
       tight_answer = get_or-map (tight_chain_answer_of model) model.chains chain no_chain (Late 0) within
 
       -- tight bounds are given only where no task is late, and are those of the chain
@@ -117,11 +134,27 @@ module _ (model : SystemModel) (valid : IsValid model) where
       tight_where timely =
           tight_answer ∙ ap (λ (first : Option ℕ). chain_answer first own_bounds) (none_late answers model (chain_at model chain) timely)
 
+      -- what is known of the groups of a chain without a late task always holds
+      keeps : NoneIsLate answers groups → All (λ (group : Group). AlwaysKeeps system group (tight_timing system group)) groups
+      keeps timely place d h = tight_keeps model valid (get_or groups place d) (groups_at_are model valid chain place d h) (timely place d h)
+
+      -- such a chain has complete chains of each kind in some legal run
+      pub timely_complete : NoneIsLate answers groups → HasCompleteChains system groups
+      timely_complete timely =
+          has_complete_chains system (system_sound model valid) (tight_timing system) groups (groups_at_some model valid chain within) (keeps timely)
+
+      -- so its bounds are 1 tick or more
+      pub tight_bounds_some : (bounds : Lengths) → chain_answer_at (tight_chain_answers_of model) chain ≡ Bounds bounds → AreSomeTicks bounds
+      tight_bounds_some bounds is =
+          let (timely, own) = tight_given bounds is in
+          subst AreSomeTicks own
+          (take_time system (system_sound model valid) (tight_timing system) groups (groups_at_some model valid chain within) (keeps timely))
+
       -- they are safe
       pub tight_bounds_hold : (bounds : Lengths) → chain_answer_at (tight_chain_answers_of model) chain ≡ Bounds bounds → AreSafe system groups bounds
       tight_bounds_hold bounds is =
           let (timely, own) = tight_given bounds is in
-          subst (AreSafe system groups) own (tight_safe system (system_sound model valid) groups of_tasks timely)
+          subst (AreSafe system groups) own (kept_safe system (system_sound model valid) (tight_timing system) groups (keeps timely))
 
       -- ---- beside the report
 
@@ -138,12 +171,24 @@ module _ (model : SystemModel) (valid : IsValid model) where
           let task : ℕ = (get_or groups place d).task in
           ap is_late (settled_answer task (tight_response system task) (tight_group system (system_sound model valid) groups settled place d h).0)
 
+      -- so its tight bounds are no greater than over the timings by the report, and so than the sums over these
+      no_greater : IsSettledChain system groups → AreNoGreater own_bounds (bounds_of system groups)
+      no_greater settled =
+          let sound = system_sound model valid in
+          let response_of : ℕ → ℕ = λ task. response_in (answer_at (answers_of system) task) in
+          no_greater_through own_bounds (tight_bounds system (settled_timing system) groups) (bounds_of system groups)
+          (tight_within_wider system sound (tight_timing system) (settled_timing system) groups of_tasks
+          (λ place d h. stays_by_report system sound (get_or groups place d) (of_tasks place d h) (settled.settled place d h)))
+          (tight_within_sums system sound (settled_timing system) groups of_tasks
+          (λ place d h. response_timing_is system response_of (get_or groups place d))
+          (groups_at_some model valid chain within) (bounds_of system groups) (settled_sums system sound groups settled))
+
       pub tight_where_bounded : (bounds : Lengths) → chain_answer_at (chain_answers_of model) chain ≡ Bounds bounds
           → (chain_answer_at (tight_chain_answers_of model) chain ≡ Bounds own_bounds) × AreNoGreater own_bounds bounds
       tight_where_bounded bounds is =
           let (settled, own) = reported bounds (sym (answer_of_chain model chain within) ∙ is) in (
             tight_where (timely_of_settled settled),
-            subst (AreNoGreater own_bounds) own (tight_no_greater system (system_sound model valid) groups settled (groups_at_some model valid chain within)),
+            subst (AreNoGreater own_bounds) own (no_greater settled),
           )
 
       module _ (lengths : Witnesses) where
@@ -156,7 +201,7 @@ module _ (model : SystemModel) (valid : IsValid model) where
         -- where the report has exact lengths, these are tight bounds
         timely_exact : (timed : Bool) → is_timed_periodic_chain model chain ≡ timed → IsTimelyAnswer model chain timed (Exact lengths) → AreLengthsOf own_bounds lengths
         timely_exact false is exact = absurd (not_timed exact)
-        timely_exact true is exact = tight_of_chain model valid (tight_response system) chain within is exact.0 lengths exact.1
+        timely_exact true is exact = phased_of_chain model valid chain within is exact.0 lengths exact.1
 
         exact_of : (own : ChainAnswer) → chain_answer_of model (chain_at model chain) ≡ own → IsExactAnswer model chain own (Exact lengths)
             → (chain_answer_at (tight_chain_answers_of model) chain ≡ Bounds own_bounds) × AreLengthsOf own_bounds lengths

@@ -14,8 +14,8 @@ use Rattle.cl_runs.specs.Requirements.{no_requirement, requirement_at, IsKept, I
 use Rattle.cl_bound.specs.declared.answer.TaskAnswer.{TaskAnswer}
 use Rattle.cl_bound.specs.declared.answer.TaskAnswer.TheVariants as answer
 use Rattle.cl_bound.specs.Answers.{answer_at, is_late}
-use Rattle.cl_phase.specs.TightAnswers.{tight_answers_of, tight_response}
-use Rattle.cl_phase.proofs.TightTimings.{answer_count}
+use Rattle.cl_tight.specs.TightAnswers.{tight_answers_of, tight_response}
+use Rattle.cl_tight.proofs.TightTimings.{answer_count}
 use Rattle.cl_analyse.specs.declared.findings.ChainAnswer.{ChainAnswer}
 use Rattle.cl_analyse.specs.declared.findings.Verdict.{Verdict}
 use Rattle.cl_analyse.specs.declared.findings.Verdict.TheVariants.{Met, Unshown}
@@ -26,7 +26,7 @@ use Rattle.cl_analyse.specs.Verdicts.{verdict_at, is_met}
 use Rattle.cl_analyse.proofs.InTime.{met_value}
 use Rattle.cl_tight.specs.TightFindings.{tight_chain_answers_of, tight_verdict_of, tight_findings_of, is_verified}
 use Rattle.cl_tight.specs.Promises.{AreSafeTightFindings, AreAsTight}
-use Rattle.cl_tight.proofs.TightChains.{timely_task, tight_responses_hold, tight_where_settled, own_bounds, tight_bounds_hold, tight_where_bounded, tight_where_exact}
+use Rattle.cl_tight.proofs.TightChains.{timely_task, tight_responses_hold, tight_where_settled, own_bounds, tight_bounds_hold, tight_bounds_some, tight_where_bounded, tight_where_exact}
 use Rattle.cl_tight.proofs.TightRequirements.{met_kept, broken_is}
 
 -- an answer that passes isn't late
@@ -55,6 +55,7 @@ module _ (model : SystemModel) (valid : IsValid model) where
   tight_findings_safe = record {
     responses = tight_responses_hold model valid;
     bounds = λ chain bounds within. tight_bounds_hold model valid chain within bounds;
+    some = λ chain bounds within. tight_bounds_some model valid chain within bounds;
     met = met_found;
     broken = λ i value within is. broken_is model valid (requirement_at model i) value (sym (verdict_is i within) ∙ is);
   }

@@ -20,9 +20,10 @@ use Rattle.cl_runs.specs.Requirements.{required_chain, no_requirement, requireme
 use Rattle.cl_bound.specs.declared.answer.TaskAnswer.{TaskAnswer}
 use Rattle.cl_bound.specs.Answers.{answer_at}
 use Rattle.cl_bound.specs.Bounds.{Lengths}
-use Rattle.cl_phase.specs.TightAnswers.{tight_answer_to, tight_answers_of, tight_response}
+use Rattle.cl_tight.specs.TightAnswers.{tight_answer_to, tight_answers_of}
+use Rattle.cl_tight.specs.TightTimings.{tight_timing}
 use Rattle.cl_phase.specs.TightBounds.{tight_bounds}
-use Rattle.cl_phase.proofs.TightTasks.{phased_answer}
+use Rattle.cl_tight.proofs.TightTasks.{phased_answer}
 use Rattle.cl_analyse.specs.declared.findings.ChainAnswer.{ChainAnswer}
 use Rattle.cl_analyse.specs.declared.findings.ChainAnswer.TheVariants.{Bounds, Late}
 use Rattle.cl_analyse.specs.declared.findings.Verdict.{Verdict}
@@ -73,7 +74,7 @@ all_chains model n = all_mapped (tight_chain_answer_of model) model.chains n
 -- the answer for a chain, from its first late task or from its bounds
 module _ (model : SystemModel) (answers : List TaskAnswer) (chain : ChainDef) (are : answers ≡ tight_answers_of (system_of model)) where
   abbrev own_bounds : Lengths
-  own_bounds = tight_bounds (system_of model) (tight_response (system_of model)) (groups_of model chain)
+  own_bounds = tight_bounds (system_of model) (tight_timing (system_of model)) (groups_of model chain)
 
   answer_with : (first : Option ℕ) → first_late answers (steps_of model chain) ≡ first → chain_answer first own_bounds ≡ tight_chain_answer_of model chain
   unfolding tight_chain_answer_of

@@ -23,9 +23,9 @@ use Rattle.cl_exact.proofs.ExactOnce.{within_or_past}
 use Rattle.cl_exact.proofs.RunExact.{witness_run}
 use Rattle.cl_exact.proofs.RunTasks.{settled_timed_groups}
 use Rattle.cl_exact.proofs.SomeExact.{exact_lengths_exist}
-use Rattle.cl_phase.specs.TightAnswers.{tight_answers_of, tight_response}
+use Rattle.cl_tight.specs.TightAnswers.{tight_answers_of, tight_response}
 use Rattle.cl_tight.specs.ExactBounds.{AreLengthsOf}
-use Rattle.cl_tight.proofs.ModelTight.{tight_of_chain}
+use Rattle.cl_tight.proofs.ModelTight.{phased_of_chain}
 use Rattle.cl_analyse.specs.declared.findings.ChainAnswer.TheVariants.{Bounds, Late}
 use Rattle.cl_analyse.specs.declared.findings.Verdict.TheVariants.{Met, Broken}
 use Rattle.cl_analyse.specs.ChainAnswers.{chain_answer_at}
@@ -94,7 +94,7 @@ module _ (model : SystemModel) (valid : IsValid model) where
           | inl (exact, are, _) ↦ (
             exact,
             witness_run system (system_sound model valid) groups (settled_timed_groups model groups (groups_at_are model valid chain) timed (responses timely)) exact are,
-            tight_of_chain model valid (tight_response system) chain within timed limit exact are,
+            phased_of_chain model valid chain within timed limit exact are,
           )
           | inr past ↦ absurd (within_or_past system groups limit past)
         ]

@@ -1,3 +1,6 @@
+pub mod TightAnswers
+pub mod TightTimings
+pub mod Found
 pub mod TightFindings
 pub mod ExactBounds
 pub mod Promises

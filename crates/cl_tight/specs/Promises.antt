@@ -12,6 +12,7 @@ use Rattle.cl_bound.specs.Bounds.{Lengths}
 use Rattle.cl_bound.specs.NoGreater.{AreNoGreater}
 use Rattle.cl_bound.specs.Promises.{AreSafe}
 use Rattle.cl_exact.specs.ExactLengths.{Witnesses}
+use Rattle.cl_phase.specs.CompleteChains.{AreSomeTicks}
 use Rattle.cl_tight.specs.ExactBounds.{AreLengthsOf}
 use Rattle.cl_analyse.specs.declared.findings.ChainAnswer.TheVariants.{Bounds}
 use Rattle.cl_analyse.specs.declared.findings.ExactAnswer.TheVariants.{Exact}
@@ -22,13 +23,15 @@ use Rattle.cl_analyse.specs.Verdicts.{verdict_at}
 use Rattle.cl_tight.specs.declared.findings.TightFindings.{TightFindings}
 
 -- The findings are safe. In every legal run each job of a settled task finishes within its response, each tight
--- bound is at least the length of every complete chain of its kind, what is met is kept, and what is broken is broken in
--- some legal run.
+-- bound is at least the length of every complete chain of its kind, and 1 tick or more, what is met is kept, and what is
+-- broken is broken in some legal run.
 pub record AreSafeTightFindings (model : SystemModel) (findings : TightFindings) : Type 0 where
   pub responses : (task : ℕ) (response : Response) → task < length model.tasks
       → answer_at findings.tasks task ≡ Settled response → AlwaysFinishesWithin (system_of model) task response.response
   pub bounds : (chain : ℕ) (bounds : Lengths) → chain < length model.chains
       → chain_answer_at findings.chains chain ≡ Bounds bounds → AreSafe (system_of model) (groups_at model chain) bounds
+  pub some : (chain : ℕ) (bounds : Lengths) → chain < length model.chains
+      → chain_answer_at findings.chains chain ≡ Bounds bounds → AreSomeTicks bounds
   pub met : (i value : ℕ) → i < length model.requirements
       → verdict_at findings.verdicts i ≡ Met value → IsKept model (requirement_at model i)
   pub broken : (i value : ℕ) → i < length model.requirements

@@ -14,12 +14,13 @@ use Rattle.cl_bound.specs.declared.answer.TaskAnswer.{TaskAnswer}
 use Rattle.cl_bound.specs.Answers.{is_late}
 use Rattle.cl_exact.specs.TimedPeriodic.{is_timed_periodic_chain}
 use Rattle.cl_exact.specs.Hyperperiod.{period_of, hyper_limit}
-use Rattle.cl_phase.specs.TightAnswers.{tight_answers_of, tight_response}
 use Rattle.cl_phase.specs.TightBounds.{tight_bounds}
 use Rattle.cl_analyse.specs.declared.findings.ChainAnswer.{ChainAnswer}
 use Rattle.cl_analyse.specs.declared.findings.Verdict.{Verdict}
 use Rattle.cl_analyse.specs.ChainAnswers.{first_late, chain_answer, chain_answer_at}
 use Rattle.cl_analyse.specs.Verdicts.{bound_value, verdict_on, is_met}
+use Rattle.cl_tight.specs.TightAnswers.{tight_answers_of}
+use Rattle.cl_tight.specs.TightTimings.{tight_timing}
 use Rattle.cl_tight.specs.declared.findings.TightFindings.{TightFindings}
 
 -- ---- chains
@@ -28,7 +29,7 @@ use Rattle.cl_tight.specs.declared.findings.TightFindings.{TightFindings}
 unfoldable pub tight_chain_answer_of : SystemModel → ChainDef → ChainAnswer
 tight_chain_answer_of model chain =
     let system = system_of model in
-    chain_answer (first_late (tight_answers_of system) (steps_of model chain)) (tight_bounds system (tight_response system) (groups_of model chain))
+    chain_answer (first_late (tight_answers_of system) (steps_of model chain)) (tight_bounds system (tight_timing system) (groups_of model chain))
 
 -- the answers for all chains, in file order
 abbrev pub tight_chain_answers_of : SystemModel → List ChainAnswer

@@ -9,11 +9,14 @@ ghost use Rattle.cl_tight.specs.TightFindings.{tight_findings_of, is_verified};
 ghost use Rattle.cl_runs.specs.Requirements.{IsInTime};
 ghost use Rattle.cl_tight.specs.Promises.{AreSafeTightFindings, AreAsTight};
 
+pub mod complete;
 pub mod exact;
+pub mod timings;
 
 /// In every legal run of a valid model, of any length, each job of a settled task finishes within
-/// its response by phases, and no complete chain is longer than its tight bound. Each requirement
-/// that is found met is kept, and each that is found broken is broken in some legal run.
+/// its response by phases, and no complete chain is longer than its tight bound, which is 1 tick or
+/// more. Each requirement that is found met is kept, and each that is found broken is broken in
+/// some legal run.
 pub fn tight_findings_are_safe()
     ensures { (model : SystemModel) → IsValid model
         → AreSafeTightFindings model (tight_findings_of model) }

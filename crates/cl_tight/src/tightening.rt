@@ -2,22 +2,27 @@
 ghost use Rattle.std.specs.Prelude.{◌≡◌, ◌+◌, ◌<◌, ◌≤◌, not, length, map, IsTrue, IfOk};
 ghost use Rattle.std.specs.List.{list_all};
 ghost use Rattle.cl_model.specs.ByNumber.{chain_at};
+ghost use Rattle.cl_model.specs.Groups.{groups_at};
 ghost use Rattle.cl_model.specs.Validity.{IsValid};
 ghost use Rattle.cl_runs.specs.SystemOf.{system_of};
 ghost use Rattle.cl_runs.specs.Requirements.{required_chain, IsInTime};
 ghost use Rattle.cl_runs.specs.TaskTiming.{timing_at};
 ghost use Rattle.cl_resp.specs.Question.{tight_question_of};
 ghost use Rattle.cl_resp.specs.Response.{busy_window};
-ghost use Rattle.cl_bound.specs.Answers.{is_late, answer_at};
-ghost use Rattle.cl_phase.specs.TightAnswers.{tight_answers_of};
+ghost use Rattle.cl_bound.specs.Answers.{is_late, answer_at, NoneIsLate};
+ghost use Rattle.cl_phase.specs.TightBounds.{tight_bounds};
+ghost use Rattle.cl_tight.specs.TightAnswers.{tight_answers_of};
 ghost use Rattle.cl_analyse.specs.Verdicts.{is_met};
 ghost use Rattle.cl_tight.specs.TightFindings.{tight_chain_answer_of, tight_chain_answers_of, has_exact_bounds, tight_verdict_of, tight_findings_of, is_verified};
 ghost use Rattle.cl_tight.specs.Promises.{AreSafeTightFindings};
+ghost use Rattle.cl_tight.specs.TightTimings.{tight_timing};
+ghost use Rattle.cl_tight.specs.Found.{AreWindowsOf};
 ghost use Rattle.cl_tight.specs.Inner.Windows.{window_in};
 
+use crate::access_windows::AccessWindows;
 use crate::findings::TightFindings;
 use cl_analyse::{ChainAnswer, Verdict, answer_tasks, bound_value, first_late, verdict_on};
-use cl_bound::TaskAnswer;
+use cl_bound::{Bounds, TaskAnswer};
 use cl_exact::{is_timed_periodic, is_within_limit};
 use cl_model::{List, RequirementDef, ValidModel};
 use cl_phase::tight_bounds;
@@ -136,23 +141,54 @@ fn tighten_chains(
     requires { tasks.now ≡ tight_answers_of (system_of model.now) }
     ensures { IfOk result (λ answers. answers ≡ tight_chain_answers_of model.now) }
 {
+    let mut windows = AccessWindows::new(alloc, model)?;
     let mut answers = List::new(alloc);
     for chain in 0..model.chains() {
-        answers.push(tighten_chain(model, chain, tasks))?;
+        answers.push(tighten_chain(alloc, model, chain, tasks, &mut windows)?)?;
     }
     Ok(answers)
 }
 
-/// Answers for a chain, from the answers by phases for all tasks: finds its tight bounds, or the
-/// first of its tasks that is late.
-fn tighten_chain(model: &ValidModel, chain: u32, tasks: &List<TaskAnswer>) -> ChainAnswer
+/// Finds the tight bounds of a chain, none of whose tasks is late.
+fn bound_chain(
+    alloc: Global,
+    model: &ValidModel,
+    chain: u32,
+    tasks: &List<TaskAnswer>,
+    windows: &mut AccessWindows,
+) -> Result<Bounds, NoMemory>
     requires chain { chain < length model.now.chains }
     requires answers { tasks.now ≡ tight_answers_of (system_of model.now) }
-    ensures { result ≡ tight_chain_answer_of model.now (chain_at model.now chain) }
+    requires not_late { NoneIsLate tasks.now (groups_at model.now chain) }
+    requires windows { AreWindowsOf (system_of model.now) windows.old }
+    ensures bounds { IfOk result (λ bounds. bounds ≡ tight_bounds (system_of model.now) (tight_timing (system_of model.now))
+        (groups_at model.now chain)) }
+    ensures windows { AreWindowsOf (system_of model.now) windows.new }
+{
+    let groups = model.groups(chain);
+    let timings = windows.timings(alloc, model, groups, tasks)?;
+    Ok(tight_bounds(model, groups, timings.as_slice()))
+}
+
+/// Answers for a chain, from the answers by phases for all tasks: finds its tight bounds, or the
+/// first of its tasks that is late.
+fn tighten_chain(
+    alloc: Global,
+    model: &ValidModel,
+    chain: u32,
+    tasks: &List<TaskAnswer>,
+    windows: &mut AccessWindows,
+) -> Result<ChainAnswer, NoMemory>
+    requires chain { chain < length model.now.chains }
+    requires answers { tasks.now ≡ tight_answers_of (system_of model.now) }
+    requires windows { AreWindowsOf (system_of model.now) windows.old }
+    ensures answer { IfOk result
+        (λ answer. answer ≡ tight_chain_answer_of model.now (chain_at model.now chain)) }
+    ensures windows { AreWindowsOf (system_of model.now) windows.new }
 {
     match first_late(model, chain, tasks) {
-        Some(task) => ChainAnswer::Late { task },
-        None => ChainAnswer::Bounds(tight_bounds(model, chain, tasks)),
+        Some(task) => Ok(ChainAnswer::Late { task }),
+        None => Ok(ChainAnswer::Bounds(bound_chain(alloc, model, chain, tasks, windows)?)),
     }
 }
 

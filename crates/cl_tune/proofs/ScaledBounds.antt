@@ -1,5 +1,5 @@
 -- Smaller percentages: groups write no later, and so no bound of a chain is greater.
-use Rattle.std.proofs.Common.{◌≡◌, ℕ, zero, suc, ◌≤◌, false, List, [], ◌∷◌, get_or, take, drop, map, refl, sym, ap, ◌∙◌, subst}
+use Rattle.std.proofs.Common.{◌≡◌, ℕ, zero, suc, ◌≤◌, false, List, [], ◌∷◌, get_or, take, drop, map, refl, sym, ap, ◌∙◌, subst, arith}
 use Rattle.std.specs.Prelude.{sum}
 use Rattle.std.specs.List.{take-map}
 use Rattle.std.proofs.lemmas.List.{drop-map}
@@ -21,7 +21,7 @@ use Rattle.cl_comm.proofs.Responses.{reads_stay, ends_rise}
 use Rattle.cl_bound.specs.Answers.{answers_of, answer_at, is_late, response_in, NoneIsLate}
 use Rattle.cl_bound.specs.Bounds.{Lengths, AreBoundsOf, settled_timing, settled_timings}
 use Rattle.cl_bound.specs.Hops.{group_timing}
-use Rattle.cl_bound.specs.NoGreater.{WritesNoLater, AreNoGreater}
+use Rattle.cl_bound.specs.NoGreater.{StaysWithin, AreNoGreater}
 use Rattle.cl_bound.proofs.NoGreater.{bounds_no_greater}
 use Rattle.cl_tune.specs.Scaled.{scaled_runnable, scaled}
 use Rattle.cl_tune.proofs.ScaledAnswers.{timing, tasks_are, answer_sooner}
@@ -124,7 +124,7 @@ module _ (model : SystemModel) (less more : ℕ) (le : less ≤ more) where
       ap (λ (access : AccessKind). window_of access (spot_at (timing_at lesser i) p) n) (accesses_same i)
       ∙ ap (λ (spot : Spot). window_of (timing_at greater i).access spot n) (spots_same i p)
 
-  group_sooner : (group : Group) → is_late (answer_at (answers_of greater) group.task) ≡ false → WritesNoLater (settled_timing lesser group) (settled_timing greater group)
+  group_sooner : (group : Group) → is_late (answer_at (answers_of greater) group.task) ≡ false → StaysWithin (settled_timing lesser group) (settled_timing greater group)
   unfolding group_timing
   group_sooner group timely =
       let i = group.task in
@@ -136,8 +136,11 @@ module _ (model : SystemModel) (less more : ℕ) (le : less ≤ more) where
         is_timed = ap (λ (access : AccessKind). is_timed access) (accesses_same i);
         jitter = ap (λ (kind : StimulusKind). greatest_jitter kind) (patterns_same i);
         distance = ap (λ (kind : StimulusKind). greatest_distance kind) (patterns_same i);
-        read = ap (λ (w : Window). w.rlo) (window_is i group.first (response lesser i))
-            ∙ reads_stay (timing_at greater i).access (spot_at (timing_at greater i) group.first) (response lesser i) (response greater i);
+        read = omega (
+          arith,
+          ap (λ (w : Window). w.rlo) (window_is i group.first (response lesser i)),
+          reads_stay (timing_at greater i).access (spot_at (timing_at greater i) group.first) (response lesser i) (response greater i),
+        );
         write = subst (λ n. n ≤ (window_at (timing_at greater i) group.last (response greater i)).whi)
             (sym (ap (λ (w : Window). w.whi) (window_is i group.last (response lesser i))))
             (ends_rise (timing_at greater i).access (spot_at (timing_at greater i) group.last) (response lesser i) (response greater i) sooner);

@@ -8,31 +8,34 @@ ghost use Rattle.cl_runs.specs.Run.{Run, jobs_of};
 ghost use Rattle.cl_runs.specs.Legal.{IsLegal};
 ghost use Rattle.cl_runs.specs.Chains.{HasWritten, IsEarliestReader, IsLatestWriter};
 ghost use Rattle.cl_runs.specs.RunChains.{run_moments};
-ghost use Rattle.cl_runs.specs.Responses.{IsTimely};
-ghost use Rattle.cl_bound.specs.Hops.{group_timing, lag, forward_hop, backward_hop};
+ghost use Rattle.cl_bound.specs.Hops.{lag, forward_hop, backward_hop};
+ghost use Rattle.cl_bound.specs.declared.group_timing.GroupTiming.{GroupTiming};
 ghost use Rattle.cl_bound.specs.Bounds.{settled_timing};
 ghost use Rattle.cl_bound.specs.SettledChains.{IsSettledChain};
+ghost use Rattle.cl_bound.specs.Timings.{AlwaysKeeps};
 
-/// If the tasks of groups x and y are timely, a job of y that just misses the write of a job of x
-/// arrives less than the lag after that job. The job before an earliest reader just misses the
-/// reader's writer, and a job with a latest writer just misses the next job of x, if that has
-/// written.
+/// If timings of groups x and y always hold, a job of y that just misses the write of a job of x
+/// arrives less than the lag between these timings after that job. The job before an earliest
+/// reader just misses the reader's writer, and a job with a latest writer just misses the next job
+/// of x, if that has written.
 pub fn lags_bound_arrivals()
     // the job before an earliest reader that isn't job 0
-    ensures forward { (system : System) → IsSound system → (responses : ℕ → ℕ) (x y : Group)
-        → IsTimely system x.task (responses x.task) → IsTimely system y.task (responses y.task)
+    ensures forward { (system : System) → IsSound system → (x y : Group)
+        → (writer reader : GroupTiming)
+        → AlwaysKeeps system x writer → AlwaysKeeps system y reader
         → (run : Run) → IsLegal system run → (m k : ℕ) → 1 ≤ k
         → IsEarliestReader (run_moments system run) x y m k
         → (pos (job_at (jobs_of run y.task) (k - 1)).arrival +ℤ pos 1)
-        ≤ℤ (pos (job_at (jobs_of run x.task) m).arrival +ℤ lag (group_timing system responses x) (group_timing system responses y)) }
+        ≤ℤ (pos (job_at (jobs_of run x.task) m).arrival +ℤ lag writer reader) }
     // a job with a latest writer, where the next job of x has written
-    ensures backward { (system : System) → IsSound system → (responses : ℕ → ℕ) (x y : Group)
-        → IsTimely system x.task (responses x.task) → IsTimely system y.task (responses y.task)
+    ensures backward { (system : System) → IsSound system → (x y : Group)
+        → (writer reader : GroupTiming)
+        → AlwaysKeeps system x writer → AlwaysKeeps system y reader
         → (run : Run) → IsLegal system run → (m k : ℕ)
         → IsLatestWriter (run_moments system run) x y m k
         → HasWritten (run_moments system run) x (m + 1)
         → (pos (job_at (jobs_of run y.task) k).arrival +ℤ pos 1)
-        ≤ℤ (pos (job_at (jobs_of run x.task) (m + 1)).arrival +ℤ lag (group_timing system responses x) (group_timing system responses y)) }
+        ≤ℤ (pos (job_at (jobs_of run x.task) (m + 1)).arrival +ℤ lag writer reader) }
 {}
 
 /// Of two neighbouring groups of a settled chain, an earliest reader that isn't job 0 arrives at

@@ -7,7 +7,7 @@ ghost use Rattle.cl_runs.specs.TaskTiming.{System, IsSound};
 ghost use Rattle.cl_bound.specs.declared.group_timing.GroupTiming.{GroupTiming};
 ghost use Rattle.cl_bound.specs.Bounds.{greatest_reaction, greatest_age, Lengths, AreBoundsOf, settled_timings, bounds_of};
 ghost use Rattle.cl_bound.specs.Hops.{group_timing};
-ghost use Rattle.cl_bound.specs.NoGreater.{WritesNoLater, AreNoGreater};
+ghost use Rattle.cl_bound.specs.NoGreater.{StaysWithin, AreNoGreater};
 ghost use Rattle.cl_bound.specs.SettledChains.{IsSettledChain, AreWithin};
 
 /// The bounds that `bounds_of` gives for a settled chain are the sums over signed numbers that
@@ -57,15 +57,15 @@ pub fn reaction_equals_age()
         → (bounds_of system groups).reaction ≡ (bounds_of system groups).age }
 {}
 
-/// Smaller responses never make bounds greater: a group writes no later where the response of its
-/// task is no greater, and where groups differ from others at most in that they write earlier, none
+/// Smaller responses never make bounds greater: the window of a group stays within another where
+/// the response of its task is no greater, and where the windows of groups stay within others, none
 /// of their bounds is greater.
 pub fn bounds_grow_with_responses()
     ensures writes { (system : System) (responses others : ℕ → ℕ) (group : Group)
         → responses group.task ≤ others group.task
-        → WritesNoLater (group_timing system responses group) (group_timing system others group) }
+        → StaysWithin (group_timing system responses group) (group_timing system others group) }
     ensures bounds { (timing other : Group → GroupTiming) (groups : List Group)
-        → All (λ (group : Group). WritesNoLater (timing group) (other group)) groups
+        → All (λ (group : Group). StaysWithin (timing group) (other group)) groups
         → (bounds others : Lengths) → AreBoundsOf (map timing groups) bounds
         → AreBoundsOf (map other groups) others
         → AreNoGreater bounds others }

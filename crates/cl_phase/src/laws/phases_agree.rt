@@ -4,17 +4,19 @@ ghost use Rattle.cl_model.specs.declared.group.Group.{Group};
 ghost use Rattle.cl_runs.specs.TaskTiming.{System, IsSound};
 ghost use Rattle.cl_stim.specs.declared.phase.Phase.{Phase};
 ghost use Rattle.cl_bound.specs.SettledChains.{IsGroupOfTask};
+ghost use Rattle.cl_bound.specs.declared.group_timing.GroupTiming.{GroupTiming};
 ghost use Rattle.cl_phase.specs.declared.pace.Pace.TheVariants.{Kept};
 ghost use Rattle.cl_phase.specs.Walks.{pace_at};
 ghost use Rattle.cl_phase.specs.TightBounds.{stops_of, span_of, bounds_from, tight_bounds};
 
-/// The walks from any group that keeps its phase give the tight bounds of the chain, whatever the
-/// responses, so nothing depends on the choice of the group with the fewest arrivals.
+/// The walks from any group that keeps its phase give the tight bounds of the chain, whatever is
+/// known of its groups, so nothing depends on the choice of the group with the fewest arrivals.
 pub fn phases_give_the_same_bounds()
-    ensures { (system : System) → IsSound system → (responses : ℕ → ℕ) → (groups : List Group)
+    ensures { (system : System) → IsSound system
+        → (timing : Group → GroupTiming) (groups : List Group)
         → All (IsGroupOfTask system) groups
         → (place : ℕ) → place < length groups → (phase : Phase)
-        → pace_at (stops_of system responses groups) place ≡ Kept phase
-        → bounds_from (stops_of system responses groups) (span_of system responses groups) place
-        ≡ tight_bounds system responses groups }
+        → pace_at (stops_of system timing groups) place ≡ Kept phase
+        → bounds_from (stops_of system timing groups) (span_of timing groups) place
+        ≡ tight_bounds system timing groups }
 {}

@@ -1,25 +1,30 @@
-//! Tight bounds, compared with the sums of hops that are the bounds of a chain.
-ghost use Rattle.std.specs.Prelude.{ℕ, ◌<◌, List, length, map, All};
+//! Tight bounds, compared with the sums of hops that are the bounds of a chain, and with those over
+//! wider windows.
+ghost use Rattle.std.specs.Prelude.{◌<◌, List, length, map, All};
 ghost use Rattle.cl_model.specs.declared.group.Group.{Group};
 ghost use Rattle.cl_runs.specs.TaskTiming.{System, IsSound};
-ghost use Rattle.cl_bound.specs.Bounds.{Lengths, AreBoundsOf, bounds_of};
-ghost use Rattle.cl_bound.specs.Hops.{group_timing};
-ghost use Rattle.cl_bound.specs.NoGreater.{AreNoGreater};
-ghost use Rattle.cl_bound.specs.SettledChains.{IsGroupOfTask, IsSettledChain};
-ghost use Rattle.cl_phase.specs.TightAnswers.{tight_response};
+ghost use Rattle.cl_bound.specs.Bounds.{Lengths, AreBoundsOf};
+ghost use Rattle.cl_bound.specs.NoGreater.{StaysWithin, AreNoGreater};
+ghost use Rattle.cl_bound.specs.SettledChains.{IsGroupOfTask};
+ghost use Rattle.cl_bound.specs.Timings.{IsTimingOf};
+ghost use Rattle.cl_bound.specs.declared.group_timing.GroupTiming.{GroupTiming};
 ghost use Rattle.cl_phase.specs.TightBounds.{tight_bounds};
 
 /// No tight bound of a list of groups is greater than the sum of hops of its kind over the same
-/// responses, and no tight bound of a settled chain is greater than its bound of that kind.
+/// timings, nor than the tight bound over others that read no later and write no earlier.
 pub fn tight_bounds_are_no_greater()
-    // over the same responses, whatever they are
-    ensures sums { (system : System) → IsSound system → (responses : ℕ → ℕ) (groups : List Group)
+    // over the same timings, whatever their windows are
+    ensures sums { (system : System) → IsSound system
+        → (timing : Group → GroupTiming) (groups : List Group)
         → All (IsGroupOfTask system) groups
+        → All (λ (group : Group). IsTimingOf system group (timing group)) groups
         → 0 < length groups → (sums : Lengths)
-        → AreBoundsOf (map (group_timing system responses) groups) sums
-        → AreNoGreater (tight_bounds system responses groups) sums }
-    // over responses by phases, those of a settled chain against its bounds
-    ensures bounds { (system : System) → IsSound system → (groups : List Group)
-        → IsSettledChain system groups → 0 < length groups
-        → AreNoGreater (tight_bounds system (tight_response system) groups) (bounds_of system groups) }
+        → AreBoundsOf (map timing groups) sums
+        → AreNoGreater (tight_bounds system timing groups) sums }
+    // over timings that stay within others
+    ensures within { (system : System) → IsSound system
+        → (timing other : Group → GroupTiming) (groups : List Group)
+        → All (IsGroupOfTask system) groups
+        → All (λ (group : Group). StaysWithin (timing group) (other group)) groups
+        → AreNoGreater (tight_bounds system timing groups) (tight_bounds system other groups) }
 {}

@@ -8,13 +8,14 @@ use Rattle.cl_resp.specs.declared.phased.PhasedQuestion.{PhasedQuestion}
 use Rattle.cl_resp.specs.Asked.{Asked, is_answered, suffices, MayBegin, EndsBy}
 use Rattle.cl_resp.specs.Inner.Phased.{asked_of, NoneBefore, ServesAnywhere}
 
--- what a search knows of its question: no window narrower than the least holds its own demand, and the widest holds
--- whatever is asked
+-- what a search knows of its question: no window narrower than the least holds its own demand, the widest holds whatever
+-- is asked, and within the most all is answered
 pub record IsSearchOf (question : PhasedQuestion) (search : Search) : Type 0 where
   pub some : 1 ≤ search.least
   pub none : (start : ℤ) → NoneBefore (asked_of question) start search.least
   pub serves : IfSome search.widest (ServesAnywhere (asked_of question))
   pub short : IfSome search.widest (λ width. width ≤ MOST_TICKS)
+  pub answers : IfSome search.most (λ response. suffices (asked_of question) response ≡ true)
 
 -- no response up to the deadline suffices
 abbrev pub NoneSuffices : Asked → Type 0

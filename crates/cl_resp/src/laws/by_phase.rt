@@ -6,7 +6,7 @@ ghost use Rattle.cl_runs.specs.TaskTiming.{System, timing_at, IsSound};
 ghost use Rattle.cl_runs.specs.Responses.{AlwaysFinishesWithin, IsTimely};
 ghost use Rattle.cl_resp.specs.Asked.{Asked, least_response, AnswersWithin, IsLeastResponse, ComesRound};
 ghost use Rattle.cl_resp.specs.ByPhase.{asked_with, asked_by_phase, response_through, IsSettledByPhase};
-ghost use Rattle.cl_resp.specs.Clear.{greatest_through};
+ghost use Rattle.cl_resp.specs.Clear.{greatest_through, greatest_behind};
 ghost use Rattle.cl_resp.specs.Promises.{AlwaysFinishesThrough};
 ghost use Rattle.cl_resp.specs.Question.{greatest_execution};
 ghost use Rattle.cl_resp.specs.Response.{IsSettled, IsTightlySettled};
@@ -74,7 +74,8 @@ pub fn responses_by_phase_are_no_later()
 {}
 
 /// The response by phases of a task is at least its greatest jitter plus its greatest execution
-/// time. Where it has one, so have its runnables up to each place, and theirs is no later.
+/// time. Where it has one, so have its runnables up to each place, and theirs is sooner by at least
+/// the greatest times of the runnables behind that place.
 pub fn responses_by_phase_lie_between()
     ensures execution { (system : System) → IsSound system → (task response : ℕ)
         → IsSettledByPhase system task response
@@ -82,5 +83,6 @@ pub fn responses_by_phase_lie_between()
     ensures through { (system : System) → IsSound system → (task response : ℕ)
         → IsSettledByPhase system task response
         → (place : ℕ) → place < length (timing_at system task).ranges
-        → (through : ℕ) × (response_through system task place ≡ Some through) × (through ≤ response) }
+        → (through : ℕ) × (response_through system task place ≡ Some through)
+        × (through + greatest_behind (timing_at system task) place ≤ response) }
 {}

@@ -2,6 +2,15 @@ use Rattle.std.proofs.Common.{arith}
 use Rattle.cl_resp.proofs.PhasedAnswers.{serves_if, short_if, answer_is, no_answer_is, jitter_first, always_finishes}
 use Rattle.cl_resp.proofs.by_phase.respond_by_phase.Goals as goal
 
+pub response_in_window-most-requires-clause-widest : goal.response_in_window-most-requires-clause-widest
+response_in_window-most-requires-clause-widest c =
+    serves_if c.args.model.now c.ask_by_phase.ensures.valid c.args.task c.requires.task _ (omega arith) c.in_ok-question.question
+    c.in_ok-question.ensures.question c.args.widest c.requires.widest
+
+pub response_in_window-most-requires-clause-short : goal.response_in_window-most-requires-clause-short
+response_in_window-most-requires-clause-short c =
+    short_if c.args.model.now c.ask_by_phase.ensures.valid c.args.task c.requires.task c.args.widest c.requires.widest
+
 pub longest_answer-requires-clause-widest : goal.longest_answer-requires-clause-widest
 longest_answer-requires-clause-widest c =
     serves_if c.args.model.now c.ask_by_phase.ensures.valid c.args.task c.requires.task _ (omega arith) c.in_ok-question.question

@@ -2,7 +2,7 @@ use Rattle.std.proofs.Common.{sym, ap, ◌∙◌, arith}
 use Rattle.cl_runs.specs.SystemOf.{system_of}
 use Rattle.cl_runs.proofs.ModelSystem.{count_is}
 use Rattle.cl_bound.specs.Answers.{answer_with}
-use Rattle.cl_phase.proofs.TightTasks.{phased_answer}
+use Rattle.cl_tight.proofs.TightTasks.{phased_answer}
 use Rattle.cl_tight.proofs.tightening.answer_within.Goals as goal
 
 pub returns-in-Ok : goal.returns-in-Ok

@@ -1,27 +1,12 @@
-use Rattle.std.proofs.Common.{ap, ◌∙◌}
-use Rattle.cl_stim.proofs.ValidStimuli.{has_stimulus}
-use Rattle.cl_model.specs.Timing.{greatest_distance, greatest_jitter}
-use Rattle.cl_stim.specs.AnyStimulus.{kind_of}
-use Rattle.cl_comm.specs.declared.spot.Window.{Window}
-use Rattle.cl_resp.proofs.StimulusKinds.{kind_of-as_stimulus}
-use Rattle.cl_bound.proofs.ModelGroups.{timing_of_group, timing_near}
+use Rattle.cl_runs.specs.SystemOf.{system_of}
+use Rattle.cl_bound.proofs.ModelGroups.{timing_by_windows, timing_near}
 use Rattle.cl_bound.proofs.group_timing.GroupTiming.of.Goals as goal
-
-pub of-stimulus-requires : goal.of-stimulus-requires
-of-stimulus-requires c = rw c.stimulus_of.ensures (has_stimulus c.args.model.now c.task-task.ensures.valid c.args.group.task c.requires.group.known)
 
 pub returns-clause-timing : goal.returns-clause-timing
 returns-clause-timing c =
-    let kind = ap kind_of c.of-stimulus.ensures ∙ kind_of-as_stimulus c.stimulus_of.result ∙ c.stimulus_of.ensures in
-    timing_of_group c.args.model.now c.args.group c.args.response c.task-task.result.now c.requires.group c.task-task.ensures.task
-    c.core_of.result c.jitter.result c.greatest_gap.result c.access_window.result.rlo c.access_window-2.result.whi c.is_timed.result
-    c.core_of.ensures.core
-    c.is_timed.ensures
-    (c.jitter.ensures.jitter ∙ ap greatest_jitter kind)
-    (c.greatest_gap.ensures.gap ∙ ap greatest_distance kind)
-    (ap (λ (w : Window). w.rlo) c.access_window.ensures)
-    (ap (λ (w : Window). w.whi) c.access_window-2.ensures)
+    timing_by_windows (system_of c.args.model.now) c.args.group c.args.response c.access_window-read.result c.access_window-write.result c.in_window.result
+    c.access_window-read.ensures c.access_window-write.ensures c.in_window.ensures.timing
 
 pub returns-clause-near : goal.returns-clause-near
 returns-clause-near c = rw (returns-clause-timing c)
-    (timing_near c.args.model.now c.task-task.ensures.valid c.args.group c.args.response c.requires.group c.requires.holds_execution c.requires.by_deadline)
+    (timing_near c.args.model.now c.in_window.ensures.valid c.args.group c.args.response c.requires.group c.requires.holds_execution c.requires.by_deadline)

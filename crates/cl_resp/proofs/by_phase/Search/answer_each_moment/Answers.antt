@@ -1,13 +1,15 @@
-use Rattle.std.proofs.Common.{◌≡◌, ◌≤◌, ◌⊎◌, inl, inr, pos, negsuc, ◌+ℤ◌, ◌≤ℤ◌, ◌<ℤ◌, ℕ, ℤ, max, to_z, w64, sym, ap, ◌∙◌, arith}
+use Rattle.std.proofs.Common.{◌≡◌, ◌≤◌, ◌⊎◌, inl, inr, pos, negsuc, ◌+ℤ◌, ◌≤ℤ◌, ◌<ℤ◌, ℕ, ℤ, max, to_z, w64, sym, ap, ◌∙◌, subst, arith}
 use Rattle.std.specs.Prelude.{unwrap_or}
-use Rattle.std.proofs.lemmas.Bool.{cases_lt}
+use Rattle.std.proofs.lemmas.Bool.{cases_lt, leb-true}
 use Rattle.std.proofs.lemmas.Int.{ints}
 use Rattle.cl_resp.specs.Inner.Phased.{asked_of}
+use Rattle.cl_resp.specs.Inner.Searching.{IsReached, AreWithin}
 use Rattle.cl_resp.proofs.SearchedStarts.{none_is_least}
 use Rattle.cl_resp.proofs.SearchedReleases.{last_before, none_after}
 use Rattle.cl_resp.proofs.SearchedArrivals.{passed, none_reached, none_suffices, reached_more, suffices_first, last_or_before, way_falls}
-use Rattle.cl_resp.proofs.SearchedMoments.{arrives_there, begins_itself, moments_suffice, none_within, within_further}
+use Rattle.cl_resp.proofs.SearchedMoments.{arrives_there, begins_itself, moments_suffice, none_within, held_within, least_within, within_further}
 use Rattle.cl_resp.proofs.by_phase.Search.answer_each_moment.Goals as goal
+use Rattle.cl_resp.proofs.by_phase.Search.answer_each_moment.Goals.{then-not-holds+in_ok-width, else-not-holds}
 
 pub loop-start-init : goal.loop-start-init
 loop-start-init c =
@@ -56,22 +58,38 @@ loop-start-preserved c =
     let was = c.loop-start.invariant in
     let start = to_z w64 c.loop-start.start-bits in
     let last = c.last_release_before.result in
-    let width = c.in_ok-width.width in
     let longest = c.loop-start.longest in
-    let longer = c.max-longest.result in
     let there : pos 0 ≤ℤ start = omega (arith, ints, c.loop-start-test.true) in
     let below : negsuc 0 <ℤ start = omega (arith, ints, c.loop-start-test.true) in
     let earlier = last_or_before last (negsuc 0) start (last_before c.args.question.now _ c.last_release_before.result c.last_release_before.ensures) below in
     let next : passed c.unwrap_or-start.result ≡ unwrap_or last (negsuc 0) = omega (arith, ints, c.unwrap_or-start.type_inv, c.unwrap_or-start.ensures) in
-    let more : longest ≤ longer = omega (arith, c.max-longest.ensures) in
-    let enough : width ≤ longer = omega (arith, c.max-longest.ensures) in
+    let none = none_after c.args.question.now _ c.last_release_before.result c.last_release_before.ensures in
     record {
       by_end = omega (arith, ints, next, earlier, was.by_end);
-      reached = reached_more asked range.arrivals.is_phase start there was.by_end (arrives_there question range c.requires.each start)
-          start (begins_itself question range c.requires.each start) longest longer width was.reached c.in_ok-width.ensures.0
-          (omega (arith, ints, c.in_ok-width.ensures.1)) (either longest width longer start c.max-longest.ensures);
-      within = within_further question longest longer width start (pos question.cycle) (passed c.unwrap_or-start.result) (negsuc 0) last
-          was.within c.in_ok-width.ensures.0 more enough next (none_after c.args.question.now _ c.last_release_before.result c.last_release_before.ensures);
+      reached = elim c.if-not-holds.branch [
+        | then-not-holds+in_ok-width w ↦
+            let width = w.in_ok-width.width in
+            let longer = w.max-longest.result in
+            subst (IsReached asked) (sym w.longest-is)
+            (reached_more asked range.arrivals.is_phase start there was.by_end (arrives_there question range c.requires.each start)
+            start (begins_itself question range c.requires.each start) longest longer width was.reached w.in_ok-width.ensures.0
+            (omega (arith, ints, w.in_ok-width.ensures.1)) (either longest width longer start w.max-longest.ensures))
+        | else-not-holds w ↦ subst (IsReached asked) (sym w.longest-is) was.reached
+      ];
+      within = elim c.if-not-holds.branch [
+        | then-not-holds+in_ok-width w ↦
+            let width = w.in_ok-width.width in
+            let longer = w.max-longest.result in
+            let more : longest ≤ longer = omega (arith, w.max-longest.ensures) in
+            let enough : width ≤ longer = omega (arith, w.max-longest.ensures) in
+            subst (λ n. AreWithin asked n (passed c.unwrap_or-start.result) (pos question.cycle)) (sym w.longest-is)
+            (within_further question longest longer start (pos question.cycle) (passed c.unwrap_or-start.result) (negsuc 0) last
+            was.within more (least_within question longer width start w.in_ok-width.ensures.0 enough) next none)
+        | else-not-holds w ↦
+            subst (λ n. AreWithin asked n (passed c.unwrap_or-start.result) (pos question.cycle)) (sym w.longest-is)
+            (within_further question longest longest start (pos question.cycle) (passed c.unwrap_or-start.result) (negsuc 0) last
+            was.within (omega arith) (held_within question longest start range.beside.some_time (leb-true _ _ (sym c.holds.ensures ∙ w.if-not-holds.false))) next none)
+      ];
     }
   where
     either : (longest width longer : ℕ) (start : ℤ) → longer ≡ max longest width → (longer ≡ longest) ⊎ ((start +ℤ pos width) ≡ (start +ℤ pos longer))

@@ -1,0 +1,15 @@
+pub mod LeadTotals
+pub mod LeadTicks
+pub mod LeadArrivals
+pub mod LeadWork
+pub mod LeadStarts
+pub mod LeadRanges
+pub mod LeastLeads
+pub mod LeadReads
+pub mod LeadModels
+pub mod LeadTimes
+pub mod SureArrivals
+pub mod SureRaises
+pub mod SureLeads
+pub mod SureTasks
+pub mod SureAhead

@@ -1,0 +1,20 @@
+use Rattle.std.proofs.Common.{◌≡◌, to_z, of_z, w64, ap, sym, ◌∙◌, arith}
+use Rattle.std.proofs.lemmas.Int.{ints}
+use Rattle.cl_runs.specs.SystemOf.{system_of}
+use Rattle.cl_phase.specs.TightBounds.{hyperperiod_in}
+use Rattle.cl_phase.proofs.BoundsByWalks.{bounds_by_walks}
+use Rattle.cl_phase.proofs.bounding.tight_bounds.Goals as goal
+
+pub returns-clause-bounds : goal.returns-clause-bounds
+returns-clause-bounds c = λ timing are.
+    let course = c.course_of-course.ensures.course in
+    let stops = c.as_slice-stops.result.now in
+    let value = c.as_slice-stops.ensures.value in
+    let system = system_of c.args.model.now in
+    let span : to_z w64 (of_z w64 c.course_of-course.result.span) ≡ c.course_of-course.result.span = omega (arith, ints, course.span_near) in
+    c.new.ensures
+    ∙ bounds_by_walks system timing c.args.groups.now stops (to_z w64 (of_z w64 c.course_of-course.result.span)) c.slowest-place.result
+    c.course_of-course.result.keeping.hyperperiod c.longest-longest.result
+    (value ∙ course.stops_are timing are) (span ∙ course.span_is timing are) c.slowest-place.ensures.slowest
+    (course.kept.hyperperiod ∙ ap hyperperiod_in (sym value))
+    c.longest-longest.ensures

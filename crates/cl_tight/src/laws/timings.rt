@@ -1,0 +1,38 @@
+//! What tight bounds know of groups by the phases of their cores: that it holds in every legal run,
+//! and that it is no less than what responses alone say.
+ghost use Rattle.std.specs.Prelude.{◌≡◌, false};
+ghost use Rattle.cl_model.specs.declared.group.Group.{Group};
+ghost use Rattle.cl_model.specs.declared.model.SystemModel.{SystemModel};
+ghost use Rattle.cl_model.specs.Groups.{IsGroupOf};
+ghost use Rattle.cl_model.specs.Validity.{IsValid};
+ghost use Rattle.cl_runs.specs.SystemOf.{system_of};
+ghost use Rattle.cl_bound.specs.Answers.{answers_of, answer_at, is_late};
+ghost use Rattle.cl_bound.specs.Bounds.{settled_timing};
+ghost use Rattle.cl_bound.specs.Hops.{group_timing};
+ghost use Rattle.cl_bound.specs.NoGreater.{StaysWithin};
+ghost use Rattle.cl_bound.specs.Timings.{AlwaysKeeps};
+ghost use Rattle.cl_tight.specs.TightAnswers.{tight_answers_of, tight_response};
+ghost use Rattle.cl_tight.specs.TightTimings.{tight_timing};
+
+/// What tight bounds know of a group of a valid model always holds, if its task isn't late by
+/// phases: each job reads at the lead or later, and has written by its latest write.
+pub fn timings_by_phases_hold()
+    ensures { (model : SystemModel) → IsValid model → (group : Group) → IsGroupOf model group
+        → is_late (answer_at (tight_answers_of (system_of model)) group.task) ≡ false
+        → AlwaysKeeps (system_of model) group (tight_timing (system_of model) group) }
+{}
+
+/// Such a group reads no earlier and writes no later than its task's response alone says, by phases
+/// or, where the task isn't late by it, by the report.
+pub fn timings_by_phases_stay_within()
+    ensures response { (model : SystemModel) → IsValid model → (group : Group)
+        → IsGroupOf model group
+        → is_late (answer_at (tight_answers_of (system_of model)) group.task) ≡ false
+        → StaysWithin (tight_timing (system_of model) group)
+        (group_timing (system_of model) (tight_response (system_of model)) group) }
+    ensures report { (model : SystemModel) → IsValid model → (group : Group)
+        → IsGroupOf model group
+        → is_late (answer_at (answers_of (system_of model)) group.task) ≡ false
+        → StaysWithin (tight_timing (system_of model) group)
+        (settled_timing (system_of model) group) }
+{}
