@@ -1,9 +1,11 @@
 -- The lines that stand for a document are printable ASCII.
-use Rattle.std.proofs.Common.{ℕ, ◌+◌, Bool, true, false, ◌==◌, cond, List, [], ◌∷◌, ◌++◌, length, Option, Some, None, refl}
+use Rattle.std.proofs.Common.{ℕ, ◌+◌, Bool, true, false, leb, cond, List, [], ◌∷◌, ◌++◌, length, Option, Some, None, refl}
 use Rattle.std.specs.Fmt.{decimal}
 use Rattle.std.specs.Prelude.{codes, IfSome}
 use Rattle.std.specs.Option.{option_map, option_and_then}
 use Rattle.toml.specs.Data.{Data, string, integer, float, boolean, datetime, array, table, Members, get}
+use Rattle.cl_model.specs.declared.chain.LengthKind.TheVariants.{Reaction, Age, Reduced}
+use Rattle.cl_model.specs.declared.chain.RequirementKind.TheVariants.{Length, Delay}
 use Rattle.cl_model.specs.declared.place.Place.{Place}
 use Rattle.cl_model.specs.declared.place.Key.TheVariants as key
 use Rattle.cl_model.specs.declared.refusal.Code.{Code}
@@ -84,13 +86,19 @@ printed_kinds : (bursts : Bool)
 printed_kinds true = refl
 printed_kinds false = refl
 
+-- the kinds of requirements, with delays or without them
+printed_requirements : (delays : Bool)
+    → Printed (one_of (listed_words ((codes "reaction", Length Reaction) ∷ (codes "age", Length Age) ∷ (codes "reduced", Length Reduced) ∷ cond delays ((codes "delay", Delay) ∷ []) [])))
+printed_requirements true = refl
+printed_requirements false = refl
+
 printed_want : (w : Want) → Printed (want_text w)
 printed_want want.Name = refl
 printed_want (want.Number low high) = printed_range low high
 printed_want want.Format = refl
 printed_want want.Access = refl
-printed_want want.Length = refl
-printed_want (want.Kind version) = printed_kinds (version == 2)
+printed_want (want.Kind version) = printed_kinds (leb 2 version)
+printed_want (want.RequirementKind version) = printed_requirements (leb 3 version)
 printed_want want.Boolean = refl
 printed_want (want.Array limit) = refl
 printed_want want.Table = refl

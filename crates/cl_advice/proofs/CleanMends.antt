@@ -1,5 +1,5 @@
 -- What an advice says to write is printable ASCII, and so is the whole.
-use Rattle.std.proofs.Common.{ℕ, Bool, ◌&&◌, ◌==◌, cond, List, ◌++◌, Option, Some, None, is_some, refl}
+use Rattle.std.proofs.Common.{ℕ, Bool, ◌&&◌, ◌==◌, leb, cond, List, ◌++◌, Option, Some, None, is_some, refl}
 use Rattle.std.proofs.lemmas.List.Sums.{AllPass-from_list_all}
 use Rattle.std.specs.Fmt.{decimal}
 use Rattle.std.specs.List.{AllPass}
@@ -31,7 +31,7 @@ use Rattle.cl_advice.specs.Entry.{entry_line, runnable_line}
 use Rattle.cl_advice.specs.Found.{key_line, found_line}
 use Rattle.cl_advice.specs.Wanted.{want_at, wanted_line}
 use Rattle.cl_advice.specs.With.{with_lines}
-use Rattle.cl_advice.specs.Mend.{runnable_key_mend, part_key_mend, unknown_mend, section_mend, array_mend, kind_mend, is_burst_word, word_mend, unread_mend, code_mend, mend_text, mended_line, mend_line}
+use Rattle.cl_advice.specs.Mend.{runnable_key_mend, part_key_mend, unknown_mend, section_mend, array_mend, kind_mend, says_word, word_mend, unread_mend, code_mend, mend_text, mended_line, mend_line}
 use Rattle.cl_advice.specs.Advice.{advice_text, at_line, message_line, unread_text}
 use Rattle.cl_advice.proofs.CleanWords.{Printed, printed_both, printed_chosen, printed_line, printed_shown, printed_decimal, printed_part}
 use Rattle.cl_advice.proofs.CleanLines.{printed_numbered_line, printed_key_line, printed_value_line, printed_want_line}
@@ -65,7 +65,8 @@ printed_kind place (want.Array limit) = printed_array place.part place.key
 printed_kind place _ = refl
 
 printed_word : (ms : Members) (place : Place) (p : Part) → Printed (word_mend ms place p)
-printed_word ms place part.Stimulus = one_of_two (is_burst_word (value_in ms place) && (version_in ms == 1)) _ _ refl refl
+printed_word ms place part.Stimulus = one_of_two (says_word (codes "burst") (value_in ms place) && (version_in ms == 1)) _ _ refl refl
+printed_word ms place part.Requirement = one_of_two (says_word (codes "delay") (value_in ms place) && leb (version_in ms) 2) _ _ refl refl
 printed_word ms place _ = refl
 
 printed_unknown_if : (place : Place) (word : Option (List ℕ)) → IfSome (option_map (unknown_mend place) word) Printed

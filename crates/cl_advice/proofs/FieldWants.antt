@@ -52,8 +52,8 @@ pub asks_chain : (version : ℕ) → All (AsksByCheck version part.Chain) chain_
 asks_chain version =
     all_of (AsksByCheck version part.Chain) chain_fields (refl, ((at_spot, a_name, refl), ((at_spot, a_name, refl), tt)))
 
-pub asks_requirement : (version : ℕ) → All (AsksByCheck version part.Requirement) requirement_fields
-asks_requirement version = all_of (AsksByCheck version part.Requirement) requirement_fields (refl, (refl, (refl, (refl, tt))))
+pub asks_requirement : (version : ℕ) → All (AsksByCheck version part.Requirement) (requirement_fields version)
+asks_requirement version = all_of (AsksByCheck version part.Requirement) (requirement_fields version) (refl, (refl, (refl, (refl, tt))))
 
 -- a section asks for an array of its limit
 abbrev pub AsksByLimit : Section → Type 0

@@ -31,7 +31,7 @@ part_keys version part.Stimulus ms = key.Name ∷ key.Kind ∷ form_keys (word_i
 part_keys version part.Label ms = keys_of label_fields
 part_keys version part.Task ms = keys_of task_fields
 part_keys version part.Chain ms = keys_of chain_fields
-part_keys version part.Requirement ms = keys_of requirement_fields
+part_keys version part.Requirement ms = keys_of (requirement_fields version)
 
 -- the keys that the table around a place may have
 abbrev pub known_keys : (version : ℕ) → Place → Members → List Key

@@ -1,5 +1,5 @@
 -- What to write instead.
-use Rattle.std.specs.Prelude.{ℕ, ◌&&◌, ◌==◌, Bool, false, if◌then◌else◌, List, ◌++◌, [], Option, Some, None, is_some, codes}
+use Rattle.std.specs.Prelude.{ℕ, ◌&&◌, ◌==◌, nat_le, Bool, false, if◌then◌else◌, List, ◌++◌, [], Option, Some, None, is_some, codes}
 use Rattle.std.specs.Option.{option_map}
 use Rattle.std.specs.Str.{bytes_eq}
 use Rattle.toml.specs.Data.{Data, string, Members}
@@ -69,22 +69,25 @@ kind_mend place want.Name = codes "write a name in quotes"
 kind_mend place (want.Number low high) = codes "write a whole number, without quotes, point or unit"
 kind_mend place want.Format = codes "write one of these words in quotes"
 kind_mend place want.Access = codes "write one of these words in quotes"
-kind_mend place want.Length = codes "write one of these words in quotes"
 kind_mend place (want.Kind version) = codes "write one of these words in quotes"
+kind_mend place (want.RequirementKind version) = codes "write one of these words in quotes"
 kind_mend place want.Boolean = codes "write true or false, without quotes"
 kind_mend place (want.Array limit) = array_mend place.part place.key
 kind_mend place want.Table = codes "begin each entry with its header in double brackets"
 
 -- ---- another word
 
-abbrev pub is_burst_word : Option Data → Bool
-is_burst_word (Some (string word)) = bytes_eq (codes "burst") word
-is_burst_word _ = false
+-- whether a word stands there
+abbrev pub says_word : List ℕ → Option Data → Bool
+says_word word (Some (string found)) = bytes_eq word found
+says_word word _ = false
 
--- a stimulus of a file of version 1 whose kind is the word `burst`, and any other word
+-- a word that a later version has: `burst` in a file of version 1, and `delay` before version 3; and any other word
 abbrev pub word_mend : Members → Place → Part → List ℕ
 word_mend ms place part.Stimulus =
-    if is_burst_word (value_in ms place) && (version_in ms == 1) then codes "version = 2 has bursts" else codes "write one of these words in quotes"
+    if says_word (codes "burst") (value_in ms place) && (version_in ms == 1) then codes "version = 2 has bursts" else codes "write one of these words in quotes"
+word_mend ms place part.Requirement =
+    if says_word (codes "delay") (value_in ms place) && nat_le (version_in ms) 2 then codes "version = 3 has delay" else codes "write one of these words in quotes"
 word_mend ms place _ = codes "write one of these words in quotes"
 
 -- ---- by the code
@@ -97,7 +100,7 @@ unread_mend = codes "write TOML 1.1 in UTF-8"
 abbrev pub code_mend : Code → Option (List ℕ)
 code_mend code.M1 = Some unread_mend
 code_mend code.M2 = Some (codes "format = \"chainlat\"")
-code_mend code.M3 = Some (codes "version = 1 or version = 2")
+code_mend code.M3 = Some (codes "version = 1, version = 2 or version = 3")
 code_mend code.M5 = Some (codes "add the key")
 code_mend code.M7 = Some (codes "write 1 to 64 letters, digits, _ . - and nothing else")
 code_mend code.M8 = Some (codes "write a number of this range")

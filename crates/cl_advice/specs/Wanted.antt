@@ -14,7 +14,7 @@ use Rattle.cl_model.specs.declared.refusal.Code.TheVariants as code
 use Rattle.cl_model.specs.declared.refusal.Refusal.{Refusal}
 use Rattle.cl_model.specs.Place.{key_text}
 use Rattle.cl_model.specs.Reading.{version_in}
-use Rattle.cl_model.specs.Reading.Tables.{access_words, length_words, stimulus_forms}
+use Rattle.cl_model.specs.Reading.Tables.{access_words, stimulus_forms, requirement_words}
 use Rattle.cl_advice.specs.declared.want.Want.{Want}
 use Rattle.cl_advice.specs.declared.want.Want.TheVariants as want
 use Rattle.cl_advice.specs.Sites.{table_around}
@@ -31,13 +31,13 @@ zero_time_want = want.Number 0 MOST_TICKS
 
 -- what a key `kind` asks for: that of a requirement, and that of a stimulus
 abbrev pub kind_want : (version : ℕ) → Part → Want
-kind_want version part.Requirement = want.Length
+kind_want version part.Requirement = want.RequirementKind version
 kind_want version _ = want.Kind version
 
 -- what a key asks for, in a table of a part
 abbrev pub key_want : (version : ℕ) → Part → Key → Want
 key_want version p key.Format = want.Format
-key_want version p key.Version = want.Number 1 2
+key_want version p key.Version = want.Number 1 3
 key_want version p key.Core = want.Name
 key_want version p key.Stimulus = want.Name
 key_want version p key.Label = want.Array MOST_LABELS
@@ -110,8 +110,8 @@ want_text want.Name = codes "a name: 1 to 64 of letters, digits, _ . -"
 want_text (want.Number low high) = range_text low high
 want_text want.Format = one_of (codes "chainlat" ∷ [])
 want_text want.Access = one_of (listed_words access_words)
-want_text want.Length = one_of (listed_words length_words)
 want_text (want.Kind version) = one_of (listed_words (stimulus_forms version))
+want_text (want.RequirementKind version) = one_of (listed_words (requirement_words version))
 want_text want.Boolean = codes "true or false"
 want_text (want.Array limit) = codes "an array"
 want_text want.Table = codes "a table"

@@ -5,7 +5,7 @@ use Rattle.cl_model.specs.declared.place.Part.{Part}
 use Rattle.cl_model.specs.declared.place.Place.{Place}
 use Rattle.cl_model.specs.declared.refusal.Refusal.{Refusal}
 use Rattle.cl_model.specs.Reading.Checks.{Check, Field, a_name, a_number, a_boolean, a_word, an_array, a_table}
-use Rattle.cl_model.specs.Reading.Tables.{access_words, length_words, stimulus_forms}
+use Rattle.cl_model.specs.Reading.Tables.{access_words, stimulus_forms, requirement_words}
 use Rattle.cl_advice.specs.declared.want.Want.{Want}
 use Rattle.cl_advice.specs.declared.want.Want.TheVariants as want
 use Rattle.cl_advice.specs.Wanted.{key_want}
@@ -16,8 +16,8 @@ IsCheckOf want.Name check = check ≡ a_name
 IsCheckOf (want.Number low high) check = check ≡ a_number low high
 IsCheckOf want.Format check = ⊥
 IsCheckOf want.Access check = check ≡ a_word access_words
-IsCheckOf want.Length check = check ≡ a_word length_words
 IsCheckOf (want.Kind version) check = check ≡ a_word (stimulus_forms version)
+IsCheckOf (want.RequirementKind version) check = check ≡ a_word (requirement_words version)
 IsCheckOf want.Boolean check = check ≡ a_boolean
 IsCheckOf (want.Array limit) check = (place_in : ℕ → Place → Place) × (member : Check) × (check ≡ an_array limit place_in member)
 IsCheckOf want.Table check = (asked : Place → Members → List Refusal) × (check ≡ a_table asked)

@@ -33,7 +33,7 @@ fn kind_keys(version: u64, word: &str) -> &'static [Key]
     match word {
         "periodic" => &[Key::Name, Key::Kind, Key::Period, Key::Offset, Key::Jitter],
         "sporadic" => &[Key::Name, Key::Kind, Key::Least, Key::Greatest],
-        "burst" if version == 2 => &[
+        "burst" if version >= 2 => &[
             Key::Name,
             Key::Kind,
             Key::Period,

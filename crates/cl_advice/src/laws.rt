@@ -82,7 +82,7 @@ pub fn wants_are_those_of_the_reader()
     ensures runnables { (version : ℕ) → All (AsksByCheck version part.Task) runnable_fields }
     ensures chains { (version : ℕ) → All (AsksByCheck version part.Chain) chain_fields }
     ensures requirements { (version : ℕ)
-        → All (AsksByCheck version part.Requirement) requirement_fields }
+        → All (AsksByCheck version part.Requirement) (requirement_fields version) }
     ensures sections { All
         (λ section. section_want section.part ≡ want.Array section.limit) sections }
 {}

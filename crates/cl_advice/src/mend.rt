@@ -1,7 +1,7 @@
 //! The line of what to write instead.
-ghost use Rattle.std.specs.Prelude.{◌≡◌, ◌++◌, ◌==◌, ◌&&◌, Some, option_map, OnOk};
+ghost use Rattle.std.specs.Prelude.{◌≡◌, ◌++◌, ◌==◌, ◌&&◌, nat_le, Some, codes, option_map, OnOk};
 ghost use Rattle.toml.specs.View.{view, table_view};
-ghost use Rattle.cl_advice.specs.Mend.{runnable_key_mend, task_key_mend, top_key_mend, part_key_mend, unknown_mend, section_mend, array_mend, kind_mend, is_burst_word, word_mend, code_mend, mend_text, mended_line, mend_line};
+ghost use Rattle.cl_advice.specs.Mend.{runnable_key_mend, task_key_mend, top_key_mend, part_key_mend, unknown_mend, section_mend, array_mend, kind_mend, says_word, word_mend, code_mend, mend_text, mended_line, mend_line};
 ghost use Rattle.cl_model.specs.declared.refusal.Code.TheVariants.{M4};
 ghost use Rattle.cl_model.specs.Reading.{version_in};
 ghost use Rattle.cl_advice.specs.Sites.{value_in};
@@ -101,7 +101,7 @@ fn kind(place: Place, want: Want) -> &'static [u8]
     match want {
         Want::Name => b"write a name in quotes",
         Want::Number { .. } => b"write a whole number, without quotes, point or unit",
-        Want::Format | Want::Access | Want::Length | Want::Kind { .. } => {
+        Want::Format | Want::Access | Want::Kind { .. } | Want::RequirementKind { .. } => {
             b"write one of these words in quotes"
         }
         Want::Boolean => b"write true or false, without quotes",
@@ -110,11 +110,12 @@ fn kind(place: Place, want: Want) -> &'static [u8]
     }
 }
 
-fn is_burst_word(value: Option<&Value>) -> bool
-    ensures { result ≡ is_burst_word (option_map (λ value. view value.now) value.entry) }
+/// Whether a value is a word.
+fn says_word(value: Option<&Value>, word: &str) -> bool
+    ensures { result ≡ says_word word.now (option_map (λ value. view value.now) value.entry) }
 {
     match value {
-        Some(Value::String(word)) => word.as_str() == "burst",
+        Some(Value::String(found)) => found.as_str() == word,
         _ => false,
     }
 }
@@ -122,9 +123,17 @@ fn is_burst_word(value: Option<&Value>) -> bool
 /// Whether a document of version 1 has the word `burst` at a place.
 fn is_late_burst(table: &Table, place: Place) -> bool
     ensures { let ms = table_view table.now in
-        result ≡ (is_burst_word (value_in ms place) && (version_in ms == 1)) }
+        result ≡ (says_word (codes "burst") (value_in ms place) && (version_in ms == 1)) }
 {
-    is_burst_word(value_in(table, place)) && version_in(table) == 1
+    says_word(value_in(table, place), "burst") && version_in(table) == 1
+}
+
+/// Whether a document of version 1 or 2 has the word `delay` at a place.
+fn is_late_delay(table: &Table, place: Place) -> bool
+    ensures { let ms = table_view table.now in
+        result ≡ (says_word (codes "delay") (value_in ms place) && nat_le (version_in ms) 2) }
+{
+    says_word(value_in(table, place), "delay") && version_in(table) <= 2
 }
 
 /// Says what to write instead of a word that isn't known at a place.
@@ -135,6 +144,13 @@ fn other_word(table: &Table, place: Place) -> &'static [u8]
         Part::Stimulus => {
             if is_late_burst(table, place) {
                 b"version = 2 has bursts"
+            } else {
+                b"write one of these words in quotes"
+            }
+        }
+        Part::Requirement => {
+            if is_late_delay(table, place) {
+                b"version = 3 has delay"
             } else {
                 b"write one of these words in quotes"
             }
@@ -151,7 +167,7 @@ fn code_words(code: Code) -> Option<&'static [u8]>
     match code {
         Code::M1 => Some(b"write TOML 1.1 in UTF-8"),
         Code::M2 => Some(b"format = \"chainlat\""),
-        Code::M3 => Some(b"version = 1 or version = 2"),
+        Code::M3 => Some(b"version = 1, version = 2 or version = 3"),
         Code::M5 => Some(b"add the key"),
         Code::M7 => Some(b"write 1 to 64 letters, digits, _ . - and nothing else"),
         Code::M8 => Some(b"write a number of this range"),

@@ -19,10 +19,10 @@ pub enum Want {
     Format,
     /// The word of a kind of access.
     Access,
-    /// The word of a kind of length.
-    Length,
     /// The word of a kind of stimulus that files of this version have.
     Kind { version: u64 },
+    /// The word of a kind of requirement that files of this version have.
+    RequirementKind { version: u64 },
     /// True or false.
     Boolean,
     /// An array of at most `limit` entries.
@@ -54,7 +54,7 @@ impl Want {
         ensures { result ≡ kind_want version part }
     {
         match part {
-            Part::Requirement => Want::Length,
+            Part::Requirement => Want::RequirementKind { version },
             _ => Want::Kind { version },
         }
     }
@@ -65,7 +65,7 @@ impl Want {
     {
         match key {
             Key::Format => Want::Format,
-            Key::Version => Want::Number { low: 1, high: 2 },
+            Key::Version => Want::Number { low: 1, high: 3 },
             Key::Core | Key::Stimulus | Key::Chain | Key::Name => Want::Name,
             Key::Label => Want::Array { limit: MOST_LABELS },
             Key::Task => Want::Array { limit: MOST_TASKS },

@@ -29,10 +29,21 @@ fn put_range(text: &mut Text, low: u64, high: u64) -> Result<(), NoMemory>
 fn kinds(version: u64) -> &'static [u8]
     ensures { result.now ≡ want_text (want.Kind version) }
 {
-    if version == 2 {
+    if version >= 2 {
         b"one of periodic, sporadic, burst"
     } else {
         b"one of periodic, sporadic"
+    }
+}
+
+/// Returns the kinds of requirements that files of this version have.
+fn requirement_kinds(version: u64) -> &'static [u8]
+    ensures { result.now ≡ want_text (want.RequirementKind version) }
+{
+    if version >= 3 {
+        b"one of reaction, age, reduced, delay"
+    } else {
+        b"one of reaction, age, reduced"
     }
 }
 
@@ -45,8 +56,8 @@ fn put_want(text: &mut Text, want: Want) -> Result<(), NoMemory>
         Want::Number { low, high } => put_range(text, low, high),
         Want::Format => text.put(b"one of chainlat"),
         Want::Access => text.put(b"one of explicit, implicit, timed"),
-        Want::Length => text.put(b"one of reaction, age, reduced"),
         Want::Kind { version } => text.put(kinds(version)),
+        Want::RequirementKind { version } => text.put(requirement_kinds(version)),
         Want::Boolean => text.put(b"true or false"),
         Want::Array { .. } => text.put(b"an array"),
         Want::Table => text.put(b"a table"),

@@ -5,12 +5,14 @@ use Rattle.std.specs.Prelude.{if◌then◌else◌}
 use Rattle.std.proofs.lemmas.Bool.Decides.{nat_tests}
 use Rattle.cl_model.specs.declared.chain.LengthKind.{LengthKind}
 use Rattle.cl_model.specs.declared.chain.LengthKind.TheVariants.{Reaction, Age, Reduced}
+use Rattle.cl_model.specs.declared.chain.RequirementKind.{RequirementKind}
+use Rattle.cl_model.specs.declared.chain.RequirementKind.TheVariants.{Length, Delay}
 use Rattle.cl_model.specs.declared.group.Group.{Group}
 use Rattle.cl_runs.specs.TaskTiming.{System}
 use Rattle.cl_runs.specs.Run.{Run}
 use Rattle.cl_runs.specs.Chains.{JobChain, chain_length, last_group}
 use Rattle.cl_runs.specs.RunChains.{run_moments}
-use Rattle.cl_runs.specs.Requirements.{IsChainOfKind}
+use Rattle.cl_runs.specs.Requirements.{IsChainOfKind, IsChainRequired}
 use Rattle.cl_bound.specs.Bounds.{Lengths}
 use Rattle.cl_bound.specs.Promises.{AreAtLeast}
 use Rattle.cl_exact.specs.Hyperperiod.{period_of}
@@ -21,7 +23,7 @@ use Rattle.cl_analyse.specs.declared.findings.ChainAnswer.TheVariants as bounded
 use Rattle.cl_analyse.specs.declared.findings.ExactAnswer.{ExactAnswer}
 use Rattle.cl_analyse.specs.declared.findings.ExactAnswer.TheVariants.{Exact, Past, NotTimed, ChainLate}
 use Rattle.cl_analyse.specs.declared.findings.Verdict.TheVariants.{Met, Broken, Unshown}
-use Rattle.cl_analyse.specs.Verdicts.{bound_of_kind, witness_of_kind, bound_value, exact_value, verdict_on}
+use Rattle.cl_analyse.specs.Verdicts.{witness_of_kind, limited_bound, required_bound, required_exact, verdict_on}
 
 -- ---- the value of what is met
 
@@ -59,30 +61,32 @@ broken_by most value None None is = absurd cc
 
 -- ---- where a value comes from
 
-pub exact_valued : (kind : LengthKind) (answer : ExactAnswer) (value : ℕ) → exact_value kind answer ≡ Some value
-    → (lengths : Witnesses) × (answer ≡ Exact lengths) × ((witness_of_kind kind lengths).length ≡ value)
-exact_valued kind (Exact lengths) value is = (lengths, refl, cc)
-exact_valued kind (Past limit) value is = absurd cc
-exact_valued kind NotTimed value is = absurd cc
-exact_valued kind ChainLate value is = absurd cc
+-- an exact value is the length of the witness of a kind
+pub required_valued : (kind : RequirementKind) (answer : ExactAnswer) (value : ℕ) → required_exact kind answer ≡ Some value
+    → (own : LengthKind) × (kind ≡ Length own) × (lengths : Witnesses) × (answer ≡ Exact lengths) × ((witness_of_kind own lengths).length ≡ value)
+required_valued (Length kind) (Exact lengths) value is = (kind, refl, lengths, refl, cc)
+required_valued Delay (Exact lengths) value is = absurd cc
+required_valued kind (Past limit) value is = absurd cc
+required_valued kind NotTimed value is = absurd cc
+required_valued kind ChainLate value is = absurd cc
 
-pub bound_valued : (kind : LengthKind) (answer : ChainAnswer) (value : ℕ) → bound_value kind answer ≡ Some value
-    → (bounds : Lengths) × (answer ≡ bounded.Bounds bounds) × (bound_of_kind kind bounds ≡ value)
+pub bound_valued : (kind : RequirementKind) (answer : ChainAnswer) (value : ℕ) → required_bound kind answer ≡ Some value
+    → (bounds : Lengths) × (answer ≡ bounded.Bounds bounds) × (limited_bound kind bounds ≡ value)
 bound_valued kind (bounded.Bounds bounds) value is = (bounds, refl, cc)
 bound_valued kind (bounded.Late task) value is = absurd cc
 
 -- ---- chains of a kind
 
--- a complete chain of a kind that is so long
-pub record HasChain (system : System) (groups : List Group) (run : Run) (kind : LengthKind) (length : ℕ) : Type 0 where
+-- a chain of a kind of requirement that is so long
+pub record HasChain (system : System) (groups : List Group) (run : Run) (kind : RequirementKind) (length : ℕ) : Type 0 where
   pub chain : JobChain
-  pub complete : IsChainOfKind kind (run_moments system run) groups chain
+  pub complete : IsChainRequired kind system run groups chain
   pub is_long : chain_length chain ≡ length
 
 -- a run that lasts to the end of each witness has a chain of each exact length
 pub kind_attained : (system : System) (groups : List Group) (run : Run) (kind : LengthKind) (lengths : Witnesses) → AreAttainedIn system groups lengths run
     → lengths.reaction.to + lengths.age.to + (lengths.reduced.to + period_of system (last_group groups)) ≤ run.table.ticks
-    → HasChain system groups run kind (witness_of_kind kind lengths).length
+    → HasChain system groups run (Length kind) (witness_of_kind kind lengths).length
 kind_attained system groups run Reaction lengths attained lasts =
     let found = attained.reaction (omega (arith, lasts)) in record { chain = chain_of lengths.reaction; complete = found.is_chain; is_long = found.length }
 kind_attained system groups run Age lengths attained lasts =
@@ -97,8 +101,9 @@ module _ (system : System) (groups : List Group) (run : Run) (chain : JobChain) 
   kind_exact Age lengths greatest is = greatest.age chain is
   kind_exact Reduced lengths greatest is = greatest.reduced chain is
 
-  pub kind_bound : (kind : LengthKind) (bounds : Lengths) → AreAtLeast system groups bounds run → IsChainOfKind kind (run_moments system run) groups chain
-      → chain_length chain ≤ bound_of_kind kind bounds
-  kind_bound Reaction bounds safe is = safe.reaction chain is
-  kind_bound Age bounds safe is = safe.age chain is
-  kind_bound Reduced bounds safe is = safe.reduced chain is
+  pub kind_bound : (kind : RequirementKind) (bounds : Lengths) → AreAtLeast system groups bounds run → IsChainRequired kind system run groups chain
+      → chain_length chain ≤ limited_bound kind bounds
+  kind_bound (Length Reaction) bounds safe is = safe.reaction chain is
+  kind_bound (Length Age) bounds safe is = safe.age chain is
+  kind_bound (Length Reduced) bounds safe is = safe.reduced chain is
+  kind_bound Delay bounds safe is = safe.delay chain is

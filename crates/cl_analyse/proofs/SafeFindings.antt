@@ -19,7 +19,7 @@ use Rattle.cl_runs.specs.SystemOf.{system_of}
 use Rattle.cl_runs.specs.Chains.{last_group}
 use Rattle.cl_runs.proofs.ModelSystem.{count_is, system_sound}
 use Rattle.cl_runs.proofs.Extension.{some_legal}
-use Rattle.cl_runs.specs.Requirements.{required_chain, no_requirement, requirement_at, IsKept, IsBroken}
+use Rattle.cl_runs.specs.Requirements.{IsChainRequired, required_chain, no_requirement, requirement_at, IsKept, IsBroken}
 use Rattle.cl_runs.specs.Responses.{AlwaysFinishesWithin}
 use Rattle.cl_runs.proofs.FirstFound.{first_found}
 use Rattle.cl_resp.specs.Response.{Response, IsSettled}
@@ -46,13 +46,13 @@ use Rattle.cl_analyse.specs.declared.findings.Verdict.{Verdict}
 use Rattle.cl_analyse.specs.declared.findings.Verdict.TheVariants.{Met, Broken, Unshown}
 use Rattle.cl_analyse.specs.declared.findings.Findings.{Findings}
 use Rattle.cl_analyse.specs.ChainAnswers.{first_late, chain_answer, chain_answer_of, chain_answers_of, chain_answer_at, exact_answer_at, IsTimelyAnswer, IsExactAnswer, AreExactAnswers}
-use Rattle.cl_analyse.specs.Verdicts.{bound_value, exact_value, verdict_of, verdicts_of, verdict_at}
+use Rattle.cl_analyse.specs.Verdicts.{required_bound, required_exact, verdict_of, verdicts_of, verdict_at}
 use Rattle.cl_analyse.specs.Findings.{AreFindings}
 use Rattle.cl_analyse.specs.Headline.{task_of_step, IsFirstWithoutFixpoint, IsExactBecause, AreWithinBounds, AreSafeFindings}
 use Rattle.cl_analyse.proofs.FirstLate.{settled_groups}
 use Rattle.cl_analyse.proofs.LateTasks.{late_without, timely_with}
 use Rattle.cl_analyse.proofs.ExactAnswers.{one_exacts, settled_have_responses}
-use Rattle.cl_analyse.proofs.KeptRequirements.{met_by, broken_by, kind_attained, exact_valued, bound_valued, kind_exact, kind_bound}
+use Rattle.cl_analyse.proofs.KeptRequirements.{met_by, broken_by, kind_attained, required_valued, bound_valued, kind_exact, kind_bound}
 
 -- ---- the answers
 
@@ -246,15 +246,16 @@ module _ (model : SystemModel) (valid : IsValid model) where
 
   module _ (requirement : RequirementDef) where
     kept_by : (exacts : List ExactAnswer) → AreExactAnswers model exacts → (value : ℕ) → value ≤ requirement.most
-        → (exact_value requirement.kind (exact_answer_at exacts (required_chain model requirement)) ≡ Some value)
-        ⊎ (bound_value requirement.kind (chain_answer_at (chain_answers_of model) (required_chain model requirement)) ≡ Some value)
+        → (required_exact requirement.kind (exact_answer_at exacts (required_chain model requirement)) ≡ Some value)
+        ⊎ (required_bound requirement.kind (chain_answer_at (chain_answers_of model) (required_chain model requirement)) ≡ Some value)
         → IsKept model requirement
     kept_by exacts are value within (inl exact) =
         let chain : ℕ = required_chain model requirement in
-        let (lengths, is, same) = exact_valued requirement.kind (exact_answer_at exacts chain) value exact in
+        let (kind, of_kind, lengths, is, same) = required_valued requirement.kind (exact_answer_at exacts chain) value exact in
         let found = exact_found chain (exact_chain exacts chain lengths are is) exacts lengths are is in
         λ run legal job_chain complete.
-        let longest = kind_exact (system_of model) (groups_at model chain) run job_chain requirement.kind lengths (found.greatest run legal) complete in
+        let own = subst (λ k. IsChainRequired k (system_of model) run (groups_at model chain) job_chain) of_kind complete in
+        let longest = kind_exact (system_of model) (groups_at model chain) run job_chain kind lengths (found.greatest run legal) own in
         omega (arith, longest, same, within)
     kept_by exacts are value within (inr bound) =
         let chain : ℕ = required_chain model requirement in
@@ -268,27 +269,28 @@ module _ (model : SystemModel) (valid : IsValid model) where
     unfolding verdict_of
     kept exacts are value is =
         let chain : ℕ = required_chain model requirement in
-        let (own, within, from) = met_by requirement.most value (exact_value requirement.kind (exact_answer_at exacts chain)) (bound_value requirement.kind (chain_answer_at (chain_answers_of model) chain)) is in
+        let (own, within, from) = met_by requirement.most value (required_exact requirement.kind (exact_answer_at exacts chain)) (required_bound requirement.kind (chain_answer_at (chain_answers_of model) chain)) is in
         kept_by exacts are own within from
 
     -- what is found broken is broken in a run that lasts to the end of its witness
     broken_from : (exacts : List ExactAnswer) → AreExactAnswers model exacts → (value : ℕ) → requirement.most < value
-        → exact_value requirement.kind (exact_answer_at exacts (required_chain model requirement)) ≡ Some value → IsBroken model requirement
+        → required_exact requirement.kind (exact_answer_at exacts (required_chain model requirement)) ≡ Some value → IsBroken model requirement
     broken_from exacts are value past exact =
         let chain : ℕ = required_chain model requirement in
-        let (lengths, is, same) = exact_valued requirement.kind (exact_answer_at exacts chain) value exact in
+        let (kind, of_kind, lengths, is, same) = required_valued requirement.kind (exact_answer_at exacts chain) value exact in
         let last : ℕ = lengths.reaction.to + lengths.age.to + (lengths.reduced.to + period_of (system_of model) (last_group (groups_at model chain))) in
         let (run, ticks, legal) = some_legal (system_of model) (system_sound model valid) last in
         let attained = (exact_found chain (exact_chain exacts chain lengths are is) exacts lengths are is).attained run legal in
-        let found = kind_attained (system_of model) (groups_at model chain) run requirement.kind lengths attained (omega (arith, ticks)) in
-        record { run = run; legal = legal; chain = found.chain; complete = found.complete; longer = omega (arith, past, same, found.is_long) }
+        let found = kind_attained (system_of model) (groups_at model chain) run kind lengths attained (omega (arith, ticks)) in
+        let complete = subst (λ k. IsChainRequired k (system_of model) run (groups_at model chain) found.chain) (sym of_kind) found.complete in
+        record { run = run; legal = legal; chain = found.chain; complete = complete; longer = omega (arith, past, same, found.is_long) }
 
     broken : (exacts : List ExactAnswer) → AreExactAnswers model exacts → (value : ℕ) → verdict_of model (chain_answers_of model) exacts requirement ≡ Broken value
         → IsBroken model requirement
     unfolding verdict_of
     broken exacts are value is =
         let chain : ℕ = required_chain model requirement in
-        let (exact, past) = broken_by requirement.most value (exact_value requirement.kind (exact_answer_at exacts chain)) (bound_value requirement.kind (chain_answer_at (chain_answers_of model) chain)) is in
+        let (exact, past) = broken_by requirement.most value (required_exact requirement.kind (exact_answer_at exacts chain)) (required_bound requirement.kind (chain_answer_at (chain_answers_of model) chain)) is in
         broken_from exacts are value past exact
 
   -- the verdict on the requirement of a number

@@ -3,6 +3,8 @@ use Rattle.std.specs.Prelude.{ℕ, Bool, true, false, List, map, slice_index_or,
 use Rattle.cl_model.specs.declared.model.SystemModel.{SystemModel}
 use Rattle.cl_model.specs.declared.chain.LengthKind.{LengthKind}
 use Rattle.cl_model.specs.declared.chain.LengthKind.TheVariants.{Reaction, Age, Reduced}
+use Rattle.cl_model.specs.declared.chain.RequirementKind.{RequirementKind}
+use Rattle.cl_model.specs.declared.chain.RequirementKind.TheVariants.{Length, Delay}
 use Rattle.cl_model.specs.declared.chain.RequirementDef.{RequirementDef}
 use Rattle.cl_runs.specs.Requirements.{required_chain}
 use Rattle.cl_bound.specs.Bounds.{Lengths}
@@ -44,6 +46,30 @@ exact_value kind (exact.Past limit) = None
 exact_value kind exact.NotTimed = None
 exact_value kind exact.ChainLate = None
 
+-- ---- what a requirement limits
+
+-- the bound on it
+abbrev pub limited_bound : RequirementKind → Lengths → ℕ
+limited_bound (Length kind) bounds = bound_of_kind kind bounds
+limited_bound Delay bounds = bounds.delay
+
+-- where its chain has bounds
+abbrev pub required_bound : RequirementKind → ChainAnswer → Option ℕ
+required_bound kind (bounded.Bounds bounds) = Some (limited_bound kind bounds)
+required_bound kind (bounded.Late task) = None
+
+-- its exact value: of a delay none is found
+abbrev pub limited_length : RequirementKind → Witnesses → Option ℕ
+limited_length (Length kind) lengths = Some (witness_of_kind kind lengths).length
+limited_length Delay lengths = None
+
+-- where its chain has exact lengths
+abbrev pub required_exact : RequirementKind → ExactAnswer → Option ℕ
+required_exact kind (exact.Exact lengths) = limited_length kind lengths
+required_exact kind (exact.Past limit) = None
+required_exact kind exact.NotTimed = None
+required_exact kind exact.ChainLate = None
+
 -- ---- verdicts
 
 -- The value is the exact one where there is one, else the bound. It is met where it is at most what is required, broken
@@ -65,7 +91,7 @@ unfoldable pub verdict_of :
 verdict_of model chains exacts requirement =
     let chain = required_chain model requirement in
     verdict_on requirement.most
-    (exact_value requirement.kind (exact_answer_at exacts chain)) (bound_value requirement.kind (chain_answer_at chains chain))
+    (required_exact requirement.kind (exact_answer_at exacts chain)) (required_bound requirement.kind (chain_answer_at chains chain))
 
 -- the verdicts on all requirements, in file order
 abbrev pub verdicts_of : SystemModel → (chains : List ChainAnswer) → (exacts : List ExactAnswer) → List Verdict

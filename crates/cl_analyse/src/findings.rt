@@ -1,10 +1,10 @@
 //! What is found of a model. Times are in ticks.
 ghost use Rattle.std.specs.Prelude.{◌≡◌};
-ghost use Rattle.cl_analyse.specs.Verdicts.{bound_value, exact_value};
+ghost use Rattle.cl_analyse.specs.Verdicts.{bound_value, exact_value, required_bound, required_exact};
 
 use cl_bound::{Bounds, TaskAnswer};
 use cl_exact::ExactLengths;
-use cl_model::{LengthKind, List};
+use cl_model::{LengthKind, List, RequirementKind};
 
 /// What is found of the bounds of a chain.
 #[derive(Clone, Copy, Debug, PartialEq, Eq)]
@@ -27,6 +27,18 @@ impl ChainAnswer {
                 LengthKind::Reduced => bounds.reduced(),
             }),
             ChainAnswer::Late { .. } => None,
+        }
+    }
+
+    /// Returns the bound on what a requirement of this kind limits, in ticks. It is `None` exactly
+    /// where a task of the chain is late.
+    pub fn required(&self, kind: RequirementKind) -> Option<u64>
+        ensures { result ≡ required_bound kind self.now }
+    {
+        match (self, kind) {
+            (_, RequirementKind::Length(kind)) => self.value(kind),
+            (ChainAnswer::Bounds(bounds), RequirementKind::Delay) => Some(bounds.delay()),
+            (ChainAnswer::Late { .. }, RequirementKind::Delay) => None,
         }
     }
 }
@@ -57,6 +69,17 @@ impl ExactAnswer {
                 LengthKind::Reduced => lengths.reduced().length,
             }),
             _ => None,
+        }
+    }
+
+    /// Returns the exact value of what a requirement of this kind limits, in ticks. It is `None`
+    /// exactly where the chain has no exact lengths here, and of a delay.
+    pub fn required(&self, kind: RequirementKind) -> Option<u64>
+        ensures { result ≡ required_exact kind self.now }
+    {
+        match kind {
+            RequirementKind::Length(kind) => self.value(kind),
+            RequirementKind::Delay => None,
         }
     }
 

@@ -1,10 +1,10 @@
 //! The verdicts on requirements. Values are in ticks.
 ghost use Rattle.std.specs.Prelude.{◌≡◌, ℕ, Option, map, IfOk};
 ghost use Rattle.cl_analyse.specs.ChainAnswers.{chain_answer_at, exact_answer_at};
-ghost use Rattle.cl_analyse.specs.Verdicts.{bound_value, exact_value, verdict_on, verdict_of, verdicts_of};
+ghost use Rattle.cl_analyse.specs.Verdicts.{required_bound, required_exact, verdict_on, verdict_of, verdicts_of};
 
 use crate::findings::{ChainAnswer, ExactAnswer, Verdict};
-use cl_model::{LengthKind, List, RequirementDef, ValidModel};
+use cl_model::{List, RequirementDef, RequirementKind, ValidModel};
 use cl_time::NoMemory;
 use std::alloc::Global;
 
@@ -26,8 +26,8 @@ pub fn judge_all(
 }
 
 /// Judges a requirement, from what was found of all chains: by the exact length of its chain and
-/// kind or, where there is none, by the bound. A requirement that names no chain of the model is
-/// judged by chain 0. It takes no memory.
+/// kind or, where there is none, by the bound. Of a delay no exact length is found. A requirement
+/// that names no chain of the model is judged by chain 0. It takes no memory.
 #[tactic(auto, unfolding(crate::specs::Verdicts::verdict_of))]
 pub fn judge(
     model: &ValidModel,
@@ -40,31 +40,31 @@ pub fn judge(
     let chain = model.chain_named(&requirement.chain).unwrap_or(0);
     verdict_on(
         requirement.most,
-        exact_value(exacts, chain, requirement.kind),
-        bound_value(chains, chain, requirement.kind),
+        required_exact(exacts, chain, requirement.kind),
+        required_bound(chains, chain, requirement.kind),
     )
 }
 
-/// Returns the exact length of a kind that was found of a chain.
+/// Returns the exact value that was found of what a requirement of this kind limits on a chain.
 #[tactic(auto, using(std::proofs::lemmas::Option::gets))]
-fn exact_value(exacts: &List<ExactAnswer>, chain: u32, kind: LengthKind) -> Option<u64>
-    ensures { result ≡ exact_value kind (exact_answer_at exacts.now chain) }
+fn required_exact(exacts: &List<ExactAnswer>, chain: u32, kind: RequirementKind) -> Option<u64>
+    ensures { result ≡ required_exact kind (exact_answer_at exacts.now chain) }
 {
     match exacts.at(chain as usize) {
-        Some(answer) => answer.value(kind),
+        Some(answer) => answer.required(kind),
         None => None,
     }
 }
 
-/// Returns the bound on the lengths of a kind that was found of a chain, given by its number, in
-/// ticks, by the answers for all chains. It is `None` exactly where a task of the chain is late, or
-/// where there is no chain of that number.
+/// Returns the bound that was found on what a requirement of this kind limits on a chain, given by
+/// its number, in ticks, by the answers for all chains. It is `None` exactly where a task of the
+/// chain is late, or where there is no chain of that number.
 #[tactic(auto, using(std::proofs::lemmas::Option::gets))]
-pub fn bound_value(chains: &List<ChainAnswer>, chain: u32, kind: LengthKind) -> Option<u64>
-    ensures { result ≡ bound_value kind (chain_answer_at chains.now chain) }
+pub fn required_bound(chains: &List<ChainAnswer>, chain: u32, kind: RequirementKind) -> Option<u64>
+    ensures { result ≡ required_bound kind (chain_answer_at chains.now chain) }
 {
     match chains.at(chain as usize) {
-        Some(answer) => answer.value(kind),
+        Some(answer) => answer.required(kind),
         None => None,
     }
 }

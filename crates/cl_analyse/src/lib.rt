@@ -12,5 +12,5 @@ mod task_answers;
 pub use analysing::{analyse, answer_chain, first_late};
 pub use exact_answers::answer_exact;
 pub use findings::{ChainAnswer, ExactAnswer, Findings, Verdict};
-pub use judging::{bound_value, judge, judge_all, verdict_on};
+pub use judging::{judge, judge_all, required_bound, verdict_on};
 pub use task_answers::{answer_below, answer_question, answer_tasks};

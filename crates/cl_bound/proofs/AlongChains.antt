@@ -51,6 +51,11 @@ module _ (first last end : ℕ) (sum : ℤ) (write last_write : ℕ) (written : 
       → pos end ≤ℤ (pos from +ℤ (((pos distance -ℤ pos read) +ℤ sum) +ℤ pos write))
   from_before before distance reads soon = omega (arith, ints, written, to_end, along, reads, soon)
 
+-- from the arrival of the first job
+pub from_arrival : (first last end : ℕ) (sum : ℤ) (write last_write : ℕ) → write ≡ last_write → end ≤ last + last_write
+    → pos last ≤ℤ (pos first +ℤ sum) → (from : ℕ) → from ≡ first → pos end ≤ℤ (pos from +ℤ (sum +ℤ pos write))
+from_arrival first last end sum write last_write written to_end along from is = omega (arith, ints, written, to_end, along, is)
+
 -- to the write of the job after the last
 pub to_next : (first last next end : ℕ) (sum : ℤ) (write last_write distance last_distance : ℕ) → write ≡ last_write → distance ≡ last_distance
     → end ≤ next + last_write → next ≤ last + last_distance → pos last ≤ℤ (pos first +ℤ sum)

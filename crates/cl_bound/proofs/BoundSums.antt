@@ -14,11 +14,11 @@ use Rattle.cl_runs.proofs.ModelSystem.{system_sound}
 use Rattle.cl_bound.specs.declared.group_timing.GroupTiming.{GroupTiming}
 use Rattle.cl_bound.specs.declared.sums.Sums.{Sums}
 use Rattle.cl_bound.specs.Answers.{answers_of, NoneIsLate}
-use Rattle.cl_bound.specs.Bounds.{Lengths, greatest_reaction, greatest_age, greatest_reduced, AreBoundsOf, settled_timing, settled_timings, bounds_of}
+use Rattle.cl_bound.specs.Bounds.{Lengths, greatest_reaction, greatest_age, greatest_reduced, greatest_delay, AreBoundsOf, settled_timing, settled_timings, bounds_of}
 use Rattle.cl_bound.specs.SettledChains.{IsSettledChain, AreWithin}
 use Rattle.cl_bound.specs.Inner.Sums.{IsBound, sums_of, HaveBounds, AreBoundsIn}
 use Rattle.cl_bound.proofs.ModelGroups.{settled_chain, distance_near}
-use Rattle.cl_bound.proofs.SettledChains.{settled_sums, AreLimited, limited, reaction_positive, age_positive, reduced_positive}
+use Rattle.cl_bound.proofs.SettledChains.{settled_sums, AreLimited, limited, reaction_positive, age_positive, reduced_positive, delay_positive}
 
 -- a list that isn't empty, by its first item and the rest
 first_and_rest : (groups : List Group) → 0 < length groups → groups ≡ get_or groups 0 no_group ∷ drop 1 groups
@@ -78,6 +78,8 @@ module _ (model : SystemModel) (valid : IsValid model) (groups : List Group) (so
         (age_positive (system_of model) (system_sound model valid) groups is_settled some) most.age few;
     reduced = bounded bounds.reduced _ _ (are_sums.reduced ∙ ap greatest_reduced split)
         (reduced_positive (system_of model) (system_sound model valid) groups is_settled some) most.reduced few;
+    delay = bounded bounds.delay _ _ (are_sums.delay ∙ ap greatest_delay split)
+        (delay_positive (system_of model) (system_sound model valid) groups is_settled some) most.delay few;
   }
 
   -- bounds that are these sums are those of the groups
@@ -86,4 +88,5 @@ module _ (model : SystemModel) (valid : IsValid model) (groups : List Group) (so
     reaction = are.reaction ∙ sym (ap greatest_reaction split);
     age = are.age ∙ sym (ap greatest_age split);
     reduced = are.reduced ∙ sym (ap greatest_reduced split);
+    delay = are.delay ∙ sym (ap greatest_delay split);
   }

@@ -1,6 +1,6 @@
 -- The bounds of a chain of groups whose windows are always kept are at least the lengths of its complete chains in a legal run.
 use Rattle.std.proofs.Common.{◌≡◌, ℕ, pos, suc, ◌+◌, ◌-◌, ◌<◌, ◌≤◌, List, [], ◌∷◌, length, map, ap, subst, arith}
-use Rattle.std.specs.Prelude.{slice_index, ◌+ℤ◌, ◌≤ℤ◌}
+use Rattle.std.specs.Prelude.{slice_index, ◌+ℤ◌, ◌≤ℤ◌, All}
 use Rattle.std.proofs.Math.Numerals.{add-one}
 use Rattle.cl_model.specs.declared.group.Group.{Group}
 use Rattle.cl_runs.specs.TaskTiming.{System, IsSound}
@@ -8,18 +8,19 @@ use Rattle.cl_runs.specs.Table.{job_at}
 use Rattle.cl_runs.specs.Run.{Run, jobs_of}
 use Rattle.cl_runs.specs.Legal.{IsLegal}
 use Rattle.cl_runs.specs.Moments.{Reads, Writes}
-use Rattle.cl_model.specs.Groups.{group_at}
-use Rattle.cl_runs.specs.Chains.{JobChain, chain_length, first_job, IsForwardChain, AreBackwardLinks, IsAgeChain, IsReducedChain}
+use Rattle.cl_model.specs.Groups.{no_group, group_at}
+use Rattle.cl_runs.specs.Chains.{JobChain, chain_length, first_job, IsEarliestReader, IsForwardChain, AreBackwardLinks, IsAgeChain, IsReducedChain}
 use Rattle.cl_runs.specs.RunChains.{run_moments}
+use Rattle.cl_runs.specs.Delays.{IsDelayChain}
 use Rattle.cl_runs.proofs.RunArrivals.{next_within}
 use Rattle.cl_bound.specs.Hops.{forward_hop, backward_hop, hops}
 use Rattle.cl_bound.specs.Timings.{AlwaysKeeps}
 use Rattle.cl_bound.specs.declared.group_timing.GroupTiming.{GroupTiming}
 use Rattle.cl_bound.specs.Bounds.{last_of, Lengths, AreBoundsOf}
-use Rattle.cl_bound.specs.Promises.{AreAtLeast}
+use Rattle.cl_bound.specs.Promises.{AreAtLeast, AreSafe}
 use Rattle.cl_bound.proofs.LaterRuns.{writes_in_time}
 use Rattle.cl_bound.proofs.HopBounds.{forward_arrival, backward_arrival}
-use Rattle.cl_bound.proofs.AlongChains.{telescope, last_timing, at_last, length_within, from_first, from_before, to_next}
+use Rattle.cl_bound.proofs.AlongChains.{telescope, last_timing, at_last, length_within, from_first, from_before, from_arrival, to_next}
 
 -- the windows of all groups of a chain are always kept
 abbrev pub AreAlwaysKept : System → (timing : Group → GroupTiming) → List Group → Type 0
@@ -65,12 +66,15 @@ module _ (system : System) (sound : IsSound system) (timing : Group → GroupTim
   )
 
   -- the last job of a chain arrives at most the sum of its hops after the first
-  forward_along : (chain : JobChain) → IsForwardChain (run_moments system run) (first ∷ groups) chain
-      → pos (arrival run (first ∷ groups) chain.jobs (length groups))
-      ≤ℤ (pos (arrival run (first ∷ groups) chain.jobs 0) +ℤ hops forward_hop (timing first) (map timing groups))
-  forward_along chain complete = telescope forward_hop timing first groups (arrival run (first ∷ groups) chain.jobs) (λ i h.
+  forward_along : (jobs : List ℕ)
+      → ((i : ℕ) → suc i < length (first ∷ groups) → 1 ≤ slice_index jobs (suc i))
+      → ((i : ℕ) → suc i < length (first ∷ groups)
+      → IsEarliestReader (run_moments system run) (group_at (first ∷ groups) i) (group_at (first ∷ groups) (suc i)) (slice_index jobs i) (slice_index jobs (suc i)))
+      → pos (arrival run (first ∷ groups) jobs (length groups))
+      ≤ℤ (pos (arrival run (first ∷ groups) jobs 0) +ℤ hops forward_hop (timing first) (map timing groups))
+  forward_along jobs not_first linked = telescope forward_hop timing first groups (arrival run (first ∷ groups) jobs) (λ i h.
       forward_arrival system sound (group_at (first ∷ groups) i) (group_at (first ∷ groups) (suc i)) (timing (group_at (first ∷ groups) i))
-      (timing (group_at (first ∷ groups) (suc i))) (keep i (omega arith)) (keep (suc i) h) run legal (slice_index chain.jobs i) (slice_index chain.jobs (suc i)) (complete.not_first (suc i) h) (complete.linked i h))
+      (timing (group_at (first ∷ groups) (suc i))) (keep i (omega arith)) (keep (suc i) h) run legal (slice_index jobs i) (slice_index jobs (suc i)) (not_first i h) (linked i h))
 
   backward_along : (jobs : List ℕ) → AreBackwardLinks (run_moments system run) (first ∷ groups) jobs
       → pos (arrival run (first ∷ groups) jobs (length groups))
@@ -93,7 +97,7 @@ module _ (system : System) (sound : IsSound system) (timing : Group → GroupTim
       length_within chain.from chain.to _ _ are.reaction (from_before (arrival run (first ∷ groups) chain.jobs 0)
       (arrival run (first ∷ groups) chain.jobs (length groups)) chain.to
       (hops forward_hop (timing first) (map timing groups))
-      _ _ last_write (last_writes _ chain.to writes) (forward_along chain complete)
+      _ _ last_write (last_writes _ chain.to writes) (forward_along chain.jobs (λ i h. complete.not_first (suc i) h) complete.linked)
       chain.from (timing first).read (job_at (jobs_of run first.task) k).arrival (timing first).distance
       (first_reads k chain.from complete.from)
       (omega (arith, soon, ap (λ (n : ℕ). (job_at (jobs_of run first.task) n).arrival) next)))
@@ -125,6 +129,17 @@ module _ (system : System) (sound : IsSound system) (timing : Group → GroupTim
       (backward_along chain.jobs complete.links)
       chain.from (timing first).read (first_reads (first_job chain) chain.from complete.from))
 
+  delay_within : (chain : JobChain) → IsDelayChain system run (first ∷ groups) chain → chain_length chain ≤ bounds.delay
+  unfolding run_moments
+  delay_within chain complete =
+      let writes = at_last (λ (group : Group) (job : ℕ). Writes system run group.task job group.last chain.to) first groups chain.jobs
+      complete.one_a_group complete.to in
+      length_within chain.from chain.to _ _ are.delay (from_arrival (arrival run (first ∷ groups) chain.jobs 0)
+      (arrival run (first ∷ groups) chain.jobs (length groups)) chain.to
+      (hops forward_hop (timing first) (map timing groups))
+      _ _ last_write (last_writes _ chain.to writes) (forward_along chain.jobs complete.not_first complete.linked)
+      chain.from complete.from)
+
 -- the bounds of a chain of such groups are at least the lengths of its complete chains
 pub at_least : (system : System) → IsSound system → (timing : Group → GroupTiming) (groups : List Group) → AreAlwaysKept system timing groups
     → (run : Run) → IsLegal system run → (bounds : Lengths) → AreBoundsOf (map timing groups) bounds
@@ -133,9 +148,18 @@ at_least system sound timing [] keep run legal bounds are = record {
   reaction = λ chain complete. absurd (omega (arith, complete.some_group));
   age = λ chain complete. absurd (omega (arith, complete.links.some_group));
   reduced = λ chain complete. absurd (omega (arith, complete.links.some_group));
+  delay = λ chain complete. absurd (omega (arith, complete.some_group));
 }
 at_least system sound timing (first ∷ groups) keep run legal bounds are = record {
   reaction = reaction_within system sound timing first groups keep run legal bounds are;
   age = age_within system sound timing first groups keep run legal bounds are;
   reduced = reduced_within system sound timing first groups keep run legal bounds are;
+  delay = delay_within system sound timing first groups keep run legal bounds are;
 }
+
+-- and so those over timings that always hold are safe
+pub kept_safe : (system : System) → IsSound system → (timing : Group → GroupTiming) (groups : List Group)
+    → All (λ (group : Group). AlwaysKeeps system group (timing group)) groups
+    → (bounds : Lengths) → AreBoundsOf (map timing groups) bounds → AreSafe system groups bounds
+kept_safe system sound timing groups keep bounds are run legal =
+    at_least system sound timing groups (λ place h. keep place no_group h) run legal bounds are

@@ -17,3 +17,4 @@ pub mod LoopSums
 pub mod BoundSums
 pub mod FrontBounds
 pub mod NoGreater
+pub mod DelayBounds

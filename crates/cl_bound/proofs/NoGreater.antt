@@ -8,7 +8,7 @@ use Rattle.cl_runs.specs.TaskTiming.{System, timing_at}
 use Rattle.cl_comm.specs.Windows.{spot_at}
 use Rattle.cl_comm.proofs.Responses.{reads_stay, ends_rise}
 use Rattle.cl_bound.specs.declared.group_timing.GroupTiming.{GroupTiming}
-use Rattle.cl_bound.specs.Bounds.{last_of, greatest_reaction, greatest_reduced, greatest_age, Lengths, AreBoundsOf}
+use Rattle.cl_bound.specs.Bounds.{last_of, greatest_reaction, greatest_reduced, greatest_age, greatest_delay, Lengths, AreBoundsOf}
 use Rattle.cl_bound.specs.Hops.{group_timing, saves, lag, hop, forward_hop, backward_hop, hops}
 use Rattle.cl_bound.specs.NoGreater.{StaysWithin, AreNoGreater}
 
@@ -128,6 +128,14 @@ module _ (timing other : Group → GroupTiming) where
       let last = last_stays first groups is rest in
       omega (arith, ints, reduced_no_greater (first ∷ groups) all, last.distance)
 
+  delay_no_greater : (groups : List Group) → All StaysThere groups → greatest_delay (map timing groups) ≤ℤ greatest_delay (map other groups)
+  delay_no_greater [] all = omega (arith, ints)
+  delay_no_greater (first ∷ groups) all =
+      let is = All-head StaysThere first groups all in
+      let rest = All-tail StaysThere first groups all in
+      let last = last_stays first groups is rest in
+      omega (arith, ints, hops_no_greater forward_hop forward_no_greater first groups is rest, last.write)
+
 -- where groups stay within the windows of others, no bound of a chain of them is greater
 pub bounds_no_greater : (timing other : Group → GroupTiming) (groups : List Group)
     → All (λ (group : Group). StaysWithin (timing group) (other group)) groups
@@ -136,4 +144,5 @@ bounds_no_greater timing other groups all bounds others are are_others = record 
   reaction = omega (arith, ints, are.reaction, are_others.reaction, reaction_no_greater timing other groups all);
   age = omega (arith, ints, are.age, are_others.age, age_no_greater timing other groups all);
   reduced = omega (arith, ints, are.reduced, are_others.reduced, reduced_no_greater timing other groups all);
+  delay = omega (arith, ints, are.delay, are_others.delay, delay_no_greater timing other groups all);
 }

@@ -25,21 +25,23 @@ use Rattle.cl_bound.proofs.GroupWindows.{IsProper, group_proper}
 use Rattle.cl_bound.proofs.HopBounds.{forward_arrival, backward_arrival}
 use Rattle.cl_bound.proofs.ChainBounds.{AreAlwaysKept, at_least}
 use Rattle.cl_bound.proofs.KeptWindows.{timely_keeps}
-use Rattle.cl_bound.proofs.SumsOfHops.{IsAtMost, reaction_absolute, age_absolute, reduced_absolute, reaction_some, age_some, reduced_some, reaction_at_most, age_at_most, reduced_at_most}
+use Rattle.cl_bound.proofs.SumsOfHops.{IsAtMost, reaction_absolute, age_absolute, reduced_absolute, delay_absolute, reaction_some, age_some, reduced_some, delay_some, reaction_at_most, age_at_most, reduced_at_most, delay_at_most}
 
 -- the response in the answer for a task of a system
 abbrev response_at : System → ℕ → ℕ
 response_at system i = response_in (answer_at (answers_of system) i)
 
-same_lengths : (r a d reaction age reduced : ℕ) → r ≡ reaction → a ≡ age → d ≡ reduced
-    → ◌≡◌ {A = Lengths} (record { reaction = r; age = a; reduced = d }) (record { reaction = reaction; age = age; reduced = reduced })
-same_lengths r a d reaction age reduced e f g = cc
+same_lengths : (r a d l reaction age reduced delay : ℕ) → r ≡ reaction → a ≡ age → d ≡ reduced → l ≡ delay
+    → ◌≡◌ {A = Lengths} (record { reaction = r; age = a; reduced = d; delay = l })
+    (record { reaction = reaction; age = age; reduced = reduced; delay = delay })
+same_lengths r a d l reaction age reduced delay e f g h = cc
 
 -- there are no other bounds of a chain than those that the function gives
 pub only_bounds : (system : System) (groups : List Group) (bounds : Lengths) → AreBoundsOf (settled_timings system groups) bounds → bounds ≡ bounds_of system groups
 unfolding bounds_of
 only_bounds system groups bounds are =
-    same_lengths bounds.reaction bounds.age bounds.reduced _ _ _ (ap nat_abs are.reaction) (ap nat_abs are.age) (ap nat_abs are.reduced)
+    same_lengths bounds.reaction bounds.age bounds.reduced bounds.delay _ _ _ _
+    (ap nat_abs are.reaction) (ap nat_abs are.age) (ap nat_abs are.reduced) (ap nat_abs are.delay)
 
 module _ (system : System) (sound : IsSound system) (groups : List Group) (chain : IsSettledChain system groups) where
   settled_at : (i : ℕ) → i < length groups → IsSettled system (group_at groups i).task (response_at system (group_at groups i).task)
@@ -64,6 +66,7 @@ module _ (system : System) (sound : IsSound system) (groups : List Group) (chain
     reaction = reaction_absolute (settled_timings system groups) chain_proper;
     age = age_absolute (settled_timings system groups) chain_proper;
     reduced = reduced_absolute (settled_timings system groups) chain_proper;
+    delay = delay_absolute (settled_timings system groups) chain_proper;
   }
 
   -- and are safe
@@ -103,6 +106,10 @@ module _ (system : System) (sound : IsSound system) (groups : List Group) (chain
   unfolding bounds_of
   reduced_positive some = reduced_some (settled_timings system groups) (chain_proper system sound groups chain) (some_timing some)
 
+  pub delay_positive : 0 < length groups → 1 ≤ (bounds_of system groups).delay
+  unfolding bounds_of
+  delay_positive some = delay_some (settled_timings system groups) (chain_proper system sound groups chain) (some_timing some)
+
 -- where the distances of its groups are at most so many ticks, so is all that its sums are made of
 chain_at_most : (system : System) → IsSound system → (groups : List Group) → IsSettledChain system groups → (most : ℕ) → AreWithin system most groups
     → All (IsAtMost most) (settled_timings system groups)
@@ -116,11 +123,12 @@ pub record AreLimited (system : System) (groups : List Group) (most : ℕ) : Typ
   pub reaction : (bounds_of system groups).reaction ≤ 2 * length groups * most
   pub age : (bounds_of system groups).age ≤ 2 * length groups * most
   pub reduced : (bounds_of system groups).reduced ≤ 2 * length groups * most
+  pub delay : (bounds_of system groups).delay ≤ 2 * length groups * most
 
 pub limited : (system : System) → IsSound system → (groups : List Group) → IsSettledChain system groups → (most : ℕ) → AreWithin system most groups
     → AreLimited system groups most
 unfolding bounds_of
-limited system sound [] chain most within = record { reaction = omega arith; age = omega arith; reduced = omega arith }
+limited system sound [] chain most within = record { reaction = omega arith; age = omega arith; reduced = omega arith; delay = omega arith }
 limited system sound (first ∷ groups) chain most within =
     let all = chain_at_most system sound (first ∷ groups) chain most within in
     let first_timing = settled_timing system first in
@@ -130,4 +138,5 @@ limited system sound (first ∷ groups) chain most within =
       reaction = rw same at (reaction_at_most most first_timing timings all);
       age = rw same at (age_at_most most first_timing timings all);
       reduced = rw same at (reduced_at_most most first_timing timings all);
+      delay = rw same at (delay_at_most most first_timing timings all);
     }

@@ -6,7 +6,7 @@ use Rattle.std.proofs.lemmas.Int.{ints}
 use Rattle.std.proofs.lemmas.List.Elements.{All-head, All-tail, All-weaker}
 use Rattle.cl_bound.specs.Hops.{hop, forward_hop, backward_hop, hops}
 use Rattle.cl_bound.specs.declared.group_timing.GroupTiming.{GroupTiming}
-use Rattle.cl_bound.specs.Bounds.{last_of, greatest_reaction, greatest_age, greatest_reduced}
+use Rattle.cl_bound.specs.Bounds.{last_of, greatest_reaction, greatest_age, greatest_reduced, greatest_delay}
 use Rattle.cl_bound.proofs.GroupWindows.{IsProper}
 use Rattle.cl_bound.proofs.LagTable.{lag_lines}
 
@@ -71,6 +71,13 @@ age_positive [] all some = absurd (omega (arith, some))
 age_positive (first ∷ groups) all some =
     omega (arith, ints, backward_sum first groups (All-head IsProper first groups all) (All-tail IsProper first groups all))
 
+delay_positive : (groups : List GroupTiming) → All IsProper groups → 0 < length groups → pos 1 ≤ℤ greatest_delay groups
+delay_positive [] all some = absurd (omega (arith, some))
+delay_positive (first ∷ groups) all some =
+    let rest = All-tail IsProper first groups all in
+    let last : IsProper (last_of first groups) = last_holds IsProper first groups (All-head IsProper first groups all) rest in
+    omega (arith, ints, forward_sum first groups rest, last.read_before_write)
+
 -- a number that isn't negative is its absolute value
 is_absolute : (z : ℤ) → pos 0 ≤ℤ z → pos (nat_abs z) ≡ z
 is_absolute (pos n) h = refl
@@ -92,6 +99,9 @@ module _ (groups : List GroupTiming) (all : All IsProper groups) where
   pub reduced_absolute : pos (nat_abs (greatest_reduced groups)) ≡ greatest_reduced groups
   reduced_absolute = sum_absolute greatest_reduced refl reduced_positive groups all
 
+  pub delay_absolute : pos (nat_abs (greatest_delay groups)) ≡ greatest_delay groups
+  delay_absolute = sum_absolute greatest_delay refl delay_positive groups all
+
   module _ (some : 0 < length groups) where
     pub reaction_some : 1 ≤ nat_abs (greatest_reaction groups)
     reaction_some = omega (arith, ints, reaction_absolute, reaction_positive groups all some)
@@ -101,6 +111,9 @@ module _ (groups : List GroupTiming) (all : All IsProper groups) where
 
     pub reduced_some : 1 ≤ nat_abs (greatest_reduced groups)
     reduced_some = omega (arith, ints, reduced_absolute, reduced_positive groups all some)
+
+    pub delay_some : 1 ≤ nat_abs (greatest_delay groups)
+    delay_some = omega (arith, ints, delay_absolute, delay_positive groups all some)
 
 -- ---- and bounded
 
@@ -200,3 +213,7 @@ module _ (most : ℕ) (first : GroupTiming) (groups : List GroupTiming) (all : A
   pub reduced_at_most : nat_abs (greatest_reduced (first ∷ groups)) ≤ 2 * suc (length groups) * most
   reduced_at_most = absolute_within (greatest_reduced (first ∷ groups)) _ (reduced_absolute (first ∷ groups) proper)
       (omega (arith, ints, twice_each (length groups) most, last_writes_within, (backward_within most first groups bounded others).0))
+
+  pub delay_at_most : nat_abs (greatest_delay (first ∷ groups)) ≤ 2 * suc (length groups) * most
+  delay_at_most = absolute_within (greatest_delay (first ∷ groups)) _ (delay_absolute (first ∷ groups) proper)
+      (omega (arith, ints, twice_each (length groups) most, last_writes_within, (forward_within most first groups bounded others).0))

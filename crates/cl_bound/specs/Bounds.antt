@@ -1,4 +1,4 @@
--- The bounds on the reaction, the age and the reduced age of a chain.
+-- The bounds on the reaction, the age, the reduced age and the delay of a chain.
 use Rattle.std.specs.Prelude.{◌≡◌, ℕ, ℤ, pos, ◌+ℤ◌, ◌-ℤ◌, nat_abs, List, [], ◌∷◌, map}
 use Rattle.cl_model.specs.declared.group.Group.{Group}
 use Rattle.cl_runs.specs.TaskTiming.{System}
@@ -27,17 +27,24 @@ abbrev pub greatest_age : List GroupTiming → ℤ
 greatest_age [] = pos 0
 greatest_age (first ∷ groups) = pos (last_of first groups).distance +ℤ greatest_reduced (first ∷ groups)
 
--- the three bounds of a chain
+-- from the arrival of the first to the write of the last
+abbrev pub greatest_delay : List GroupTiming → ℤ
+greatest_delay [] = pos 0
+greatest_delay (first ∷ groups) = hops forward_hop first groups +ℤ pos (last_of first groups).write
+
+-- the four bounds of a chain
 pub record Lengths : Type 0 where
   pub reaction : ℕ
   pub age : ℕ
   pub reduced : ℕ
+  pub delay : ℕ
 
 -- the bounds of a chain of these groups are those sums over signed numbers
 pub record AreBoundsOf (groups : List GroupTiming) (bounds : Lengths) : Type 0 where
   pub reaction : pos bounds.reaction ≡ greatest_reaction groups
   pub age : pos bounds.age ≡ greatest_age groups
   pub reduced : pos bounds.reduced ≡ greatest_reduced groups
+  pub delay : pos bounds.delay ≡ greatest_delay groups
 
 -- a group of a system, with the response that answers for its task
 abbrev pub settled_timing : System → Group → GroupTiming
@@ -53,4 +60,5 @@ bounds_of system groups = record {
   reaction = nat_abs (greatest_reaction (settled_timings system groups));
   age = nat_abs (greatest_age (settled_timings system groups));
   reduced = nat_abs (greatest_reduced (settled_timings system groups));
+  delay = nat_abs (greatest_delay (settled_timings system groups));
 }

@@ -19,3 +19,4 @@ pub record AreNoGreater (bounds other : Lengths) : Type 0 where
   pub reaction : bounds.reaction ≤ other.reaction
   pub age : bounds.age ≤ other.age
   pub reduced : bounds.reduced ≤ other.reduced
+  pub delay : bounds.delay ≤ other.delay

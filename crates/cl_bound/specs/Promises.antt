@@ -6,13 +6,15 @@ use Rattle.cl_runs.specs.Run.{Run}
 use Rattle.cl_runs.specs.Legal.{IsLegal}
 use Rattle.cl_runs.specs.Chains.{JobChain, chain_length, IsForwardChain, IsAgeChain, IsReducedChain}
 use Rattle.cl_runs.specs.RunChains.{run_moments}
+use Rattle.cl_runs.specs.Delays.{IsDelayChain}
 use Rattle.cl_bound.specs.Bounds.{Lengths}
 
--- the bounds are at least the lengths of all complete chains of a run
+-- the bounds are at least the lengths of all complete chains of a run, and its delays
 pub record AreAtLeast (system : System) (groups : List Group) (bounds : Lengths) (run : Run) : Type 0 where
   pub reaction : (chain : JobChain) → IsForwardChain (run_moments system run) groups chain → chain_length chain ≤ bounds.reaction
   pub age : (chain : JobChain) → IsAgeChain (run_moments system run) groups chain → chain_length chain ≤ bounds.age
   pub reduced : (chain : JobChain) → IsReducedChain (run_moments system run) groups chain → chain_length chain ≤ bounds.reduced
+  pub delay : (chain : JobChain) → IsDelayChain system run groups chain → chain_length chain ≤ bounds.delay
 
 -- the bounds are safe: that holds in every legal run, of any length
 abbrev pub AreSafe : System → (groups : List Group) → (bounds : Lengths) → Type 0

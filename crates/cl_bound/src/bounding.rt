@@ -56,8 +56,8 @@ fn sums_along(
 
 /// Finds the bounds of groups of a valid model that follow each other, a chain of it or a part of
 /// one, from the answer for each task of the model. None of the groups' tasks is late. The bounds
-/// are the sums over signed numbers that define them, and at least the reaction, the age and the
-/// reduced age of each complete chain of these groups in each legal run, of any length.
+/// are the sums over signed numbers that define them, and at least the reaction, the age, the
+/// reduced age and the delay of each chain of these groups in each legal run, of any length.
 ///
 /// It counts one step, takes no memory, and never fails. It looks at each group once.
 pub fn bound_of_groups<L: Ledger>(

@@ -1,4 +1,4 @@
-//! Bounds on the reaction, the age and the reduced age of a chain.
+//! Bounds on the reaction, the age, the reduced age and the delay of a chain.
 #![tactic(auto)]
 
 mod answer;

@@ -1,7 +1,7 @@
 //! Sums of hops, one group after the other. Times are in ticks.
 ghost use Rattle.std.specs.Prelude.{◌≡◌, ℕ, ◌+◌, ◌*◌, ◌^◌, []};
 ghost use Rattle.cl_stim.specs.Integers.{IsIntegerWithin};
-ghost use Rattle.cl_bound.specs.Inner.Sums.{sums_with, sums_of, reaction_in, age_in, reduced_in, HaveBounds, AreBoundsIn};
+ghost use Rattle.cl_bound.specs.Inner.Sums.{sums_with, sums_of, reaction_in, age_in, reduced_in, delay_in, HaveBounds, AreBoundsIn};
 
 use crate::bounds::Bounds;
 use crate::group_timing::GroupTiming;
@@ -73,6 +73,14 @@ impl Sums {
         i128::from(self.last.distance()) + self.reduced(first)
     }
 
+    /// Computes how long it is from the arrival of the first job to the write of the last.
+    fn delay(&self) -> i128
+        requires { IsIntegerWithin (2 ^ 100) self.now.forward }
+        ensures { result ≡ delay_in self.now }
+    {
+        self.forward + i128::from(self.last.write())
+    }
+
     /// Computes the bounds of the groups, from the first of them.
     pub(crate) fn bounds(&self, first: &GroupTiming) -> Bounds
         requires forward { IsIntegerWithin (2 ^ 100) self.now.forward }
@@ -80,6 +88,11 @@ impl Sums {
         requires bounds { HaveBounds first.now self.now }
         ensures { AreBoundsIn first.now self.now result }
     {
-        Bounds::of_sums(self.reaction(first), self.age(first), self.reduced(first))
+        Bounds::of_sums(
+            self.reaction(first),
+            self.age(first),
+            self.reduced(first),
+            self.delay(),
+        )
     }
 }

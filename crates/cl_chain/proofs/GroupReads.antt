@@ -25,7 +25,7 @@ use Rattle.cl_chain.specs.Inner.GroupTables.{moment_at, AreMomentsAt, no_table, 
 use Rattle.cl_chain.proofs.MomentLists.{all_moments, same_moments}
 
 -- a list of what each item says
-mapped_moments : {X : Type 0} (IsAt : (job t : ℕ) → Type 0) (f : X → Option ℕ) (xs : List X) (d : X) → ((job s t : ℕ) → IsAt job s → IsAt job t → s ≡ t)
+pub mapped_moments : {X : Type 0} (IsAt : (job t : ℕ) → Type 0) (f : X → Option ℕ) (xs : List X) (d : X) → ((job s t : ℕ) → IsAt job s → IsAt job t → s ≡ t)
     → ((job : ℕ) → job < length xs → IsMomentOf (IsAt job) (f (get_or xs job d)))
     → ((job t : ℕ) → IsAt job t → job < length xs) → AreMomentsAt IsAt (map f xs)
 mapped_moments IsAt f xs d once each within = all_moments IsAt (map f xs) once

@@ -12,3 +12,6 @@ pub mod DecidedMoments
 pub mod ChainsByJob
 pub mod LinkedJobs
 pub mod SomeMeasured
+pub mod DelayOrder
+pub mod EventChains
+pub mod EventTables

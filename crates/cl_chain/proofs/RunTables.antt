@@ -27,19 +27,19 @@ use Rattle.cl_chain.proofs.ForwardFacts.{forward_written}
 module _ (system : System) (run : Run) (all : List Group) (tables : List GroupMoments) (are : AreTables system run all tables) where
   -- ---- moments
 
-  read_there : (i : ℕ) → i < length tables → (job t : ℕ) → moment_at (reads_in tables i) job ≡ Some t → (run_moments system run).reads (group_at all i) job t
+  pub read_there : (i : ℕ) → i < length tables → (job t : ℕ) → moment_at (reads_in tables i) job ≡ Some t → (run_moments system run).reads (group_at all i) job t
   unfolding run_moments
   read_there i h job t at = (are.reads i h).sound job t at
 
-  there_read : (i : ℕ) → i < length tables → (job t : ℕ) → (run_moments system run).reads (group_at all i) job t → moment_at (reads_in tables i) job ≡ Some t
+  pub there_read : (i : ℕ) → i < length tables → (job t : ℕ) → (run_moments system run).reads (group_at all i) job t → moment_at (reads_in tables i) job ≡ Some t
   unfolding run_moments
   there_read i h job t reads = (are.reads i h).complete job t reads
 
-  write_there : (i : ℕ) → i < length tables → (job t : ℕ) → moment_at (writes_in tables i) job ≡ Some t → (run_moments system run).writes (group_at all i) job t
+  pub write_there : (i : ℕ) → i < length tables → (job t : ℕ) → moment_at (writes_in tables i) job ≡ Some t → (run_moments system run).writes (group_at all i) job t
   unfolding run_moments
   write_there i h job t at = (are.writes i h).sound job t at
 
-  there_write : (i : ℕ) → i < length tables → (job t : ℕ) → (run_moments system run).writes (group_at all i) job t → moment_at (writes_in tables i) job ≡ Some t
+  pub there_write : (i : ℕ) → i < length tables → (job t : ℕ) → (run_moments system run).writes (group_at all i) job t → moment_at (writes_in tables i) job ≡ Some t
   unfolding run_moments
   there_write i h job t writes = (are.writes i h).complete job t writes
 

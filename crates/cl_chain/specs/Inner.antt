@@ -3,3 +3,4 @@ pub mod GroupTables
 pub mod Hops
 pub mod ChainsOver
 pub mod Rows
+pub mod Events

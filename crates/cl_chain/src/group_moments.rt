@@ -48,7 +48,7 @@ fn ends_of(
 }
 
 /// Lists when each job arrives.
-fn arrivals_of(alloc: Global, jobs: &[Job]) -> Result<List<Option<u64>>, NoMemory>
+pub(crate) fn arrivals_of(alloc: Global, jobs: &[Job]) -> Result<List<Option<u64>>, NoMemory>
     ensures { IfOk result (λ arrivals. arrivals ≡ map (λ job. Some job.arrival) jobs.now) }
 {
     let mut arrivals = List::with_room(alloc, jobs.len())?;

@@ -5,7 +5,8 @@ use cl_model::List;
 /// Moments are in ticks, and jobs are counted from 0.
 #[derive(Debug, Drop)]
 pub struct JobChain {
-    /// The moment from which it lasts: a read of the first group.
+    /// The moment from which it lasts: a read of the first group or, where the chain is one of a
+    /// delay, the arrival of its first job.
     pub from: u64,
     /// The moment to which it lasts: a write of the last group.
     pub to: u64,

@@ -1,8 +1,9 @@
-//! Job chains of a run: the complete chains of a job, and the measured chains.
+//! Job chains of a run: the complete chains of a job, the measured chains, and the greatest delay.
 #![tactic(auto)]
 
 mod backward_jobs;
 mod chains_of_jobs;
+mod delays;
 mod forward_jobs;
 mod group_moments;
 mod heads;
@@ -13,5 +14,6 @@ mod rows;
 mod tails;
 
 pub use chains_of_jobs::{backward, forward};
+pub use delays::{measure_delay, measure_delay_apart};
 pub use job_chain::{JobChain, Measured};
 pub use measuring::{measure, measure_apart};

@@ -11,7 +11,7 @@ ghost use Rattle.cl_check.specs.JobMoments.{IsMomentOf};
 ghost use Rattle.cl_chain.specs.JobChains.{option_of, measured_of};
 ghost use Rattle.cl_chain.specs.Inner.GroupTables.{AreMomentsAt};
 ghost use Rattle.cl_chain.specs.Inner.Hops.{IsOfNext, IsBeforeNext};
-ghost use Rattle.cl_chain.specs.Inner.ChainsOver.{IsHead, IsForwardOver, IsAgeOver, IsReducedOver, AreOrdered, IsMeasuredOver};
+ghost use Rattle.cl_chain.specs.Inner.ChainsOver.{IsHead, IsForwardOver, IsAgeOver, IsReducedOver, AreForwardOrdered, AreOrdered, IsMeasuredOver};
 ghost use Rattle.cl_chain.specs.Inner.Rows.{AreRowsOf};
 
 use crate::backward_jobs::{age_over, next_write, reduced_over};
@@ -27,17 +27,20 @@ use cl_run_data::RunData;
 use cl_time::NoMemory;
 use std::alloc::Global;
 
-/// Lists for each job the read of the job before it, none for job 0, with one entry more than there
-/// are jobs.
-fn earlier_reads(alloc: Global, reads: &[Option<u64>]) -> Result<List<Option<u64>>, NoMemory>
-    ensures { IfOk result (λ earlier. earlier ≡ None ∷ reads.now) }
+/// Lists for each job the moment of the job before it, none for job 0, with one entry more than
+/// there are jobs.
+pub(crate) fn moments_before(
+    alloc: Global,
+    moments: &[Option<u64>],
+) -> Result<List<Option<u64>>, NoMemory>
+    ensures { IfOk result (λ before. before ≡ None ∷ moments.now) }
 {
-    let mut earlier = List::with_room(alloc, reads.len() + 1)?;
-    earlier.push(None)?;
-    for read in reads {
-        earlier.push(*read)?;
+    let mut before = List::with_room(alloc, moments.len() + 1)?;
+    before.push(None)?;
+    for moment in moments {
+        before.push(*moment)?;
     }
-    Ok(earlier)
+    Ok(before)
 }
 
 /// Returns the write of the job after a job, where both write.
@@ -84,7 +87,7 @@ fn longest_forward(
     groups: &[GroupMoments],
     rows: &Rows,
 ) -> Result<Option<JobChain>, NoMemory>
-    requires ordered { AreOrdered groups.now }
+    requires ordered { AreForwardOrdered groups.now }
     requires rows { AreRowsOf (IsForwardOver groups.now) first_job rows.now }
     ensures { IfOk result
         (λ found. IsMeasuredBy (IsForwardOver groups.now) first_job (option_of found)) }
@@ -132,10 +135,10 @@ fn longest_reduced(
 
 /// Lists the rows of the complete forward chains.
 fn forward_rows(alloc: Global, groups: &[GroupMoments]) -> Result<Rows, NoMemory>
-    requires { AreOrdered groups.now }
+    requires { AreForwardOrdered groups.now }
     ensures { IfOk result (AreRowsOf (IsForwardOver groups.now) first_job) }
 {
-    let starts = earlier_reads(alloc, groups[0].reads.as_slice())?;
+    let starts = moments_before(alloc, groups[0].reads.as_slice())?;
     let ends = tails(alloc, groups)?;
     rows_of(alloc, starts.as_slice(), ends.as_slice())
 }
@@ -169,11 +172,11 @@ fn reduced_rows(
 }
 
 /// Finds the longest complete forward chain, and counts the complete forward chains.
-fn forward_measured(
+pub(crate) fn forward_measured(
     alloc: Global,
     groups: &[GroupMoments],
 ) -> Result<(Option<JobChain>, u64), NoMemory>
-    requires { AreOrdered groups.now }
+    requires { AreForwardOrdered groups.now }
     ensures { IfOk result
         (λ found. IsMeasuredBy (IsForwardOver groups.now) first_job (option_of found.0)
         × IsCountOf (IsForwardOver groups.now) found.1) }

@@ -10,7 +10,7 @@ use Rattle.cl_comm.specs.declared.spot.Spot.{Spot}
 use Rattle.cl_comm.specs.Windows.{spot_at, window_of}
 use Rattle.cl_bound.specs.Answers.{answers_of, answer_at, response_in}
 use Rattle.cl_bound.specs.Hops.{group_timing, saves, lag, hop, forward_hop, backward_hop, hops}
-use Rattle.cl_bound.specs.Bounds.{last_of, greatest_reaction, greatest_reduced, greatest_age, Lengths, settled_timing, settled_timings, bounds_of}
+use Rattle.cl_bound.specs.Bounds.{last_of, greatest_reaction, greatest_reduced, greatest_age, greatest_delay, Lengths, settled_timing, settled_timings, bounds_of}
 use Rattle.cl_incr.specs.declared.question.GroupQuestion.{GroupQuestion}
 use Rattle.cl_incr.specs.declared.question.HopLine.{HopLine}
 use Rattle.cl_incr.specs.declared.question.HopLine.TheVariants.{SameTask, Saving, Plain}
@@ -168,9 +168,10 @@ module _ (one other : System) where
     reaction : greatest_reaction (settled_timings one xs) ≡ greatest_reaction (settled_timings other ys)
     age : greatest_age (settled_timings one xs) ≡ greatest_age (settled_timings other ys)
     reduced : greatest_reduced (settled_timings one xs) ≡ greatest_reduced (settled_timings other ys)
+    delay : greatest_delay (settled_timings one xs) ≡ greatest_delay (settled_timings other ys)
 
   same_sums : (xs ys : List Group) → map (numbers one) xs ≡ map (numbers other) ys → hop_lines one xs ≡ hop_lines other ys → SameSums xs ys
-  same_sums [] [] all lines = record { reaction = refl; age = refl; reduced = refl }
+  same_sums [] [] all lines = record { reaction = refl; age = refl; reduced = refl; delay = refl }
   same_sums [] (y ∷ ys) all lines = absurd cc
   same_sums (x ∷ xs) [] all lines = absurd cc
   same_sums (x ∷ xs) (y ∷ ys) all lines =
@@ -181,14 +182,14 @@ module _ (one other : System) where
       let distances = ap (λ (n : Numbers). n.distance) first in
       let reads = ap (λ (n : Numbers). n.read) first in
       let last = same_last x y xs ys first rest in
-      record { reaction = cc last.write; age = cc (last.write, last.distance); reduced = cc last.write }
+      record { reaction = cc last.write; age = cc (last.write, last.distance); reduced = cc last.write; delay = cc last.write }
 
 -- ---- bounds
 
-same_lengths : (r a d reaction age reduced : ℤ) → r ≡ reaction → a ≡ age → d ≡ reduced
-    → ◌≡◌ {A = Lengths} (record { reaction = nat_abs r; age = nat_abs a; reduced = nat_abs d })
-    (record { reaction = nat_abs reaction; age = nat_abs age; reduced = nat_abs reduced })
-same_lengths r a d reaction age reduced e f g = cc
+same_lengths : (r a d l reaction age reduced delay : ℤ) → r ≡ reaction → a ≡ age → d ≡ reduced → l ≡ delay
+    → ◌≡◌ {A = Lengths} (record { reaction = nat_abs r; age = nat_abs a; reduced = nat_abs d; delay = nat_abs l })
+    (record { reaction = nat_abs reaction; age = nat_abs age; reduced = nat_abs reduced; delay = nat_abs delay })
+same_lengths r a d l reaction age reduced delay e f g h = cc
 
 -- groups that ask the same, over the same lines of hops, have the same bounds
 pub same_bounds : (one other : System) (groups others : List Group) → AskTheSame one other groups others
@@ -198,4 +199,4 @@ same_bounds one other groups others same lines =
     let all : map (numbers one) groups ≡ map (numbers other) others
     = all_numbers_are one groups ∙ ap (map numbers_in) same ∙ sym (all_numbers_are other others) in
     let sums = same_sums one other groups others all lines in
-    same_lengths _ _ _ _ _ _ sums.reaction sums.age sums.reduced
+    same_lengths _ _ _ _ _ _ _ _ sums.reaction sums.age sums.reduced sums.delay

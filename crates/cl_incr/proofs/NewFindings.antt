@@ -17,7 +17,7 @@ use Rattle.cl_analyse.specs.declared.findings.Verdict.TheVariants.{Unshown}
 use Rattle.std.specs.Prelude.{None}
 use Rattle.cl_runs.specs.Requirements.{no_requirement, requirement_at, required_chain}
 use Rattle.cl_analyse.specs.ChainAnswers.{chain_answer_of, chain_answers_of, AreExactAnswers}
-use Rattle.cl_analyse.specs.Verdicts.{bound_value, exact_value, verdict_on, verdict_of, verdicts_of, verdict_at}
+use Rattle.cl_analyse.specs.Verdicts.{required_bound, required_exact, verdict_on, verdict_of, verdicts_of, verdict_at}
 use Rattle.cl_analyse.specs.Findings.{AreFindings}
 use Rattle.cl_incr.specs.declared.chains.ChainFindings.{ChainFindings}
 use Rattle.cl_incr.specs.declared.news.FoundChain.{FoundChain}
@@ -30,7 +30,7 @@ use Rattle.cl_incr.proofs.Puts.{standing}
 
 -- the verdict on a requirement by what is found of its chain
 verdict_by : RequirementDef → ChainFindings → Verdict
-verdict_by requirement found = verdict_on requirement.most (exact_value requirement.kind found.exact) (bound_value requirement.kind found.bounds)
+verdict_by requirement found = verdict_on requirement.most (required_exact requirement.kind found.exact) (required_bound requirement.kind found.bounds)
 
 verdict_is : (model : SystemModel) (chains : List ChainAnswer) (exacts : List ExactAnswer) (requirement : RequirementDef)
     → verdict_of model chains exacts requirement ≡ verdict_by requirement (found_at chains exacts (required_chain model requirement))

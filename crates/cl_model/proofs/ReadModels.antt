@@ -1,6 +1,6 @@
 -- A document in which nothing is refused means a model that is in range and whose names are of the name grammar.
-use Rattle.std.proofs.Common.{◌≡◌, Bool, true, false, cond, List, [], ◌∷◌, ◌++◌, map, All, Option, Some, None, Ok, refl, sym, subst, inl, inr, ◌⊎◌}
-use Rattle.std.specs.Prelude.{ℕ, ◌==◌, is_some, unwrap_or, codes, ◌≤◌}
+use Rattle.std.proofs.Common.{◌≡◌, Bool, true, false, cond, leb, List, [], ◌∷◌, ◌++◌, map, All, Option, Some, None, Ok, refl, sym, subst, inl, inr, ◌⊎◌}
+use Rattle.std.specs.Prelude.{ℕ, is_some, unwrap_or, codes, ◌≤◌}
 use Rattle.std.specs.Str.{bytes_eq}
 use Rattle.toml.specs.Data.{Data, string, integer, float, boolean, datetime, array, table, Members}
 use Rattle.cl_model.specs.declared.limits.TheConstants.{LEAST_JOBS_OF_BURST, MOST_JOBS_OF_BURST, MOST_TICKS, MOST_REQUIRED, MOST_PRIORITY, MOST_CORES, MOST_STIMULI, MOST_LABELS, MOST_TASKS, MOST_RUNNABLES, MOST_ACCESSES, MOST_CHAINS, MOST_STEPS, MOST_HOPS, MOST_REQUIREMENTS}
@@ -54,7 +54,7 @@ chosen false false false is h = absurd cc
 
 word_known : (version : ℕ) (word : List ℕ) → is_some (meaning_of (stimulus_forms version) word) ≡ true → IsForm (meaning_of (stimulus_forms version) word)
 word_known version word =
-    rw (later_is (version == 2) word) (chosen (bytes_eq (codes "periodic") word) (bytes_eq (codes "sporadic") word) (version == 2) (bytes_eq (codes "burst") word))
+    rw (later_is (leb 2 version) word) (chosen (bytes_eq (codes "periodic") word) (bytes_eq (codes "sporadic") word) (leb 2 version) (bytes_eq (codes "burst") word))
 
 -- a kind that isn't refused is one of the three
 kind_known : (version : ℕ) (place : Place) (d : Data) → a_word (stimulus_forms version) place d ≡ [] → IsForm (meaning_of (stimulus_forms version) (text_in d))
@@ -203,10 +203,10 @@ record IsRequirementRead (r : RequirementDef) : Type 0 where
   most : r.most ≤ MOST_REQUIRED
   named : IsRequirementNamed r
 
-requirement_read : (place : Place) (ms : Members) → fields_checks requirement_fields place ms ≡ [] → IsRequirementRead (requirement_meaning ms)
+requirement_read : (version : ℕ) (place : Place) (ms : Members) → fields_checks (requirement_fields version) place ms ≡ [] → IsRequirementRead (requirement_meaning version ms)
 unfolding requirement_meaning
-requirement_read place ms h =
-    let none = fields_none requirement_fields place ms h in
+requirement_read version place ms h =
+    let none = fields_none (requirement_fields version) place ms h in
     record {
       most = (number_at_between 0 MOST_REQUIRED (at_key key.Most place) (value_at key.Most ms) none.1.1.1.0).1;
       named = record {
@@ -225,7 +225,7 @@ counts_in_range ms none = record {
   labels = short MOST_LABELS at_item (a_table_of label_fields) (λ d. label_meaning (table_of d)) (section_place part.Label) (value_at key.Label ms) none.1.1.0;
   tasks = short MOST_TASKS at_item (a_table_of task_fields) (λ d. task_meaning (table_of d)) (section_place part.Task) (value_at key.Task ms) none.1.1.1.0;
   chains = short MOST_CHAINS at_item (a_table_of chain_fields) (λ d. chain_meaning (table_of d)) (section_place part.Chain) (value_at key.Chain ms) none.1.1.1.1.0;
-  requirements = short MOST_REQUIREMENTS at_item (a_table_of requirement_fields) (λ d. requirement_meaning (table_of d)) (section_place part.Requirement) (value_at key.Requirement ms) none.1.1.1.1.1.0;
+  requirements = short MOST_REQUIREMENTS at_item (a_table_of (requirement_fields (version_in ms))) (λ d. requirement_meaning (version_in ms) (table_of d)) (section_place part.Requirement) (value_at key.Requirement ms) none.1.1.1.1.1.0;
 }
 
 -- what holds of each entry of each section
@@ -251,7 +251,7 @@ sections_read ms none = record {
   labels = entries_good (λ label. IsName label.name) (fields_checks label_fields) label_meaning label_read MOST_LABELS (section_place part.Label) (value_at key.Label ms) none.1.1.0;
   tasks = entries_good IsTaskRead (fields_checks task_fields) task_meaning task_read MOST_TASKS (section_place part.Task) (value_at key.Task ms) none.1.1.1.0;
   chains = entries_good IsChainRead (fields_checks chain_fields) chain_meaning chain_read MOST_CHAINS (section_place part.Chain) (value_at key.Chain ms) none.1.1.1.1.0;
-  requirements = entries_good IsRequirementRead (fields_checks requirement_fields) requirement_meaning requirement_read MOST_REQUIREMENTS (section_place part.Requirement) (value_at key.Requirement ms) none.1.1.1.1.1.0;
+  requirements = entries_good IsRequirementRead (fields_checks (requirement_fields (version_in ms))) (requirement_meaning (version_in ms)) (requirement_read (version_in ms)) MOST_REQUIREMENTS (section_place part.Requirement) (value_at key.Requirement ms) none.1.1.1.1.1.0;
 }
 
 sections_none : (ms : Members) → model_checks ms ≡ [] → AllNone (map (section_checks (version_in ms) ms) sections)

@@ -1,5 +1,10 @@
--- The kinds of access and of stimuli: how a kind of access is spelled, which is timed, and which stimuli are periodic.
+-- The kinds of access, of stimuli and of requirements: how they are spelled, which access is timed, and which stimuli are
+-- periodic.
 use Rattle.std.specs.Prelude.{ℕ, Bool, true, false, List, codes}
+use Rattle.cl_model.specs.declared.chain.LengthKind.{LengthKind}
+use Rattle.cl_model.specs.declared.chain.LengthKind.TheVariants.{Reaction, Age, Reduced}
+use Rattle.cl_model.specs.declared.chain.RequirementKind.{RequirementKind}
+use Rattle.cl_model.specs.declared.chain.RequirementKind.TheVariants.{Length, Delay}
 use Rattle.cl_model.specs.declared.stimulus.StimulusKind.{StimulusKind}
 use Rattle.cl_model.specs.declared.stimulus.StimulusKind.TheVariants.{Periodic, Sporadic, Burst}
 use Rattle.cl_model.specs.declared.task.AccessKind.{AccessKind}
@@ -22,3 +27,19 @@ abbrev pub is_periodic : StimulusKind → Bool
 is_periodic (Periodic period offset jitter) = true
 is_periodic (Sporadic least greatest) = false
 is_periodic (Burst period offset count distance) = false
+
+-- the word of a kind of length
+abbrev pub length_word : LengthKind → List ℕ
+length_word Reaction = codes "reaction"
+length_word Age = codes "age"
+length_word Reduced = codes "reduced"
+
+-- the word of a kind of requirement
+abbrev pub requirement_word : RequirementKind → List ℕ
+requirement_word (Length kind) = length_word kind
+requirement_word Delay = codes "delay"
+
+-- whether what a requirement limits is the delay
+abbrev pub is_delay : RequirementKind → Bool
+is_delay (Length kind) = false
+is_delay Delay = true

@@ -38,7 +38,7 @@ sections =
     ∷ record { key = key.Label; part = part.Label; limit = MOST_LABELS; entry = λ version. a_table_of label_fields }
     ∷ record { key = key.Task; part = part.Task; limit = MOST_TASKS; entry = λ version. a_table_of task_fields }
     ∷ record { key = key.Chain; part = part.Chain; limit = MOST_CHAINS; entry = λ version. a_table_of chain_fields }
-    ∷ record { key = key.Requirement; part = part.Requirement; limit = MOST_REQUIREMENTS; entry = λ version. a_table_of requirement_fields }
+    ∷ record { key = key.Requirement; part = part.Requirement; limit = MOST_REQUIREMENTS; entry = λ version. a_table_of (requirement_fields version) }
     ∷ []
 
 -- nothing where a section is absent, and else the checks of its array
@@ -55,9 +55,9 @@ abbrev pub is_format : Option Data → Bool
 is_format (Some (string word)) = bytes_eq word (codes "chainlat")
 is_format _ = false
 
--- the whole number 1 or 2
+-- the whole number 1, 2 or 3
 abbrev pub is_version : Option Data → Bool
-is_version (Some (integer (pos n))) = (n == 1) || (n == 2)
+is_version (Some (integer (pos n))) = (n == 1) || (n == 2) || (n == 3)
 is_version _ = false
 
 -- the version of a document: the whole number at the key `version`, 0 where none is there
@@ -80,7 +80,7 @@ model_meaning ms = record {
   labels = tables_at label_meaning key.Label ms;
   tasks = tables_at task_meaning key.Task ms;
   chains = tables_at chain_meaning key.Chain ms;
-  requirements = tables_at requirement_meaning key.Requirement ms;
+  requirements = tables_at (requirement_meaning (version_in ms)) key.Requirement ms;
 }
 
 -- the document that the bytes write, if they are UTF-8 and write one

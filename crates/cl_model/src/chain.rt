@@ -1,4 +1,9 @@
 //! Chains of runnables linked by labels, and the requirements on them. Times are in ticks.
+ghost use Rattle.std.specs.Prelude.{◌≡◌};
+ghost use Rattle.cl_model.specs.Kinds.{length_word, requirement_word, is_delay};
+ghost use Rattle.cl_model.specs.Reading.Checks.{meaning_of};
+ghost use Rattle.cl_model.specs.Reading.Tables.{requirement_words};
+
 use crate::copying::TryCopy;
 use crate::list::List;
 use crate::name::Name;
@@ -13,6 +18,60 @@ pub enum LengthKind {
     Reduced,
 }
 
+/// What a requirement limits: a length of its chain or its delay.
+#[derive(Clone, Copy, Debug, PartialEq, Eq)]
+pub enum RequirementKind {
+    Length(LengthKind),
+    /// From the arrival of the first job to the last write.
+    Delay,
+}
+
+impl LengthKind {
+    /// Returns the word of this kind in a model file.
+    pub fn word(self) -> &'static str
+        ensures { result.now ≡ length_word self }
+    {
+        match self {
+            LengthKind::Reaction => "reaction",
+            LengthKind::Age => "age",
+            LengthKind::Reduced => "reduced",
+        }
+    }
+}
+
+impl RequirementKind {
+    /// Whether the kind is `Delay`.
+    pub fn is_delay(self) -> bool
+        ensures { result ≡ is_delay self }
+    {
+        matches!(self, RequirementKind::Delay)
+    }
+
+    /// Returns the word of this kind in a model file.
+    pub fn word(self) -> &'static str
+        ensures { result.now ≡ requirement_word self }
+    {
+        match self {
+            RequirementKind::Length(kind) => kind.word(),
+            RequirementKind::Delay => "delay",
+        }
+    }
+
+    /// Finds the kind that has this word in files of this version, or `None` exactly where none has
+    /// it.
+    pub fn of_word(version: u64, word: &[u8]) -> Option<RequirementKind>
+        ensures { result ≡ meaning_of (requirement_words version) word.now }
+    {
+        match word {
+            b"reaction" => Some(RequirementKind::Length(LengthKind::Reaction)),
+            b"age" => Some(RequirementKind::Length(LengthKind::Age)),
+            b"reduced" => Some(RequirementKind::Length(LengthKind::Reduced)),
+            b"delay" if version >= 3 => Some(RequirementKind::Delay),
+            _ => None,
+        }
+    }
+}
+
 /// A chain of runnables, each of which writes a label that the next one reads.
 #[derive(Debug, PartialEq, Eq, Drop)]
 pub struct ChainDef {
@@ -22,13 +81,13 @@ pub struct ChainDef {
     pub labels: List<Name>,
 }
 
-/// A requirement: the most that a length of a chain may be.
+/// A requirement: the most that a length of a chain, or its delay, may be.
 #[derive(Debug, PartialEq, Eq, Drop)]
 pub struct RequirementDef {
     pub name: Name,
     pub chain: Name,
-    pub kind: LengthKind,
-    /// The greatest length that is allowed.
+    pub kind: RequirementKind,
+    /// The most ticks that are allowed.
     pub most: u64,
 }
 

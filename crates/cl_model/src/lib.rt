@@ -23,7 +23,7 @@ mod task;
 mod task_numbers;
 mod valid_model;
 
-pub use chain::{ChainDef, LengthKind, RequirementDef};
+pub use chain::{ChainDef, LengthKind, RequirementDef, RequirementKind};
 pub use copying::TryCopy;
 pub use entries::{Named, name_numbers};
 pub use group::{Group, Step};

@@ -22,7 +22,7 @@ use Rattle.cl_phase.specs.declared.stop.Stop.{Stop}
 use Rattle.cl_phase.specs.declared.keeping.Keeping.{Keeping}
 use Rattle.cl_phase.specs.Kept.{phase_beside, kept_with, pace_with}
 use Rattle.cl_phase.specs.Walks.{no_stop}
-use Rattle.cl_phase.specs.TightBounds.{lag_to_next, stops_beside, stops_of, span_of}
+use Rattle.cl_phase.specs.TightBounds.{lag_to_next, stops_beside, stops_of, span_of, last_write}
 use Rattle.cl_phase.specs.Inner.Ranges.{IsPaceInRange, AreStopsInRange}
 use Rattle.cl_phase.specs.Inner.Keeping.{AreKept, AreKeptIn, IsBeside}
 use Rattle.cl_phase.specs.Inner.Course.{first_lag}
@@ -155,16 +155,20 @@ module _ (system : System) (groups : List Group) (some_groups : 0 < length group
       pub course_kept : AreKeptIn stops keeping
       course_kept = kept_in stops keeping so_far.kept
 
--- from the first read to the last write, by the list of timings
+-- ---- the ends, by the list of timings
+
+last_in : (first : GroupTiming) (later : List GroupTiming) (d : GroupTiming) → get_or (first ∷ later) (length later) d ≡ last_of first later
+last_in first [] d = refl
+last_in first (next ∷ later) d = last_in next later d
+
+pub write_by : (timing : Group → GroupTiming) (groups : List Group) → 0 < length groups → (d : GroupTiming)
+    → (get_or (map timing groups) (length (map timing groups) - 1) d).write ≡ last_write timing groups
+write_by timing [] some d = absurd (omega (arith, some))
+write_by timing (first ∷ later) some d =
+    let place : length (map timing (first ∷ later)) - 1 ≡ length (map timing later) = omega arith in
+    ap (λ n. (get_or (map timing (first ∷ later)) n d).write) place ∙ ap (λ (t : GroupTiming). t.write) (last_in (timing first) (map timing later) d)
+
 pub span_by : (timing : Group → GroupTiming) (groups : List Group) → 0 < length groups → (d : GroupTiming)
     → (pos (get_or (map timing groups) (length (map timing groups) - 1) d).write -ℤ pos (get_or (map timing groups) 0 d).read) ≡ span_of timing groups
 span_by timing [] some d = absurd (omega (arith, some))
-span_by timing (first ∷ later) some d =
-    let last : get_or (map timing (first ∷ later)) (length (map timing later)) d ≡ last_of (timing first) (map timing later) = last_in (timing first) (map timing later) d in
-    let place : length (map timing (first ∷ later)) - 1 ≡ length (map timing later) = omega arith in
-    ap (λ n. pos (get_or (map timing (first ∷ later)) n d).write -ℤ pos (timing first).read) place
-    ∙ ap (λ (t : GroupTiming). pos t.write -ℤ pos (timing first).read) last
-  where
-    last_in : (first : GroupTiming) (later : List GroupTiming) (d : GroupTiming) → get_or (first ∷ later) (length later) d ≡ last_of first later
-    last_in first [] d = refl
-    last_in first (next ∷ later) d = last_in next later d
+span_by timing (first ∷ later) some d = ap (λ n. pos n -ℤ pos (timing first).read) (write_by timing (first ∷ later) some d)

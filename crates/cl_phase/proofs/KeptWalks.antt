@@ -14,11 +14,12 @@ use Rattle.cl_phase.specs.declared.pace.Pace.TheVariants.{Kept}
 use Rattle.cl_phase.specs.declared.stop.Stop.{Stop}
 use Rattle.cl_phase.specs.Pace.{IsPace, first_from, last_by}
 use Rattle.cl_phase.specs.Walks.{pace_at}
-use Rattle.cl_phase.specs.TightBounds.{stops_of, hyperperiod_in, slowest, starts, ticks_or_none, length_from, reduced_from, bounds_from, span_of, tight_bounds}
+use Rattle.cl_phase.specs.TightBounds.{stops_of, hyperperiod_in, slowest, starts, ticks_or_none, length_from, reduced_from, delay_from, bounds_from, span_of, last_write, tight_bounds}
 use Rattle.cl_phase.proofs.StartFacts.{start_within, start_reached}
 use Rattle.cl_phase.proofs.SlowestFacts.{slowest_within, slowest_is_kept}
 use Rattle.cl_phase.proofs.StopFacts.{length_stops, stop_is_pace, stops_step, stops_come_round, stops_hyperperiod}
 use Rattle.cl_phase.proofs.WalkStarts.{AreStops, IsArrivalAt, length_bounded, reduced_bounded}
+use Rattle.cl_phase.proofs.DelayWalks.{delay_bounded}
 use Rattle.cl_phase.proofs.PhaseAnswers.{LeadsTo}
 use Rattle.cl_phase.proofs.EachPhase.{IsGreatestOver, AreOverAll, each_phase}
 
@@ -81,36 +82,45 @@ module _ (system : System) (sound : IsSound system) (timing : Group → GroupTim
     arrives_there : (arrival : ℤ) → IsArrivalOf phase arrival → IsArrivalAt (pace_at stops place) arrival
     arrives_there arrival arrives = subst (λ pace. IsArrivalAt pace arrival) (sym keeps) arrives
 
-    reaction_is : (span : ℤ) → (bounds_from stops span place).reaction
+    reaction_is : (span : ℤ) (write : ℕ) → (bounds_from stops span write place).reaction
         ≡ greatest_by (λ arrival. ticks_or_none (length_from stops span place (pos arrival))) (starts (Kept phase) (hyperperiod_in stops))
     unfolding bounds_from
-    reaction_is span =
+    reaction_is span write =
         ap (λ pace. greatest_by (λ arrival. ticks_or_none (length_from stops span place (pos arrival))) (starts pace (hyperperiod_in stops))) keeps
 
-    reduced_is : (span : ℤ) → (bounds_from stops span place).reduced
+    reduced_is : (span : ℤ) (write : ℕ) → (bounds_from stops span write place).reduced
         ≡ greatest_by (λ arrival. ticks_or_none (reduced_from stops span place (pos arrival))) (starts (Kept phase) (hyperperiod_in stops))
     unfolding bounds_from
-    reduced_is span =
+    reduced_is span write =
         ap (λ pace. greatest_by (λ arrival. ticks_or_none (reduced_from stops span place (pos arrival))) (starts pace (hyperperiod_in stops))) keeps
 
-    pub over_all : (span : ℤ) → AreOverAll stops span place (IsArrivalOf phase)
-    over_all span = record {
+    delay_is : (span : ℤ) (write : ℕ) → (bounds_from stops span write place).delay
+        ≡ greatest_by (λ arrival. ticks_or_none (delay_from stops write place (pos arrival))) (starts (Kept phase) (hyperperiod_in stops))
+    unfolding bounds_from
+    delay_is span write =
+        ap (λ pace. greatest_by (λ arrival. ticks_or_none (delay_from stops write place (pos arrival))) (starts pace (hyperperiod_in stops))) keeps
+
+    pub over_all : (span : ℤ) (write : ℕ) → AreOverAll stops span write place (IsArrivalOf phase)
+    over_all span write = record {
       within = within;
       leads = subst (LeadsTo (IsArrivalOf phase)) (sym keeps) (kept_leads phase is_phase);
-      lengths = over_starts phase is_phase (hyperperiod_in stops) (length_from stops span place) (bounds_from stops span place).reaction (reaction_is span)
-          (λ arrival arrives. length_bounded stops place are_stops span arrival (arrives_there arrival arrives));
-      reduced = over_starts phase is_phase (hyperperiod_in stops) (reduced_from stops span place) (bounds_from stops span place).reduced (reduced_is span)
-          (λ arrival arrives. reduced_bounded stops place are_stops span arrival (arrives_there arrival arrives));
+      lengths = over_starts phase is_phase (hyperperiod_in stops) (length_from stops span place) (bounds_from stops span write place).reaction (reaction_is span write)
+          (λ arrival arrives. length_bounded stops place are_stops span write arrival (arrives_there arrival arrives));
+      reduced = over_starts phase is_phase (hyperperiod_in stops) (reduced_from stops span place) (bounds_from stops span write place).reduced (reduced_is span write)
+          (λ arrival arrives. reduced_bounded stops place are_stops span write arrival (arrives_there arrival arrives));
+      delays = over_starts phase is_phase (hyperperiod_in stops) (delay_from stops write place) (bounds_from stops span write place).delay (delay_is span write)
+          (λ arrival arrives. delay_bounded stops place are_stops span write arrival (arrives_there arrival arrives));
     }
 
   -- each group that keeps its phase gives the tight bounds
   pub phases_agree : (place : ℕ) → place < length groups → (phase : Phase) → pace_at stops place ≡ Kept phase
-      → bounds_from stops (span_of timing groups) place ≡ tight_bounds system timing groups
+      → bounds_from stops (span_of timing groups) (last_write timing groups) place ≡ tight_bounds system timing groups
   unfolding tight_bounds
   phases_agree place within phase keeps =
       let here : place < length stops = omega (arith, within, length_stops system timing groups []) in
       let slow = slowest_is_kept stops place phase here keeps in
       let span = span_of timing groups in
-      each_phase stops (λ other below. stops_step system timing sound groups all [] other (omega (arith, below, length_stops system timing groups []))) span
-      place (slowest stops) (IsArrivalOf phase) (IsArrivalOf slow.phase) (over_all place phase here keeps span)
-      (over_all (slowest stops) slow.phase (slowest_within stops (omega (arith, here))) slow.keeps span)
+      let write = last_write timing groups in
+      each_phase stops (λ other below. stops_step system timing sound groups all [] other (omega (arith, below, length_stops system timing groups []))) span write
+      place (slowest stops) (IsArrivalOf phase) (IsArrivalOf slow.phase) (over_all place phase here keeps span write)
+      (over_all (slowest stops) slow.phase (slowest_within stops (omega (arith, here))) slow.keeps span write)

@@ -40,3 +40,11 @@ pub mod BackwardExists
 pub mod KeptInTime
 pub mod ChainsComplete
 pub mod SomeTicks
+pub mod DelaySteps
+pub mod DelayWalks
+pub mod DelaySafety
+pub mod DelayPhases
+pub mod DelayReads
+pub mod DelayExists
+pub mod DelayReactions
+pub mod DelaySums

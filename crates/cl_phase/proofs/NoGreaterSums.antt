@@ -9,16 +9,17 @@ use Rattle.cl_runs.specs.TaskTiming.{System}
 use Rattle.cl_model.proofs.Greatest.{greatest_within}
 use Rattle.cl_bound.specs.declared.group_timing.GroupTiming.{GroupTiming}
 use Rattle.cl_bound.specs.Hops.{forward_hop, backward_hop, hops}
-use Rattle.cl_bound.specs.Bounds.{Lengths, AreBoundsOf, greatest_reaction, greatest_reduced}
+use Rattle.cl_bound.specs.Bounds.{Lengths, AreBoundsOf, greatest_reaction, greatest_reduced, greatest_delay}
 use Rattle.cl_bound.specs.NoGreater.{AreNoGreater}
 use Rattle.cl_bound.proofs.ReactionIsAge.{reaction_is_age}
 use Rattle.cl_phase.specs.declared.stop.Stop.{Stop}
 use Rattle.cl_phase.specs.Pace.{greatest_step}
 use Rattle.cl_phase.specs.Walks.{pace_at, last_place}
-use Rattle.cl_phase.specs.TightBounds.{hyperperiod_in, starts, ticks_or_none, span_of, length_from, reduced_from, bounds_from}
+use Rattle.cl_phase.specs.TightBounds.{hyperperiod_in, starts, ticks_or_none, span_of, last_write, length_from, reduced_from, delay_from, bounds_from}
 use Rattle.cl_phase.proofs.Stepped.{IsStepped}
 use Rattle.cl_phase.proofs.WalkStarts.{AreStops}
 use Rattle.cl_phase.proofs.RunWalks.{AreStopsOf}
+use Rattle.cl_phase.proofs.DelaySums.{delay_near}
 use Rattle.cl_phase.proofs.WalkSums.{ahead, behind, length_near, reduced_near}
 
 -- where each number is a hop more than the one before it, the last is the sum of the hops more than the first
@@ -73,6 +74,14 @@ module _ (system : System) (timing : Group → GroupTiming) (first : Group) (lat
       behind_is,
     )
 
+    delay_within_sum : delay_from stops (last_write timing (first ∷ later)) place arrival ≤ℤ greatest_delay (map timing (first ∷ later))
+    delay_within_sum = omega (
+      arith,
+      ints,
+      delay_near stops stepped place is arrival (last_write timing (first ∷ later)),
+      ahead_is,
+    )
+
 -- a number of ticks is at most a natural number that a length is at most
 ticks_within : (length : ℤ) (most : ℕ) → length ≤ℤ pos most → ticks_or_none length ≤ most
 ticks_within (pos n) most h = omega (arith, ints, h)
@@ -88,7 +97,7 @@ greatest_ticks length most bound is each moments = greatest_within (λ moment. t
 pub no_greater_than_sums : (system : System) (timing : Group → GroupTiming) (groups : List Group) → 0 < length groups → (stops : List Stop)
     → AreStopsOf system timing groups stops → AreStepsOf timing groups stops → (place : ℕ) → AreStops stops place
     → (sums : Lengths) → AreBoundsOf (map timing groups) sums
-    → AreNoGreater (bounds_from stops (span_of timing groups) place) sums
+    → AreNoGreater (bounds_from stops (span_of timing groups) (last_write timing groups) place) sums
 unfolding bounds_from
 no_greater_than_sums system timing [] some stops of steps place are sums sum = absurd (omega (arith, some))
 no_greater_than_sums system timing (first ∷ later) some stops of steps place are sums sum =
@@ -101,4 +110,6 @@ no_greater_than_sums system timing (first ∷ later) some stops of steps place a
           (sum.age ∙ sym (reaction_is_age (map timing (first ∷ later)))) each from;
       reduced = greatest_ticks (reduced_from stops span place) sums.reduced _ sum.reduced
           (reduced_within_sum system timing first later stops of steps are.stepped place are.is_place) from;
+      delay = greatest_ticks (delay_from stops (last_write timing (first ∷ later)) place) sums.delay _ sum.delay
+          (delay_within_sum system timing first later stops of steps are.stepped place are.is_place) from;
     }

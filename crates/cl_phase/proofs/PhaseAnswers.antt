@@ -85,7 +85,7 @@ module _ (stops : List Stop) (stepped : (place : ℕ) → place < length stops �
 
     -- ---- whole walks through both
 
-    last_is : (arrival : ℤ) → arrival_at_last stops from arrival ≡ arrival_at_last stops to (ahead arrival)
+    pub last_is : (arrival : ℤ) → arrival_at_last stops from arrival ≡ arrival_at_last stops to (ahead arrival)
     unfolding ahead
     last_is arrival =
         let apart : last_place stops - from ≡ suc hops + (last_place stops - to) = omega (arith, within) in
@@ -108,7 +108,7 @@ module _ (stops : List Stop) (stepped : (place : ℕ) → place < length stops �
 
     -- where the walk from an arrival leads, walks last as long or longer: they reach the same last arrival, and go back to
     -- one that is no later
-    back_no_later : (arrival : ℤ) → Starts arrival → arrival_at_first stops to (ahead arrival) ≤ℤ arrival_at_first stops from arrival
+    pub back_no_later : (arrival : ℤ) → Starts arrival → arrival_at_first stops to (ahead arrival) ≤ℤ arrival_at_first stops from arrival
     back_no_later arrival arrives =
         let there : ℤ = ahead arrival in
         let before : ℤ = previous (pace_at stops to) there in
@@ -136,7 +136,7 @@ module _ (stops : List Stop) (stepped : (place : ℕ) → place < length stops �
     unfolding answer
     answer_after arrival = starts.first_after (behind (previous (pace_at stops to) arrival) +ℤ pos 1)
 
-    last_no_earlier : (arrival : ℤ) → arrival_at_last stops to arrival ≤ℤ arrival_at_last stops from (answer arrival)
+    pub last_no_earlier : (arrival : ℤ) → arrival_at_last stops to arrival ≤ℤ arrival_at_last stops from (answer arrival)
     last_no_earlier arrival =
         let before : ℤ = previous (pace_at stops to) arrival in
         let start : ℤ = answer arrival in
@@ -149,7 +149,7 @@ module _ (stops : List Stop) (stepped : (place : ℕ) → place < length stops �
         ] in
         omega (arith, ints, last_is start, last_rises_with arrival (ahead start) le)
 
-    first_no_later : (arrival : ℤ) → arrival_at_first stops from (answer arrival) ≤ℤ arrival_at_first stops to arrival
+    pub first_no_later : (arrival : ℤ) → arrival_at_first stops from (answer arrival) ≤ℤ arrival_at_first stops to arrival
     first_no_later arrival =
         let before : ℤ = previous (pace_at stops to) arrival in
         let start : ℤ = answer arrival in

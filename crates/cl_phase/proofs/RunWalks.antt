@@ -52,7 +52,7 @@ span_is timing (first ∷ later) some =
 through : (a b c : ℤ) → a ≤ℤ b → b ≤ℤ c → a ≤ℤ c
 through a b c h k = omega (arith, ints, h, k)
 
-follows : (before after lag other : ℤ) → other ≡ lag → (before +ℤ pos 1) ≤ℤ (after +ℤ lag) → (before +ℤ pos 1) ≤ℤ (after +ℤ other)
+pub follows : (before after lag other : ℤ) → other ≡ lag → (before +ℤ pos 1) ≤ℤ (after +ℤ lag) → (before +ℤ pos 1) ≤ℤ (after +ℤ other)
 follows before after lag other same h = omega (arith, ints, same, h)
 
 -- of each group a job of the run that isn't the last one, with its next job less than the lag before the next group's
@@ -63,7 +63,7 @@ pub record AreMissedJobs (timing : Group → GroupTiming) (groups : List Group) 
       ≤ℤ (pos (arrival_in run groups place (suc (jobs place))) +ℤ lag_between timing groups place)
 
 module _ (system : System) (timing : Group → GroupTiming) (groups : List Group) (stops : List Stop) (of : AreStopsOf system timing groups stops)
-    (place : ℕ) (are : AreStops stops place) (span : ℤ) (run : Run) (legal : IsLegal system run) (jobs : ℕ → ℕ)
+    (place : ℕ) (are : AreStops stops place) (span : ℤ) (write : ℕ) (run : Run) (legal : IsLegal system run) (jobs : ℕ → ℕ)
     (missed : AreMissedJobs timing groups run jobs) where
   abbrev before : ℕ → ℤ
   before other = pos (arrival_in run groups other (jobs other))
@@ -91,16 +91,16 @@ module _ (system : System) (timing : Group → GroupTiming) (groups : List Group
   arrives = after_arrives (pace_at stops place) (before place) (after place) (linked_jobs.neighbours place are.is_place)
 
   -- to the later job
-  pub reaction_covers : ((after (last_place stops) -ℤ before 0) +ℤ span) ≤ℤ pos (bounds_from stops span place).reaction
+  pub reaction_covers : ((after (last_place stops) -ℤ before 0) +ℤ span) ≤ℤ pos (bounds_from stops span write place).reaction
   reaction_covers = through _ (length_from stops span place (after place)) _
-      (length_covers stops are.stepped before after linked_jobs place are.is_place span) (length_bounded stops place are span (after place) arrives)
+      (length_covers stops are.stepped before after linked_jobs place are.is_place span) (length_bounded stops place are span write (after place) arrives)
 
-  pub age_covers : ((after (last_place stops) -ℤ before 0) +ℤ span) ≤ℤ pos (bounds_from stops span place).age
+  pub age_covers : ((after (last_place stops) -ℤ before 0) +ℤ span) ≤ℤ pos (bounds_from stops span write place).age
   age_covers = through _ (length_from stops span place (after place)) _
-      (length_covers stops are.stepped before after linked_jobs place are.is_place span) (age_bounded stops place are span (after place) arrives)
+      (length_covers stops are.stepped before after linked_jobs place are.is_place span) (age_bounded stops place are span write (after place) arrives)
 
   -- to the earlier job
-  pub reduced_covers_jobs : ((before (last_place stops) -ℤ before 0) +ℤ span) ≤ℤ pos (bounds_from stops span place).reduced
+  pub reduced_covers_jobs : ((before (last_place stops) -ℤ before 0) +ℤ span) ≤ℤ pos (bounds_from stops span write place).reduced
   reduced_covers_jobs = through _ (reduced_from stops span place (after place)) _
       (reduced_covers stops are.stepped before after linked_jobs place are.is_place span keeps_or_first)
-      (reduced_bounded stops place are span (after place) arrives)
+      (reduced_bounded stops place are span write (after place) arrives)

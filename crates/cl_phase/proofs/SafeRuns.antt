@@ -9,6 +9,7 @@ use Rattle.cl_runs.specs.Run.{Run, jobs_of}
 use Rattle.cl_runs.specs.Legal.{IsLegal}
 use Rattle.cl_runs.specs.Moments.{Reads, Writes}
 use Rattle.cl_runs.specs.Chains.{JobChain, chain_length, first_group, last_group, first_job, last_job, IsForwardChain, IsAgeChain, IsReducedChain, AreBackwardLinks}
+use Rattle.cl_runs.specs.Delays.{IsDelayChain}
 use Rattle.cl_runs.specs.RunChains.{run_moments}
 use Rattle.cl_runs.proofs.ChainsKept.{run_age_kept, run_reduced_kept}
 use Rattle.cl_bound.specs.declared.group_timing.GroupTiming.{GroupTiming}
@@ -83,9 +84,9 @@ last_at run groups stops jobs job number same is =
 
 module _ (system : System) (sound : IsSound system) (timing : Group → GroupTiming) (groups : List Group) (keep : AreAlwaysKept system timing groups)
     (stops : List Stop) (of : AreStopsOf system timing groups stops) (place : ℕ) (are : AreStops stops place)
-    (run : Run) (legal : IsLegal system run) where
+    (write : ℕ) (run : Run) (legal : IsLegal system run) where
   reaction_safe : (chain : JobChain) → IsForwardChain (run_moments system run) groups chain
-      → chain_length chain ≤ (bounds_from stops (span_of timing groups) place).reaction
+      → chain_length chain ≤ (bounds_from stops (span_of timing groups) write place).reaction
   unfolding run_moments
   reaction_safe chain complete =
       let job = job_before system sound timing groups keep run legal chain complete in
@@ -97,11 +98,11 @@ module _ (system : System) (sound : IsSound system) (timing : Group → GroupTim
       (last_at run groups stops chain.jobs (λ n. suc (job n)) (last_job chain) of.as_many number)
       (first_reads system sound timing groups complete.some_group keep run legal (job 0) chain.from complete.from)
       (last_writes system sound timing groups complete.some_group keep run legal (last_job chain) chain.to complete.to)
-      (reaction_covers system timing groups stops of place are (span_of timing groups) run legal job
+      (reaction_covers system timing groups stops of place are (span_of timing groups) write run legal job
       (forward_missed system sound timing groups keep run legal chain complete))
 
   age_safe : (chain : JobChain) → IsAgeChain (run_moments system run) groups chain
-      → chain_length chain ≤ (bounds_from stops (span_of timing groups) place).age
+      → chain_length chain ≤ (bounds_from stops (span_of timing groups) write place).age
   unfolding run_moments
   age_safe chain complete =
       let next = next_jobs system sound timing groups keep run legal chain.jobs complete.links in
@@ -116,11 +117,11 @@ module _ (system : System) (sound : IsSound system) (timing : Group → GroupTim
       (last_at next.longer groups stops chain.jobs (λ n. suc (slice_index chain.jobs n)) (last_job chain + 1) of.as_many number)
       (first_reads system sound timing groups some keep next.longer next.legal (first_job chain) chain.from there.from)
       (last_writes system sound timing groups some keep next.longer next.legal (last_job chain + 1) chain.to there.to)
-      (age_covers system timing groups stops of place are (span_of timing groups) next.longer next.legal (slice_index chain.jobs)
+      (age_covers system timing groups stops of place are (span_of timing groups) write next.longer next.legal (slice_index chain.jobs)
       (backward_missed system sound timing groups keep run chain.jobs next there.links))
 
   reduced_safe : (chain : JobChain) → IsReducedChain (run_moments system run) groups chain
-      → chain_length chain ≤ (bounds_from stops (span_of timing groups) place).reduced
+      → chain_length chain ≤ (bounds_from stops (span_of timing groups) write place).reduced
   unfolding run_moments
   reduced_safe chain complete =
       let next = next_jobs system sound timing groups keep run legal chain.jobs complete.links in
@@ -134,8 +135,9 @@ module _ (system : System) (sound : IsSound system) (timing : Group → GroupTim
       (last_at next.longer groups stops chain.jobs (slice_index chain.jobs) (last_job chain) of.as_many (ap (slice_index chain.jobs) last))
       (first_reads system sound timing groups some keep next.longer next.legal (first_job chain) chain.from there.from)
       (last_writes system sound timing groups some keep next.longer next.legal (last_job chain) chain.to there.to)
-      (reduced_covers_jobs system timing groups stops of place are (span_of timing groups) next.longer next.legal (slice_index chain.jobs)
+      (reduced_covers_jobs system timing groups stops of place are (span_of timing groups) write next.longer next.legal (slice_index chain.jobs)
       (backward_missed system sound timing groups keep run chain.jobs next there.links))
 
-  pub bounds_at_least : AreAtLeast system groups (bounds_from stops (span_of timing groups) place) run
-  bounds_at_least = record { reaction = reaction_safe; age = age_safe; reduced = reduced_safe }
+  pub bounds_at_least : ((chain : JobChain) → IsDelayChain system run groups chain → chain_length chain ≤ (bounds_from stops (span_of timing groups) write place).delay)
+      → AreAtLeast system groups (bounds_from stops (span_of timing groups) write place) run
+  bounds_at_least delay_safe = record { reaction = reaction_safe; age = age_safe; reduced = reduced_safe; delay = delay_safe }

@@ -63,7 +63,7 @@ module _ (stops : List Stop) (span : ℤ) (place : ℕ) (phase : Phase) (is : Is
 
   -- the search before its first arrival
   pub search_begins : (arrival : ℤ) → arrival ≡ first_arrival phase (pos 0) → arrival ≤ℤ pos MOST_TICKS → searched arrival
-  search_begins arrival first near = by_first stops span place phase is ticks 0 arrival (rw first (first_after phase is (pos 0))) (λ later at_later after.
+  search_begins arrival first near = by_first 0 arrival (rw first (first_after phase is (pos 0))) (λ later at_later after.
       let none : min 0 ticks ≡ 0 = omega arith in
       let at : first_arrival phase (pos 0) ≡ pos later = sym first ∙ at_later in
       record {
@@ -71,7 +71,7 @@ module _ (stops : List Stop) (span : ℤ) (place : ℕ) (phase : Phase) (is : Is
         is = at_later;
         found = test_from_arrival phase is (pos later) (subst (IsArrivalOf phase) at (first_arrives phase is (pos 0)));
         near = omega (arith, ints, near, at_later);
-        none = ap (find test) (gap stops span place phase is ticks 0 later at after ∙ ap (starts (Kept phase)) none);
+        none = ap (find test) (gap phase is ticks 0 later at after ∙ ap (starts (Kept phase)) none);
       })
 
   starts_with : (arrival : ℤ) (so_far : searched arrival) → arrival <ℤ pos ticks
@@ -86,7 +86,7 @@ module _ (stops : List Stop) (span : ℤ) (place : ℕ) (phase : Phase) (is : Is
   search_goes_on arrival next so_far below fails first near =
       let from = so_far.moment + 1 in
       let at_from : (arrival +ℤ pos 1) ≡ pos from = omega (arith, ints, so_far.is) in
-      by_first stops span place phase is ticks from next (rw (first, at_from) (first_after phase is (pos from))) (λ later at_later after.
+      by_first from next (rw (first, at_from) (first_after phase is (pos from))) (λ later at_later after.
       let at : first_arrival phase (pos from) ≡ pos later = ap (first_arrival phase) (sym at_from) ∙ sym first ∙ at_later in
       let within : so_far.moment < ticks = omega (arith, ints, below, so_far.is) in
       let one : min from ticks ≡ so_far.moment + 1 = omega (arith, within) in
@@ -95,7 +95,7 @@ module _ (stops : List Stop) (span : ℤ) (place : ℕ) (phase : Phase) (is : Is
         is = at_later;
         found = test_from_arrival phase is (pos later) (subst (IsArrivalOf phase) at (first_arrives phase is (pos from)));
         near = omega (arith, ints, near, at_later, within, so_far.is);
-        none = ap (find test) (gap stops span place phase is ticks from later at after ∙ ap (starts (Kept phase)) one ∙ starts_with arrival so_far below)
+        none = ap (find test) (gap phase is ticks from later at after ∙ ap (starts (Kept phase)) one ∙ starts_with arrival so_far below)
             ∙ none_next test (starts (Kept phase) (min so_far.moment ticks)) so_far.moment so_far.none fails;
       })
 

@@ -10,6 +10,7 @@ use Rattle.cl_bound.specs.declared.group_timing.GroupTiming.{GroupTiming}
 use Rattle.cl_phase.specs.CompleteChains.{HasCompleteChains, AreSomeTicks}
 use Rattle.cl_phase.specs.TightBounds.{tight_bounds}
 use Rattle.cl_phase.proofs.ChainsComplete.{has_complete_chains}
+use Rattle.cl_phase.proofs.DelayExists.{delay_takes_time}
 use Rattle.cl_phase.proofs.TightSafety.{kept_safe}
 
 module _ (system : System) (sound : IsSound system) (timing : Group → GroupTiming) (groups : List Group) (some : 0 < length groups)
@@ -25,4 +26,5 @@ module _ (system : System) (sound : IsSound system) (timing : Group → GroupTim
     reaction = let one = has.each Reaction in omega (arith, one.lasts, at_least.reaction one.chain one.complete);
     age = let one = has.each Age in omega (arith, one.lasts, at_least.age one.chain one.complete);
     reduced = let one = has.each Reduced in omega (arith, one.lasts, at_least.reduced one.chain one.complete);
+    delay = delay_takes_time system sound timing groups some keep;
   }

@@ -11,7 +11,8 @@ use Rattle.cl_bound.specs.NoGreater.{AreNoGreater}
 use Rattle.cl_bound.specs.Promises.{AreSafe}
 use Rattle.cl_bound.specs.SettledChains.{IsGroupOfTask}
 use Rattle.cl_bound.proofs.ChainBounds.{AreAlwaysKept}
-use Rattle.cl_phase.specs.TightBounds.{stops_of, slowest, tight_bounds}
+use Rattle.cl_phase.specs.TightBounds.{stops_of, slowest, last_write, tight_bounds}
+use Rattle.cl_phase.proofs.DelaySafety.{delays_within}
 use Rattle.cl_phase.proofs.NoGreaterSums.{no_greater_than_sums}
 use Rattle.cl_phase.proofs.SafeRuns.{bounds_at_least}
 use Rattle.cl_phase.proofs.StopsOfGroups.{have_stops, are_steps_of}
@@ -26,11 +27,13 @@ safe_of_kept system sound timing [] all keep run legal = record {
   reaction = λ chain complete. absurd (omega (arith, complete.some_group));
   age = λ chain complete. absurd (omega (arith, complete.links.some_group));
   reduced = λ chain complete. absurd (omega (arith, complete.links.some_group));
+  delay = λ chain complete. absurd (omega (arith, complete.some_group));
 }
 safe_of_kept system sound timing (first ∷ later) all keep run legal =
     let have = have_stops system sound timing (first ∷ later) all (omega arith) in
     bounds_at_least system sound timing (first ∷ later) keep (stops_of system timing (first ∷ later)) have.of
-    (slowest (stops_of system timing (first ∷ later))) have.are run legal
+    (slowest (stops_of system timing (first ∷ later))) have.are (last_write timing (first ∷ later)) run legal
+    (delays_within system sound timing (first ∷ later) all keep run legal)
 
 pub kept_safe : (system : System) → IsSound system → (timing : Group → GroupTiming) (groups : List Group)
     → All (λ (group : Group). AlwaysKeeps system group (timing group)) groups

@@ -42,12 +42,12 @@ after_arrives (Kept phase) before after near = near.0
 after_arrives (Free greatest) before after near = tt
 
 -- a moment from which walks start that lies a whole number of rounds from an arrival
-record HasStart (stops : List Stop) (place : ℕ) (arrival : ℤ) : Type 0 where
-  first : ℕ
-  ticks : ℕ
-  round : (other : ℕ) → other < length stops → ComesRound ticks (pace_at stops other)
-  moved : (arrival ≡ (pos first +ℤ pos ticks)) ⊎ (pos first ≡ (arrival +ℤ pos ticks))
-  taken : (number : ℕ → ℕ) → number first ≤ greatest_by number (starts (pace_at stops place) (hyperperiod_in stops))
+pub record HasStart (stops : List Stop) (place : ℕ) (arrival : ℤ) : Type 0 where
+  pub first : ℕ
+  pub ticks : ℕ
+  pub round : (other : ℕ) → other < length stops → ComesRound ticks (pace_at stops other)
+  pub moved : (arrival ≡ (pos first +ℤ pos ticks)) ⊎ (pos first ≡ (arrival +ℤ pos ticks))
+  pub taken : (number : ℕ → ℕ) → number first ≤ greatest_by number (starts (pace_at stops place) (hyperperiod_in stops))
 
 -- after whole times a round a pace has come round
 rounds : (pace : Pace) (times ticks : ℕ) → ComesRound ticks pace → ComesRound (times * ticks) pace
@@ -98,7 +98,7 @@ module _ (stops : List Stop) (place : ℕ) (are : AreStops stops place) where
   free_start_of free (pos n) = free_start free 0 n (pos n) refl (inl (omega (arith, ints)))
   free_start_of free (negsuc n) = free_start free 0 (suc n) (negsuc n) refl (inr (omega (arith, ints)))
 
-  start_of : (arrival : ℤ) → IsArrivalAt (pace_at stops place) arrival → HasStart stops place arrival
+  pub start_of : (arrival : ℤ) → IsArrivalAt (pace_at stops place) arrival → HasStart stops place arrival
   start_of arrival arrives = elim are.start [
     | inl kept ↦ kept_start kept arrival (subst (λ pace. IsArrivalAt pace arrival) kept.1 arrives)
     | inr none ↦ free_start_of none.1 arrival
@@ -110,11 +110,12 @@ ticks_bound (pos n) = omega (arith, ints)
 ticks_bound (negsuc n) = omega (arith, ints)
 
 -- what is the same at the start as at an arrival is no greater than the greatest
-from_start : (length : ℤ → ℤ) (arrival : ℤ) (first most : ℕ) → length arrival ≡ length (pos first) → ticks_or_none (length (pos first)) ≤ most
+pub from_start : (length : ℤ → ℤ) (arrival : ℤ) (first most : ℕ) → length arrival ≡ length (pos first) → ticks_or_none (length (pos first)) ≤ most
     → length arrival ≤ℤ pos most
 from_start length arrival first most same within = omega (arith, ints, same, within, ticks_bound (length (pos first)))
 
-module _ (stops : List Stop) (place : ℕ) (are : AreStops stops place) (span arrival : ℤ) (arrives : IsArrivalAt (pace_at stops place) arrival) where
+module _ (stops : List Stop) (place : ℕ) (are : AreStops stops place) (span : ℤ) (write : ℕ) (arrival : ℤ)
+    (arrives : IsArrivalAt (pace_at stops place) arrival) where
   start : HasStart stops place arrival
   start = start_of stops place are arrival arrives
 
@@ -131,16 +132,16 @@ module _ (stops : List Stop) (place : ℕ) (are : AreStops stops place) (span ar
   ]
 
   -- no walks from an arrival last longer than the bounds
-  pub length_bounded : length_from stops span place arrival ≤ℤ pos (bounds_from stops span place).reaction
+  pub length_bounded : length_from stops span place arrival ≤ℤ pos (bounds_from stops span write place).reaction
   unfolding bounds_from
   length_bounded = from_start (length_from stops span place) arrival start.first _ same_length
       (start.taken (λ moment. ticks_or_none (length_from stops span place (pos moment))))
 
-  pub age_bounded : length_from stops span place arrival ≤ℤ pos (bounds_from stops span place).age
+  pub age_bounded : length_from stops span place arrival ≤ℤ pos (bounds_from stops span write place).age
   unfolding bounds_from
   age_bounded = length_bounded
 
-  pub reduced_bounded : reduced_from stops span place arrival ≤ℤ pos (bounds_from stops span place).reduced
+  pub reduced_bounded : reduced_from stops span place arrival ≤ℤ pos (bounds_from stops span write place).reduced
   unfolding bounds_from
   reduced_bounded = from_start (reduced_from stops span place) arrival start.first _ same_reduced
       (start.taken (λ moment. ticks_or_none (reduced_from stops span place (pos moment))))

@@ -94,7 +94,7 @@ module _ (stops : List Stop) (stepped : (place : ℕ) → place < length stops �
       )
 
   module _ (is : place < length stops) (arrival : ℤ) where
-    last_near : (arrival_at_last stops place arrival +ℤ ahead stops place) ≤ℤ (arrival +ℤ ahead stops (last_place stops))
+    pub last_near : (arrival_at_last stops place arrival +ℤ ahead stops place) ≤ℤ (arrival +ℤ ahead stops (last_place stops))
     last_near =
         let there : place + (last_place stops - place) ≡ last_place stops = omega (arith, is) in
         omega (arith, ints, ap (ahead stops) there, onward_near arrival (last_place stops - place) (omega (arith, is)))

@@ -48,10 +48,10 @@ module _ (stops : List Stop) (stepped : (place : ℕ) → place < length stops �
       (back stops place arrival hops -ℤ lag_at stops (place - suc hops))
 
   module _ (h : place < length stops) (span moved arrival : ℤ) (is : moved ≡ (arrival +ℤ pos ticks)) where
-    last_moves : arrival_at_last stops place moved ≡ (arrival_at_last stops place arrival +ℤ pos ticks)
+    pub last_moves : arrival_at_last stops place moved ≡ (arrival_at_last stops place arrival +ℤ pos ticks)
     last_moves = onward_moves moved arrival is (last_place stops - place) (omega (arith, h))
 
-    first_moves : arrival_at_first stops place moved ≡ (arrival_at_first stops place arrival +ℤ pos ticks)
+    pub first_moves : arrival_at_first stops place moved ≡ (arrival_at_first stops place arrival +ℤ pos ticks)
     first_moves = back_moves (previous (pace_at stops place) moved) (previous (pace_at stops place) arrival)
         (previous_moves (pace_at stops place) (stepped place h) ticks (round place h) moved arrival is) h place
 

@@ -20,16 +20,17 @@ use Rattle.cl_bound.proofs.NoGreater.{lag_no_greater, last_stays}
 use Rattle.cl_phase.specs.declared.pace.Pace.{Pace}
 use Rattle.cl_phase.specs.declared.pace.Pace.TheVariants.{Kept, Free}
 use Rattle.cl_phase.specs.declared.stop.Stop.{Stop}
-use Rattle.cl_phase.specs.Pace.{first_from, last_by, previous}
+use Rattle.cl_phase.specs.Pace.{first_from, last_by, previous, next}
 use Rattle.cl_stim.specs.Multiples.{hyperperiod_of}
 use Rattle.cl_phase.specs.Kept.{phase_beside, kept_with, pace_with, phases_in}
 use Rattle.cl_phase.specs.Walks.{pace_at, lag_at, onward, back, last_place, arrival_at_last, arrival_at_first}
-use Rattle.cl_phase.specs.TightBounds.{lag_to_next, stops_beside, stops_of, hyperperiod_in, has_no_fewer, is_slowest, slowest, starts, ticks_or_none, length_from, reduced_from, bounds_from, span_of, tight_bounds}
+use Rattle.cl_phase.specs.TightBounds.{lag_to_next, stops_beside, stops_of, hyperperiod_in, has_no_fewer, is_slowest, slowest, starts, ticks_or_none, length_from, reduced_from, delay_from, bounds_from, span_of, last_write, tight_bounds}
 use Rattle.cl_phase.proofs.Stepped.{IsStepped}
 use Rattle.cl_phase.proofs.WalksBothWays.{first_rises, last_rises}
 use Rattle.cl_phase.proofs.SlowestGroups.{pace_of, along}
 use Rattle.cl_phase.proofs.SlowestFacts.{slowest_within}
 use Rattle.cl_phase.proofs.StopFacts.{length_stops, stops_step}
+use Rattle.cl_phase.proofs.DelaySteps.{next_rises}
 
 -- stops go at the paces of others, and no lag of theirs is greater
 pub record AreCloser (stops others : List Stop) : Type 0 where
@@ -128,6 +129,15 @@ module _ (stops others : List Stop) (are : AreCloser stops others) where
             ap (λ n. previous (pace_at others n) (arrival_at_last others place arrival)) last,
           )
 
+      next_no_sooner : next (pace_at others 0) (arrival_at_first others place arrival) ≤ℤ next (pace_at stops 0) (arrival_at_first stops place arrival)
+      next_no_sooner =
+          let rises = next_rises (pace_at stops 0) (stepped 0 (omega (arith, is)))
+          (arrival_at_first others place arrival) (arrival_at_first stops place arrival) first_later in
+          omega (arith, ints, rises, ap (λ pace. next pace (arrival_at_first others place arrival)) (are.pace 0))
+
+      delay_no_longer : (write later : ℕ) → write ≤ later → delay_from stops write place arrival ≤ℤ delay_from others later place arrival
+      delay_no_longer write later writes = omega (arith, ints, last_sooner, next_no_sooner, writes)
+
       module _ (span wider : ℤ) (spans : span ≤ℤ wider) where
         length_no_longer : length_from stops span place arrival ≤ℤ length_from others wider place arrival
         length_no_longer = omega (arith, ints, last_sooner, first_later, spans)
@@ -143,7 +153,7 @@ ticks_rise (pos m) (negsuc n) le = absurd (omega (arith, ints, le))
 ticks_rise (negsuc m) more le = omega arith
 
 -- where no length is greater than another, neither is the greatest of some arrivals
-greatest_rises : (f g : ℤ → ℤ) → ((arrival : ℤ) → f arrival ≤ℤ g arrival) → (moments : List ℕ)
+pub greatest_rises : (f g : ℤ → ℤ) → ((arrival : ℤ) → f arrival ≤ℤ g arrival) → (moments : List ℕ)
     → greatest_by (λ moment. ticks_or_none (f (pos moment))) moments ≤ greatest_by (λ moment. ticks_or_none (g (pos moment))) moments
 greatest_rises f g each moments =
     greatest_within (λ moment. ticks_or_none (f (pos moment))) moments (greatest_by (λ moment. ticks_or_none (g (pos moment))) moments) (λ i d h.
@@ -154,9 +164,9 @@ greatest_rises f g each moments =
     ))
 
 module _ (stops others : List Stop) (are : AreCloser stops others) (stepped : (place : ℕ) → place < length stops → IsStepped (pace_at stops place))
-    (span wider : ℤ) (spans : span ≤ℤ wider) where
+    (span wider : ℤ) (spans : span ≤ℤ wider) (write later : ℕ) (writes : write ≤ later) where
   -- by the walks from one place
-  from_place : (place : ℕ) → place < length stops → AreNoGreater (bounds_from stops span place) (bounds_from others wider place)
+  from_place : (place : ℕ) → place < length stops → AreNoGreater (bounds_from stops span write place) (bounds_from others wider later place)
   unfolding bounds_from
   from_place place is =
       let from = starts (pace_at stops place) (hyperperiod_in stops) in
@@ -167,6 +177,8 @@ module _ (stops others : List Stop) (are : AreCloser stops others) (stepped : (p
       (λ arrival. length_no_longer stops others are stepped place is arrival span wider spans) from in
       let reduced = greatest_rises (reduced_from stops span place) (reduced_from others wider place)
       (λ arrival. reduced_no_longer stops others are stepped place is arrival span wider spans) from in
+      let delay = greatest_rises (delay_from stops write place) (delay_from others later place)
+      (λ arrival. delay_no_longer stops others are stepped place is arrival write later writes) from in
       record {
         reaction = subst (λ moments. greatest_by (λ moment. ticks_or_none (length_from stops span place (pos moment))) from
             ≤ greatest_by (λ moment. ticks_or_none (length_from others wider place (pos moment))) moments) same whole;
@@ -174,11 +186,13 @@ module _ (stops others : List Stop) (are : AreCloser stops others) (stepped : (p
             ≤ greatest_by (λ moment. ticks_or_none (length_from others wider place (pos moment))) moments) same whole;
         reduced = subst (λ moments. greatest_by (λ moment. ticks_or_none (reduced_from stops span place (pos moment))) from
             ≤ greatest_by (λ moment. ticks_or_none (reduced_from others wider place (pos moment))) moments) same reduced;
+        delay = subst (λ moments. greatest_by (λ moment. ticks_or_none (delay_from stops write place (pos moment))) from
+            ≤ greatest_by (λ moment. ticks_or_none (delay_from others later place (pos moment))) moments) same delay;
       }
 
   -- by those from the slowest
-  pub closer_no_greater : slowest stops < length stops → AreNoGreater (bounds_from stops span (slowest stops)) (bounds_from others wider (slowest others))
-  closer_no_greater is = subst (λ place. AreNoGreater (bounds_from stops span (slowest stops)) (bounds_from others wider place))
+  pub closer_no_greater : slowest stops < length stops → AreNoGreater (bounds_from stops span write (slowest stops)) (bounds_from others wider later (slowest others))
+  closer_no_greater is = subst (λ place. AreNoGreater (bounds_from stops span write (slowest stops)) (bounds_from others wider later place))
       (same_slowest stops others are) (from_place (slowest stops) is)
 
 -- ---- of groups
@@ -230,12 +244,18 @@ module _ (system : System) (timing other : Group → GroupTiming) where
       let last = last_stays timing other first later is (All-tail StaysThere first later all) in
       omega (arith, ints, is.read, last.write)
 
+  write_no_later : (groups : List Group) → All StaysThere groups → last_write timing groups ≤ last_write other groups
+  write_no_later [] all = omega arith
+  write_no_later (first ∷ later) all =
+      (last_stays timing other first later (All-head StaysThere first later all) (All-tail StaysThere first later all)).write
+
 -- over timings that stay within others, no tight bound is greater
 pub tight_within_wider : (system : System) → IsSound system → (timing other : Group → GroupTiming) (groups : List Group) → All (IsGroupOfTask system) groups
     → All (λ (group : Group). StaysWithin (timing group) (other group)) groups
     → AreNoGreater (tight_bounds system timing groups) (tight_bounds system other groups)
 unfolding tight_bounds stops_beside
-tight_within_wider system sound timing other [] of_tasks all = record { reaction = omega arith; age = omega arith; reduced = omega arith }
+tight_within_wider system sound timing other [] of_tasks all =
+    record { reaction = omega arith; age = omega arith; reduced = omega arith; delay = omega arith }
 tight_within_wider system sound timing other (first ∷ later) of_tasks all =
     let groups = first ∷ later in
     let stops = stops_of system timing groups in
@@ -243,4 +263,5 @@ tight_within_wider system sound timing other (first ∷ later) of_tasks all =
     closer_no_greater stops (stops_of system other groups) (are_closer system timing other groups all)
     (λ place h. stops_step system timing sound groups of_tasks [] place (omega (arith, h, as_many)))
     (span_of timing groups) (span_of other groups) (span_no_wider system timing other groups all)
+    (last_write timing groups) (last_write other groups) (write_no_later system timing other groups all)
     (slowest_within stops (omega (arith, as_many)))

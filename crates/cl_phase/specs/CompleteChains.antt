@@ -27,3 +27,4 @@ pub record AreSomeTicks (bounds : Lengths) : Type 0 where
   pub reaction : 1 ≤ bounds.reaction
   pub age : 1 ≤ bounds.age
   pub reduced : 1 ≤ bounds.reduced
+  pub delay : 1 ≤ bounds.delay

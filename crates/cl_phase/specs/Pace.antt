@@ -20,6 +20,10 @@ last_by (Free greatest) moment = moment -ℤ (pos greatest -ℤ pos 1)
 abbrev pub previous : Pace → (arrival : ℤ) → ℤ
 previous pace arrival = last_by pace (arrival -ℤ pos 1)
 
+-- the arrival after one; without a phase the latest moment at which it may come
+abbrev pub next : Pace → (arrival : ℤ) → ℤ
+next pace arrival = first_from pace (arrival +ℤ pos 1)
+
 -- a pace that goes on
 abbrev pub IsPace : Pace → Type 0
 IsPace (Kept phase) = IsPhase phase

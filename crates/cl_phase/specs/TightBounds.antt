@@ -14,7 +14,7 @@ use Rattle.cl_bound.specs.declared.group_timing.GroupTiming.{GroupTiming}
 use Rattle.cl_phase.specs.declared.pace.Pace.{Pace}
 use Rattle.cl_phase.specs.declared.pace.Pace.TheVariants.{Kept, Free}
 use Rattle.cl_phase.specs.declared.stop.Stop.{Stop}
-use Rattle.cl_phase.specs.Pace.{previous}
+use Rattle.cl_phase.specs.Pace.{previous, next}
 use Rattle.cl_phase.specs.Kept.{phase_beside, kept_with, pace_with, phases_in}
 use Rattle.cl_phase.specs.Walks.{pace_at, last_place, arrival_at_last, arrival_at_first}
 
@@ -82,15 +82,22 @@ abbrev pub reduced_from : List Stop → (span : ℤ) → (place : ℕ) → (arri
 reduced_from stops span place arrival =
     (previous (pace_at stops (last_place stops)) (arrival_at_last stops place arrival) -ℤ arrival_at_first stops place arrival) +ℤ span
 
+-- from the arrival of the first group's job after the one that just misses, to the write of the last group's that takes.
+-- `write` is the latest write of the last group, from its arrival
+abbrev pub delay_from : List Stop → (write : ℕ) → (place : ℕ) → (arrival : ℤ) → ℤ
+delay_from stops write place arrival =
+    (arrival_at_last stops place arrival -ℤ next (pace_at stops 0) (arrival_at_first stops place arrival)) +ℤ pos write
+
 -- the bounds by the walks from the group of a place: the longest
-unfoldable pub bounds_from : List Stop → (span : ℤ) → (place : ℕ) → Lengths
-bounds_from stops span place =
+unfoldable pub bounds_from : List Stop → (span : ℤ) → (write : ℕ) → (place : ℕ) → Lengths
+bounds_from stops span write place =
     let from = starts (pace_at stops place) (hyperperiod_in stops) in
     let longest = greatest_by (λ arrival. ticks_or_none (length_from stops span place (pos arrival))) from in
     record {
       reaction = longest;
       age = longest;
       reduced = greatest_by (λ arrival. ticks_or_none (reduced_from stops span place (pos arrival))) from;
+      delay = greatest_by (λ arrival. ticks_or_none (delay_from stops write place (pos arrival))) from;
     }
 
 -- ---- the tight bounds
@@ -102,10 +109,15 @@ span_of timing (first ∷ later) =
     pos (last_of (timing first) (map timing later)).write
     -ℤ pos (timing first).read
 
+-- the latest write of the last group
+abbrev pub last_write : (timing : Group → GroupTiming) → List Group → ℕ
+last_write timing [] = 0
+last_write timing (first ∷ later) = (last_of (timing first) (map timing later)).write
+
 -- The tight bounds of groups of a system that follow each other, where this is what is known of groups: by the walks
 -- from the group that has the fewest to make. All groups that keep their phase give the same numbers, which is a
 -- law.
 unfoldable pub tight_bounds : System → (timing : Group → GroupTiming) → List Group → Lengths
 tight_bounds system timing groups =
     let stops = stops_of system timing groups in
-    bounds_from stops (span_of timing groups) (slowest stops)
+    bounds_from stops (span_of timing groups) (last_write timing groups) (slowest stops)

@@ -16,9 +16,9 @@ use cl_model::{Group, ValidModel};
 
 /// Finds the tight bounds of groups of a valid model that follow each other, a chain of it or a
 /// part of one, from what is known of each. The bounds are the longest walks along the groups, by
-/// their phases as far as these are kept. They are at least the reaction, the age and the reduced
-/// age of each complete chain of these groups in each legal run, of any length, if what is known of
-/// the groups always holds.
+/// their phases as far as these are kept. They are at least the reaction, the age, the reduced age
+/// and the delay of each chain of these groups in each legal run, of any length, if what is known
+/// of the groups always holds.
 ///
 /// It takes no memory, counts no step, and never fails. Its time grows with the number of arrivals
 /// of the slowest group in the hyperperiod, at most a million, times the number of groups.
@@ -35,6 +35,11 @@ pub fn tight_bounds(model: &ValidModel, groups: &[Group], timings: &[GroupTiming
     let course = course_of(model, groups, timings);
     let stops = course.stops.as_slice();
     let place = course.keeping.slowest(stops);
-    let longest = longest(stops, course.span, place, course.keeping.hyperperiod);
-    Bounds::new(longest.length, longest.length, longest.reduced)
+    let longest = longest(stops, course.ends, place, course.keeping.hyperperiod);
+    Bounds::new(
+        longest.length,
+        longest.length,
+        longest.reduced,
+        longest.delay,
+    )
 }

@@ -10,17 +10,17 @@ ghost use Rattle.cl_phase.specs.Inner.Course.{first_lag, IsCourseOf};
 
 use crate::keeping::Keeping;
 use crate::stop::Stop;
+use crate::walk::Ends;
 use arrayvec::ArrayVec;
 use cl_bound::GroupTiming;
 use cl_model::{Group, MOST_STEPS, ValidModel};
 
-/// The groups of a chain, the phases that they keep, and the span: the latest write of the last
-/// group less the earliest read of the first, each counted from the arrival of its job.
+/// The groups of a chain, the phases that they keep, and the ends of the chain.
 #[derive(Drop)]
 pub(crate) struct Course {
     pub(crate) stops: ArrayVec<Stop, MOST_STEPS>,
     pub(crate) keeping: Keeping,
-    pub(crate) span: i64,
+    pub(crate) ends: Ends,
 }
 
 /// Finds the lag from the first of some groups to the next one, 0 where there is none.
@@ -58,10 +58,13 @@ pub(crate) fn course_of(model: &ValidModel, groups: &[Group], timings: &[GroupTi
         stops.push(Stop { pace, lag });
         keeping = with;
     }
-    let last = timings[timings.len() - 1];
+    let ends = Ends {
+        read: timings[0].read(),
+        write: timings[timings.len() - 1].write(),
+    };
     Course {
         stops,
         keeping,
-        span: last.write() as i64 - timings[0].read() as i64,
+        ends,
     }
 }

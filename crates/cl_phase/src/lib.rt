@@ -1,5 +1,5 @@
-//! Tight bounds on the reaction, the age and the reduced age of a chain: bounds that know how the
-//! arrivals of its tasks lie relative to each other.
+//! Tight bounds on the reaction, the age, the reduced age and the delay of a chain: bounds that know
+//! how the arrivals of its tasks lie relative to each other.
 //!
 //! Only `walk_lasting` takes memory. Times are in ticks.
 #![tactic(auto)]

@@ -2,7 +2,7 @@
 ghost use Rattle.std.specs.Prelude.{◌≡◌, pos, ◌+ℤ◌, ◌-ℤ◌, ◌≤ℤ◌};
 ghost use Rattle.cl_model.specs.declared.limits.TheConstants.{MOST_TICKS};
 ghost use Rattle.cl_stim.specs.Phase.{IsMoment};
-ghost use Rattle.cl_phase.specs.Pace.{first_from, last_by, previous};
+ghost use Rattle.cl_phase.specs.Pace.{first_from, last_by, previous, next};
 ghost use Rattle.cl_phase.specs.Inner.Ranges.{IsPaceInRange};
 
 use cl_stim::Phase;
@@ -62,5 +62,16 @@ impl Pace {
         ensures near { ((arrival -ℤ pos 1) -ℤ pos MOST_TICKS) ≤ℤ result }
     {
         self.last_by(arrival - 1)
+    }
+
+    /// Finds the arrival after this one; without a phase the latest moment at which it may come.
+    pub(crate) fn next(&self, arrival: i64) -> i64
+        requires pace { IsPaceInRange self.now }
+        requires arrival { IsMoment (arrival +ℤ pos 1) }
+        ensures after { result ≡ next self.now arrival }
+        ensures not_before { (arrival +ℤ pos 1) ≤ℤ result }
+        ensures near { result ≤ℤ ((arrival +ℤ pos 1) +ℤ pos MOST_TICKS) }
+    {
+        self.first_from(arrival + 1)
     }
 }

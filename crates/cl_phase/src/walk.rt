@@ -1,21 +1,30 @@
 //! Walks along a chain from an arrival of one of its groups. Times are in ticks.
 ghost use Rattle.std.specs.Prelude.{◌≡◌, ◌<◌, ◌≤◌, ◌-◌, length};
-ghost use Rattle.cl_model.specs.declared.limits.TheConstants.{MOST_TICKS};
 ghost use Rattle.cl_stim.specs.Integers.{IsIntegerWithin};
 ghost use Rattle.cl_phase.specs.Pace.{previous};
 ghost use Rattle.cl_phase.specs.Walks.{pace_at, onward, back, arrival_at_last, arrival_at_first};
 ghost use Rattle.cl_phase.specs.TightBounds.{ticks_or_none};
-ghost use Rattle.cl_phase.specs.Inner.Ranges.{FARTHEST_START, FARTHEST_WALKED, AreStopsInRange};
+ghost use Rattle.cl_phase.specs.Inner.Ranges.{FARTHEST_START, FARTHEST_WALKED, AreStopsInRange, AreEndsInRange};
 ghost use Rattle.cl_phase.specs.Inner.Longest.{lengths_at};
 
 use crate::stop::Stop;
 
+/// The ends of a chain: the earliest read of the first group and the latest write of the last, each
+/// counted from the arrival of its job.
+#[derive(Clone, Copy)]
+pub(crate) struct Ends {
+    pub(crate) read: u64,
+    pub(crate) write: u64,
+}
+
 /// How long walks last: up to the write of the last group's job that takes, and up to the write of
-/// the job before it.
+/// the job before it, both from the read of the first group's job that just misses; and from the
+/// arrival of the job after that one.
 #[derive(Clone, Copy)]
 pub(crate) struct Longest {
     pub(crate) length: u64,
     pub(crate) reduced: u64,
+    pub(crate) delay: u64,
 }
 
 /// Follows the walk onward from an arrival of the group at `place`, and returns the moment that it
@@ -86,18 +95,22 @@ fn ticks_or_none(ticks: i64) -> u64
 }
 
 /// Computes how long the walks from an arrival of the group at `place` last.
-pub(crate) fn lengths_at(stops: &[Stop], span: i64, place: usize, arrival: i64) -> Longest
+pub(crate) fn lengths_at(stops: &[Stop], ends: Ends, place: usize, arrival: i64) -> Longest
     requires stops { AreStopsInRange stops.now }
-    requires span { IsIntegerWithin MOST_TICKS span }
+    requires ends { AreEndsInRange ends }
     requires place { place < length stops.now }
     requires arrival { IsIntegerWithin FARTHEST_START arrival }
-    ensures { result ≡ lengths_at stops.now span place arrival }
+    ensures { result ≡ lengths_at stops.now ends place arrival }
 {
     let first = arrival_at_first(stops, place, arrival);
     let last = arrival_at_last(stops, place, arrival);
     let before = stops[stops.len() - 1].pace.previous(last);
+    let next = stops[0].pace.next(first);
+    let write = ends.write as i64;
+    let span = write - ends.read as i64;
     Longest {
         length: ticks_or_none(last - first + span),
         reduced: ticks_or_none(before - first + span),
+        delay: ticks_or_none(last - next + write),
     }
 }

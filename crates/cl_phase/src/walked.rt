@@ -3,7 +3,7 @@ ghost use Rattle.std.specs.Prelude.{◌≡◌, ◌<◌, ◌≤◌, pos, length, 
 ghost use Rattle.cl_bound.specs.Hops.{IsNear};
 ghost use Rattle.cl_bound.specs.declared.group_timing.GroupTiming.{GroupTiming};
 ghost use Rattle.cl_model.specs.declared.group.Group.{Group};
-ghost use Rattle.cl_model.specs.declared.limits.TheConstants.{MOST_TICKS, MOST_STEPS};
+ghost use Rattle.cl_model.specs.declared.limits.TheConstants.{MOST_STEPS};
 ghost use Rattle.cl_model.specs.Groups.{IsGroupOf};
 ghost use Rattle.cl_runs.specs.SystemOf.{system_of};
 ghost use Rattle.cl_stim.specs.Integers.{IsIntegerWithin};
@@ -11,12 +11,13 @@ ghost use Rattle.cl_phase.specs.declared.pace.Pace.{Pace};
 ghost use Rattle.cl_phase.specs.TightBounds.{starts};
 ghost use Rattle.cl_phase.specs.Walks.{pace_at};
 ghost use Rattle.cl_phase.specs.Walked.{start_among, missed, taken, walked_of};
-ghost use Rattle.cl_phase.specs.Inner.Ranges.{FARTHEST_START, LONGEST_HYPERPERIOD, AreStopsInRange};
+ghost use Rattle.cl_phase.specs.Inner.Ranges.{FARTHEST_START, LONGEST_HYPERPERIOD, AreStopsInRange, AreEndsInRange};
+ghost use Rattle.cl_phase.specs.Inner.Longest.{span_between};
 
 use crate::course::course_of;
 use crate::pace::Pace;
 use crate::stop::Stop;
-use crate::walk::{arrival_back, arrival_onward, lengths_at};
+use crate::walk::{Ends, arrival_back, arrival_onward, lengths_at};
 use cl_bound::GroupTiming;
 use cl_model::{Group, List, MOST_STEPS, ValidModel};
 use cl_stim::Phase;
@@ -38,23 +39,23 @@ pub struct Walked {
 /// walk as long as `reaction`. It is 0 where there is none.
 fn start_of_phase(
     stops: &[Stop],
-    span: i64,
+    ends: Ends,
     place: usize,
     phase: &Phase,
     ticks: u64,
     reaction: u64,
 ) -> i64
     requires stops { AreStopsInRange stops.now }
-    requires span { IsIntegerWithin MOST_TICKS span }
+    requires ends { AreEndsInRange ends }
     requires place { place < length stops.now }
     requires phase { pace_at stops.now place ≡ Pace.Kept phase.now }
     requires few { ticks ≤ LONGEST_HYPERPERIOD }
-    ensures start { result ≡ pos (start_among stops.now span place reaction (starts (Pace.Kept phase.now) ticks)) }
+    ensures start { result ≡ pos (start_among stops.now (span_between ends) place reaction (starts (Pace.Kept phase.now) ticks)) }
     ensures near { IsIntegerWithin FARTHEST_START result }
 {
     let mut arrival = phase.first_arrival(0);
     while arrival < ticks as i64 {
-        if lengths_at(stops, span, place, arrival).length == reaction {
+        if lengths_at(stops, ends, place, arrival).length == reaction {
             return arrival;
         }
         arrival = phase.first_arrival(arrival + 1);
@@ -63,16 +64,16 @@ fn start_of_phase(
 }
 
 /// The first start within `ticks` whose walk is as long as `reaction`. It is 0 where there is none.
-fn start_of(stops: &[Stop], span: i64, place: usize, ticks: u64, reaction: u64) -> i64
+fn start_of(stops: &[Stop], ends: Ends, place: usize, ticks: u64, reaction: u64) -> i64
     requires stops { AreStopsInRange stops.now }
-    requires span { IsIntegerWithin MOST_TICKS span }
+    requires ends { AreEndsInRange ends }
     requires place { place < length stops.now }
     requires few { ticks ≤ LONGEST_HYPERPERIOD }
-    ensures start { result ≡ pos (start_among stops.now span place reaction (starts (pace_at stops.now place) ticks)) }
+    ensures start { result ≡ pos (start_among stops.now (span_between ends) place reaction (starts (pace_at stops.now place) ticks)) }
     ensures near { IsIntegerWithin FARTHEST_START result }
 {
     match &stops[place].pace {
-        Pace::Kept(phase) => start_of_phase(stops, span, place, phase, ticks, reaction),
+        Pace::Kept(phase) => start_of_phase(stops, ends, place, phase, ticks, reaction),
         Pace::Free { .. } => 0,
     }
 }
@@ -132,7 +133,7 @@ pub fn walk_lasting(
     let place = course.keeping.slowest(stops);
     let start = start_of(
         stops,
-        course.span,
+        course.ends,
         place,
         course.keeping.hyperperiod,
         reaction,

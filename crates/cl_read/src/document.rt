@@ -127,7 +127,7 @@ fn format(table: &Table) -> Result<(), ModelFault>
     }
 }
 
-/// Checks M3 and returns the version of the file, 1 or 2.
+/// Checks M3 and returns the version of the file, from 1 to 3.
 fn version(table: &Table) -> Result<u64, ModelFault>
     ensures { let ms = table_view table.now in
         Answers result (unless (is_version (value_at key.Version ms)) M3 (at_key key.Version top)) (version_in ms) }
@@ -135,6 +135,7 @@ fn version(table: &Table) -> Result<u64, ModelFault>
     match value_at(table, Key::Version) {
         Some(Value::Integer(1)) => Ok(1),
         Some(Value::Integer(2)) => Ok(2),
+        Some(Value::Integer(3)) => Ok(3),
         _ => Err(ModelFault::refused(Code::M3, Place::top().at_key(Key::Version))),
     }
 }

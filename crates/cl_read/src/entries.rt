@@ -149,9 +149,9 @@ impl Member for ChainDef {
 }
 
 impl Member for RequirementDef {
-    ghost checks = { λ version. a_table_of requirement_fields };
+    ghost checks = { λ version. a_table_of (requirement_fields version) };
 
-    ghost meaning = { λ version entry. requirement_meaning (table_of entry) };
+    ghost meaning = { λ version entry. requirement_meaning version (table_of entry) };
 
     ghost place_in = { at_item };
 
@@ -161,11 +161,11 @@ impl Member for RequirementDef {
 
     fn read(
         _alloc: Global,
-        _version: u64,
+        version: u64,
         place: Place,
         value: &Value,
     ) -> Result<RequirementDef, ModelFault> {
-        requirement(place, table_in(place, value)?)
+        requirement(version, place, table_in(place, value)?)
     }
 }
 
@@ -307,16 +307,16 @@ fn chain(alloc: Global, version: u64, place: Place, table: &Table) -> Result<Cha
 }
 
 #[tactic(auto, using(cl_model::proofs::FirstRefusals::faults), unfolding(cl_model::specs::Reading::Tables::requirement_meaning))]
-fn requirement(place: Place, table: &Table) -> Result<RequirementDef, ModelFault>
+fn requirement(version: u64, place: Place, table: &Table) -> Result<RequirementDef, ModelFault>
     ensures { let ms = table_view table.now in
-        Answers result (fields_checks requirement_fields place ms) (requirement_meaning ms) }
+        Answers result (fields_checks (requirement_fields version) place ms) (requirement_meaning version ms) }
 {
     let keys = [Key::Name, Key::Chain, Key::Kind, Key::Most];
     let found = Fields::of_only(place, table, &keys)?;
     Ok(RequirementDef {
         name: fields::name(place, &found, Key::Name)?,
         chain: fields::name(place, &found, Key::Chain)?,
-        kind: fields::length(place, &found, Key::Kind)?,
+        kind: fields::requirement_kind(version, place, &found, Key::Kind)?,
         most: fields::number(place, &found, Key::Most, 0, MOST_REQUIRED)?,
     })
 }

@@ -3,15 +3,16 @@
 ghost use Rattle.toml.specs.View.{table_view};
 ghost use Rattle.cl_model.specs.declared.task.AccessKind.TheVariants.{Explicit};
 ghost use Rattle.cl_model.specs.declared.chain.LengthKind.TheVariants.{Reaction};
+ghost use Rattle.cl_model.specs.declared.chain.RequirementKind.TheVariants.{Length};
 ghost use Rattle.cl_model.specs.Reading.Checks.{a_name, a_number, a_boolean, a_word, required, optional, field_checks};
 ghost use Rattle.cl_model.specs.Reading.Meanings.{text_at, number_at, number_or, number_if, is_set, word_at};
-ghost use Rattle.cl_model.specs.Reading.Tables.{access_words, length_words};
+ghost use Rattle.cl_model.specs.Reading.Tables.{access_words, requirement_words};
 ghost use Rattle.cl_model.specs.Answers.{Answers};
 ghost use Rattle.cl_read.specs.Inner.Fields.{AreFieldsFound};
 
 use crate::keys::Fields;
 use crate::values;
-use cl_model::{AccessKind, Code, Key, LengthKind, ModelFault, Name, Place};
+use cl_model::{AccessKind, Code, Key, ModelFault, Name, Place, RequirementKind};
 
 pub(crate) fn name(place: Place, fields: &Fields<'_>, key: Key) -> Result<Name, ModelFault>
     requires { AreFieldsFound fields.now }
@@ -104,16 +105,22 @@ pub(crate) fn access(place: Place, fields: &Fields<'_>, key: Key) -> Result<Acce
     }
 }
 
-pub(crate) fn length(place: Place, fields: &Fields<'_>, key: Key) -> Result<LengthKind, ModelFault>
+/// Reads the kind of a requirement of a file of this version.
+pub(crate) fn requirement_kind(
+    version: u64,
+    place: Place,
+    fields: &Fields<'_>,
+    key: Key,
+) -> Result<RequirementKind, ModelFault>
     requires { AreFieldsFound fields.now }
     ensures { let ms = table_view fields.now.table.now in
         Answers result
-        (field_checks place ms (required key (a_word length_words)))
-        (word_at length_words Reaction key ms) }
+        (field_checks place ms (required key (a_word (requirement_words version))))
+        (word_at (requirement_words version) (Length Reaction) key ms) }
 {
     let place = place.at_key(key);
     match fields.value_at(key) {
-        Some(value) => values::length(place, value),
+        Some(value) => values::requirement_kind(version, place, value),
         None => Err(ModelFault::refused(Code::M5, place)),
     }
 }

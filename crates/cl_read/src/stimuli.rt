@@ -85,7 +85,7 @@ fn of_kind(
     match word {
         "periodic" => periodic(place, table),
         "sporadic" => sporadic(place, table),
-        "burst" if version == 2 => burst(place, table),
+        "burst" if version >= 2 => burst(place, table),
         _ => Err(ModelFault::refused(Code::M9, place.at_key(Key::Kind))),
     }
 }

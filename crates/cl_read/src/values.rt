@@ -6,12 +6,13 @@ ghost use Rattle.cl_model.specs.declared.place.Place.{Place as Spot};
 ghost use Rattle.cl_model.specs.declared.refusal.Refusal.{Refusal};
 ghost use Rattle.cl_model.specs.declared.task.AccessKind.TheVariants.{Explicit};
 ghost use Rattle.cl_model.specs.declared.chain.LengthKind.TheVariants.{Reaction};
+ghost use Rattle.cl_model.specs.declared.chain.RequirementKind.TheVariants.{Length};
 ghost use Rattle.cl_model.specs.Reading.Checks.{a_table, a_name, a_number, a_boolean, a_word, meaning_of};
 ghost use Rattle.cl_model.specs.Reading.Meanings.{text_in, number_in, boolean_of};
-ghost use Rattle.cl_model.specs.Reading.Tables.{access_words, length_words};
+ghost use Rattle.cl_model.specs.Reading.Tables.{access_words, requirement_words};
 ghost use Rattle.cl_model.specs.Answers.{Answers, IsFaultOf};
 
-use cl_model::{AccessKind, Code, LengthKind, ModelFault, Name, Place};
+use cl_model::{AccessKind, Code, ModelFault, Name, Place, RequirementKind};
 use toml::{Table, Value};
 
 /// Returns the table that a value is. M6 refuses any other value, whatever the checks of the table
@@ -80,26 +81,20 @@ pub(crate) fn access(place: Place, value: &Value) -> Result<AccessKind, ModelFau
     }
 }
 
-fn length_of(word: &str) -> Option<LengthKind>
-    ensures { result ≡ meaning_of length_words word.now }
-{
-    match word {
-        "reaction" => Some(LengthKind::Reaction),
-        "age" => Some(LengthKind::Age),
-        "reduced" => Some(LengthKind::Reduced),
-        _ => None,
-    }
-}
-
-pub(crate) fn length(place: Place, value: &Value) -> Result<LengthKind, ModelFault>
+/// Reads the kind of a requirement of a file of this version.
+pub(crate) fn requirement_kind(
+    version: u64,
+    place: Place,
+    value: &Value,
+) -> Result<RequirementKind, ModelFault>
     ensures { let d = view value.now in
         Answers result
-        (a_word length_words place d)
-        (unwrap_or (meaning_of length_words (text_in d)) Reaction) }
+        (a_word (requirement_words version) place d)
+        (unwrap_or (meaning_of (requirement_words version) (text_in d)) (Length Reaction)) }
 {
     match value {
-        Value::String(word) => match length_of(word.as_str()) {
-            Some(length) => Ok(length),
+        Value::String(word) => match RequirementKind::of_word(version, word.as_bytes()) {
+            Some(kind) => Ok(kind),
             None => Err(ModelFault::refused(Code::M9, place)),
         },
         _ => Err(ModelFault::refused(Code::M6, place)),

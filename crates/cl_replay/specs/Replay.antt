@@ -6,6 +6,7 @@ use Rattle.cl_text.specs.Line.{line}
 use Rattle.cl_model.specs.declared.model.SystemModel.{SystemModel}
 use Rattle.cl_model.specs.declared.chain.LengthKind.{LengthKind}
 use Rattle.cl_model.specs.declared.chain.LengthKind.TheVariants.{Reaction, Age, Reduced}
+use Rattle.cl_model.specs.Kinds.{length_word}
 use Rattle.cl_model.specs.ByNumber.{chain_at}
 use Rattle.cl_model.specs.Groups.{groups_at}
 use Rattle.cl_runs.specs.Run.{Run}
@@ -18,7 +19,7 @@ use Rattle.cl_analyse.specs.declared.findings.Findings.{Findings}
 use Rattle.cl_analyse.specs.ChainAnswers.{chain_answer_at}
 use Rattle.cl_analyse.specs.Verdicts.{bound_value}
 use Rattle.cl_analyse.specs.Findings.{AreFindings}
-use Rattle.cl_report.specs.Report.{kind_word, jobs_words}
+use Rattle.cl_report.specs.Report.{jobs_words}
 
 -- ---- what is measured
 
@@ -80,7 +81,7 @@ found_words model i count bound (Some chain) = longest_words model i count bound
 -- the line of a kind of chain i, by what was found of the chain and what is measured
 unfoldable pub kind_line : SystemModel → (i : ℕ) → ChainAnswer → Measured → LengthKind → List ℕ
 kind_line model i answer measured kind =
-    line (codes "measured " ++ (chain_at model i).name ++ codes " " ++ kind_word kind
+    line (codes "measured " ++ (chain_at model i).name ++ codes " " ++ length_word kind
     ++ found_words model i (count_of_kind kind measured) (bound_value kind answer) (longest_of_kind kind measured))
 
 -- ---- the replay

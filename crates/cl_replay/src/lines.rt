@@ -10,7 +10,7 @@ ghost use Rattle.cl_replay.specs.Replay.{bound_words, margin_words, longest_word
 use crate::pieces::{count_of_kind, longest_of_kind};
 use cl_analyse::{ChainAnswer, Findings};
 use cl_chain::{JobChain, Measured};
-use cl_model::{LengthKind, ValidModel};
+use cl_model::{LengthKind, RequirementKind, ValidModel};
 use cl_report::{kind_word, put_chain_name, put_jobs};
 use cl_text::Text;
 use cl_time::NoMemory;
@@ -72,7 +72,7 @@ fn put_kind(
     text.put(b"measured ")?;
     put_chain_name(text, model, chain)?;
     text.put(b" ")?;
-    text.put(kind_word(kind))?;
+    text.put(kind_word(RequirementKind::Length(kind)))?;
     put_found(text, model, chain, count, answer.value(kind), longest)?;
     text.put(b"\n")
 }

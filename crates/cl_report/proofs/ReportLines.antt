@@ -24,7 +24,8 @@ use Rattle.cl_analyse.specs.Verdicts.{verdict_of, verdict_at}
 use Rattle.cl_analyse.specs.ChainAnswers.{chain_answer_of, chain_answer_at, exact_answer_at}
 use Rattle.cl_analyse.specs.Findings.{AreFindings}
 use Rattle.cl_analyse.proofs.SafeFindings.{named_task_within}
-use Rattle.cl_report.specs.Report.{kind_word, verdict_words, verdict_line}
+use Rattle.cl_model.specs.Kinds.{requirement_word}
+use Rattle.cl_report.specs.Report.{verdict_words, verdict_line}
 
 -- there is an answer for each task, and one for each chain
 pub tasks_found : (model : SystemModel) (findings : Findings) → AreFindings model findings → length findings.tasks ≡ length model.tasks
@@ -91,11 +92,11 @@ seven_pieces a b c d e f g t0 t1 t2 t3 t4 t5 t6 t7 h1 h2 h3 h4 h5 h6 h7 =
     rw (h7, h6, h5, h4, h3, h2, h1) (simp append_assoc)
 
 pub judged : (requirement : RequirementDef) (verdict : Verdict) (t0 t1 t2 t3 t4 t5 t6 t7 : List ℕ) → t1 ≡ t0 ++ codes "requirement " → t2 ≡ t1 ++ requirement.name
-    → t3 ≡ t2 ++ codes " " → t4 ≡ t3 ++ kind_word requirement.kind → t5 ≡ t4 ++ codes " " → t6 ≡ t5 ++ verdict_words requirement.most verdict → t7 ≡ t6 ++ 0x0A ∷ []
+    → t3 ≡ t2 ++ codes " " → t4 ≡ t3 ++ requirement_word requirement.kind → t5 ≡ t4 ++ codes " " → t6 ≡ t5 ++ verdict_words requirement.most verdict → t7 ≡ t6 ++ 0x0A ∷ []
     → t7 ≡ t0 ++ verdict_line requirement verdict
 unfolding verdict_line
 judged requirement verdict t0 t1 t2 t3 t4 t5 t6 t7 =
-    seven_pieces (codes "requirement ") requirement.name (codes " ") (kind_word requirement.kind) (codes " ") (verdict_words requirement.most verdict) (0x0A ∷ [])
+    seven_pieces (codes "requirement ") requirement.name (codes " ") (requirement_word requirement.kind) (codes " ") (verdict_words requirement.most verdict) (0x0A ∷ [])
     t0 t1 t2 t3 t4 t5 t6 t7
 
 -- pieces behind a text are one piece behind it

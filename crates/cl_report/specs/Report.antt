@@ -6,6 +6,7 @@ use Rattle.cl_model.specs.declared.model.SystemModel.{SystemModel}
 use Rattle.cl_model.specs.declared.chain.LengthKind.{LengthKind}
 use Rattle.cl_model.specs.declared.chain.LengthKind.TheVariants.{Reaction, Age, Reduced}
 use Rattle.cl_model.specs.declared.chain.RequirementDef.{RequirementDef}
+use Rattle.cl_model.specs.Kinds.{length_word, requirement_word}
 use Rattle.cl_model.specs.ByNumber.{task_at, deadline_of, chain_at}
 use Rattle.cl_model.specs.Groups.{group_at, groups_at}
 use Rattle.cl_runs.specs.Requirements.{requirement_at}
@@ -56,16 +57,7 @@ chain_words model (chain.Late i) = codes " late " ++ (task_at model i).name
 unfoldable pub chain_line : SystemModel → ChainAnswer → (chain : ℕ) → List ℕ
 chain_line model answer chain = line (codes "chain " ++ (chain_at model chain).name ++ chain_words model answer)
 
--- the lines of all chains, in file order, without their exact lengths
-abbrev pub bound_lines : SystemModel → List ChainAnswer → List ℕ
-bound_lines model answers = flat_map (λ chain. chain_line model (chain_answer_at answers chain) chain) (range_with_len 0 (length model.chains))
-
 -- ---- exact lengths
-
-abbrev pub kind_word : LengthKind → List ℕ
-kind_word Reaction = codes "reaction"
-kind_word Age = codes "age"
-kind_word Reduced = codes "reduced"
 
 -- the job of the group at a place of a chain, as ` TASK:JOB`
 abbrev pub job_words : SystemModel → (chain : ℕ) → (jobs : List ℕ) → (place : ℕ) → List ℕ
@@ -79,7 +71,7 @@ jobs_words model chain jobs = flat_map (job_words model chain jobs) (range_with_
 -- the line of an exact length of chain i
 unfoldable pub witness_line : SystemModel → ℕ → LengthKind → Witness → List ℕ
 witness_line model i kind witness =
-    line (codes "exact " ++ (chain_at model i).name ++ codes " " ++ kind_word kind ++ codes " " ++ decimal witness.length
+    line (codes "exact " ++ (chain_at model i).name ++ codes " " ++ length_word kind ++ codes " " ++ decimal witness.length
     ++ codes " from " ++ decimal witness.from ++ codes " to " ++ decimal witness.to
     ++ codes " jobs" ++ jobs_words model i witness.jobs)
 
@@ -122,7 +114,7 @@ verdict_words most verdict = verdict_value verdict ++ codes " of " ++ decimal mo
 -- the line of a requirement
 unfoldable pub verdict_line : RequirementDef → Verdict → List ℕ
 verdict_line requirement verdict =
-    line (codes "requirement " ++ requirement.name ++ codes " " ++ kind_word requirement.kind
+    line (codes "requirement " ++ requirement.name ++ codes " " ++ requirement_word requirement.kind
     ++ codes " " ++ verdict_words requirement.most verdict)
 
 -- the lines of all requirements, in file order

@@ -7,12 +7,12 @@ ghost use Rattle.cl_analyse.specs.declared.findings.ExactAnswer.TheVariants.{Exa
 ghost use Rattle.cl_analyse.specs.ChainAnswers.{exact_answer_at};
 ghost use Rattle.cl_analyse.specs.Findings.{AreFindings};
 ghost use Rattle.cl_text.specs.Beginnings.{PutsPart};
-ghost use Rattle.cl_report.specs.Report.{kind_word, job_words, jobs_words, witness_line, past_line, exact_lines};
+ghost use Rattle.cl_report.specs.Report.{job_words, jobs_words, witness_line, past_line, exact_lines};
 
 use crate::words::{kind_word, put_chain_name, put_jobs};
 use cl_analyse::{ExactAnswer, Findings};
 use cl_exact::{ExactLengths, Witness};
-use cl_model::{LengthKind, ValidModel};
+use cl_model::{LengthKind, RequirementKind, ValidModel};
 use cl_text::Text;
 use cl_time::NoMemory;
 
@@ -75,7 +75,7 @@ fn put_witness(
     text.put(b"exact ")?;
     put_chain_name(text, model, chain)?;
     text.put(b" ")?;
-    text.put(kind_word(kind))?;
+    text.put(kind_word(RequirementKind::Length(kind)))?;
     text.put(b" ")?;
     text.put_number(witness.length)?;
     text.put(b" from ")?;

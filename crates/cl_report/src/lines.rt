@@ -143,7 +143,7 @@ pub fn put_chain(
 }
 
 /// Puts the bounds of a chain, or the late task that leaves it without bounds.
-fn put_chain_answer(
+pub(crate) fn put_chain_answer(
     text: &mut Text,
     model: &ValidModel,
     answer: &ChainAnswer,

@@ -1,11 +1,12 @@
 //! The texts of tight findings.
-ghost use Rattle.std.specs.Prelude.{◌≡◌, ◌<◌, ◌++◌, length, OnOk, IfOk};
+ghost use Rattle.std.specs.Prelude.{◌≡◌, ℕ, ◌<◌, ◌++◌, length, OnOk, IfOk};
+ghost use Rattle.cl_analyse.specs.declared.findings.ChainAnswer.TheVariants.{Late};
 ghost use Rattle.cl_tight.specs.TightFindings.{tight_chain_answers_of, tight_findings_of};
-ghost use Rattle.cl_report.specs.Report.{bound_lines};
-ghost use Rattle.cl_report.specs.Tight.{tight_text, late_line, late_lines, verify_text};
+ghost use Rattle.cl_report.specs.Tight.{tight_words, tight_chain_line, tight_chain_lines, tight_text, late_line, late_lines, verify_text};
 
-use crate::lines::{put_chain, put_task, put_tasks};
+use crate::lines::{put_bounds, put_chain_answer, put_task, put_tasks};
 use crate::requirement_lines::put_requirements;
+use crate::words::put_chain_name;
 use cl_analyse::ChainAnswer;
 use cl_bound::TaskAnswer;
 use cl_model::{List, ValidModel};
@@ -15,8 +16,8 @@ use cl_time::NoMemory;
 use std::alloc::Global;
 
 /// Builds the report of a model by responses by phases and tight bounds: a title, a line for each
-/// task, a line for each chain, and a line for each requirement, each in file order. Times are in
-/// ticks. The findings are those of the model.
+/// task and a line for each chain, each in file order. Times are in ticks. The findings are those of
+/// the model.
 ///
 /// `NoMemory` comes where there is no memory for the text; it leaves nothing.
 pub fn tight_report(
@@ -28,10 +29,9 @@ pub fn tight_report(
     ensures { IfOk result (λ text. text ≡ tight_text model.now) }
 {
     let mut text = Text::new(alloc);
-    text.put(b"chainlat tight 1\n")?;
+    text.put(b"chainlat tight 2\n")?;
     put_tasks(&mut text, model, &findings.tasks)?;
     put_bounded(&mut text, model, &findings.chains)?;
-    put_requirements(&mut text, model, &findings.verdicts)?;
     Ok(text)
 }
 
@@ -62,12 +62,49 @@ fn put_bounded(
     chains: &List<ChainAnswer>,
 ) -> Result<(), NoMemory>
     requires { chains.now ≡ tight_chain_answers_of model.now }
-    ensures { OnOk result (text.new ≡ text.old ++ bound_lines model.now chains.now) }
+    ensures { OnOk result (text.new ≡ text.old ++ tight_chain_lines model.now chains.now) }
 {
     for chain in 0..model.chains() {
-        put_chain(text, model, &chains.as_slice()[chain as usize], chain)?;
+        put_tight_chain(text, model, &chains.as_slice()[chain as usize], chain)?;
     }
     Ok(())
+}
+
+/// Puts the line of a chain with this answer. A late task that the answer names is a task of the
+/// model.
+fn put_tight_chain(
+    text: &mut Text,
+    model: &ValidModel,
+    answer: &ChainAnswer,
+    chain: u32,
+) -> Result<(), NoMemory>
+    requires within { chain < length model.now.chains }
+    requires known { (late : ℕ) → answer.now ≡ Late late → late < length model.now.tasks }
+    ensures { OnOk result (text.new ≡ text.old ++ tight_chain_line model.now answer.now chain) }
+{
+    text.put(b"chain ")?;
+    put_chain_name(text, model, chain)?;
+    put_tight_answer(text, model, answer)?;
+    text.put(b"\n")
+}
+
+/// Puts the tight bounds of a chain and its delay, or the late task that leaves it without bounds.
+fn put_tight_answer(
+    text: &mut Text,
+    model: &ValidModel,
+    answer: &ChainAnswer,
+) -> Result<(), NoMemory>
+    requires { (late : ℕ) → answer.now ≡ Late late → late < length model.now.tasks }
+    ensures { OnOk result (text.new ≡ text.old ++ tight_words model.now answer.now) }
+{
+    match answer {
+        ChainAnswer::Bounds(bounds) => {
+            put_bounds(text, bounds)?;
+            text.put(b" delay ")?;
+            text.put_number(bounds.delay())
+        }
+        ChainAnswer::Late { .. } => put_chain_answer(text, model, answer),
+    }
 }
 
 /// Puts the lines of the late tasks in file order. There is one answer for each task.

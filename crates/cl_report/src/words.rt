@@ -1,12 +1,13 @@
-//! The words that the lines of several texts share: names of a model, kinds of lengths, and the
-//! jobs of a chain.
+//! The words that the lines of several texts share: names of a model, kinds of requirements, and
+//! the jobs of a chain.
 ghost use Rattle.std.specs.Prelude.{◌≡◌, ◌<◌, ◌++◌, length, OnOk, OnErr};
+ghost use Rattle.cl_model.specs.Kinds.{requirement_word};
 ghost use Rattle.cl_model.specs.ByNumber.{task_at, chain_at};
 ghost use Rattle.cl_model.specs.Groups.{groups_at};
 ghost use Rattle.cl_text.specs.Beginnings.{PutsPart};
-ghost use Rattle.cl_report.specs.Report.{kind_word, job_words, jobs_words};
+ghost use Rattle.cl_report.specs.Report.{job_words, jobs_words};
 
-use cl_model::{LengthKind, Name, ValidModel};
+use cl_model::{Name, RequirementKind, ValidModel};
 use cl_text::Text;
 use cl_time::NoMemory;
 
@@ -85,13 +86,9 @@ pub fn put_jobs(
     Ok(())
 }
 
-/// Returns the word for a kind of length: `reaction`, `age` or `reduced`.
-pub fn kind_word(kind: LengthKind) -> &'static [u8]
-    ensures { result.now ≡ kind_word kind }
+/// Returns the word for a kind of requirement: `reaction`, `age`, `reduced` or `delay`.
+pub fn kind_word(kind: RequirementKind) -> &'static [u8]
+    ensures { result.now ≡ requirement_word kind }
 {
-    match kind {
-        LengthKind::Reaction => b"reaction",
-        LengthKind::Age => b"age",
-        LengthKind::Reduced => b"reduced",
-    }
+    kind.word().as_bytes()
 }

@@ -12,6 +12,7 @@ pub mod Moments
 pub mod Chains
 pub mod MomentOrder
 pub mod RunChains
+pub mod Delays
 pub mod Measured
 pub mod GoesOn
 pub mod Continuation

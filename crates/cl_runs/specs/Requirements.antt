@@ -2,12 +2,14 @@
 use Rattle.std.specs.Prelude.{ℕ, ◌+◌, ◌<◌, ◌≤◌, List, [], length, slice_index_or, unwrap_or}
 use Rattle.cl_model.specs.declared.chain.LengthKind.{LengthKind}
 use Rattle.cl_model.specs.declared.chain.LengthKind.TheVariants.{Reaction, Age, Reduced}
+use Rattle.cl_model.specs.declared.chain.RequirementKind.{RequirementKind}
+use Rattle.cl_model.specs.declared.chain.RequirementKind.TheVariants.{Length, Delay}
 use Rattle.cl_model.specs.declared.chain.RequirementDef.{RequirementDef}
 use Rattle.cl_model.specs.declared.group.Group.{Group}
 use Rattle.cl_model.specs.declared.model.SystemModel.{SystemModel}
 use Rattle.cl_model.specs.ByNumber.{chain_named}
 use Rattle.cl_model.specs.Groups.{groups_at}
-use Rattle.cl_runs.specs.TaskTiming.{timing_at}
+use Rattle.cl_runs.specs.TaskTiming.{System, timing_at}
 use Rattle.cl_runs.specs.SystemOf.{system_of}
 use Rattle.cl_runs.specs.Table.{job_at}
 use Rattle.cl_runs.specs.Run.{Run, jobs_of}
@@ -15,12 +17,13 @@ use Rattle.cl_runs.specs.Legal.{IsLegal}
 use Rattle.cl_runs.specs.Moments.{JobFinishes}
 use Rattle.cl_runs.specs.Chains.{Moments, JobChain, chain_length, IsForwardChain, IsAgeChain, IsReducedChain}
 use Rattle.cl_runs.specs.RunChains.{run_moments}
+use Rattle.cl_runs.specs.Delays.{IsDelayChain}
 
 -- ---- requirements by number
 
 -- stands for a requirement past the last one
 unfoldable pub no_requirement : RequirementDef
-no_requirement = record { name = []; chain = []; kind = Reaction; most = 0 }
+no_requirement = record { name = []; chain = []; kind = Length Reaction; most = 0 }
 
 -- the requirement of a number
 abbrev pub requirement_at : SystemModel → ℕ → RequirementDef
@@ -32,24 +35,29 @@ required_chain model requirement = unwrap_or (chain_named model requirement.chai
 
 -- ---- kept and broken
 
--- a complete chain of a kind
+-- a complete chain of a kind of length
 abbrev pub IsChainOfKind : LengthKind → Moments → List Group → JobChain → Type 0
 IsChainOfKind Reaction = IsForwardChain
 IsChainOfKind Age = IsAgeChain
 IsChainOfKind Reduced = IsReducedChain
 
--- a complete chain of a run, of the chain and the kind that a requirement names
+-- a chain of a run, of a kind of requirement
+abbrev pub IsChainRequired : RequirementKind → System → Run → List Group → JobChain → Type 0
+IsChainRequired (Length kind) system run = IsChainOfKind kind (run_moments system run)
+IsChainRequired Delay system run = IsDelayChain system run
+
+-- a chain of a run, of the chain and the kind that a requirement names
 abbrev pub IsRequiredChain : SystemModel → RequirementDef → Run → JobChain → Type 0
 IsRequiredChain model requirement run chain =
     let groups = groups_at model (required_chain model requirement) in
-    IsChainOfKind requirement.kind (run_moments (system_of model) run) groups chain
+    IsChainRequired requirement.kind (system_of model) run groups chain
 
--- a requirement is kept: in every legal run no complete chain of its chain and kind is longer than it says
+-- a requirement is kept: in every legal run no chain of its chain and kind is longer than it says
 abbrev pub IsKept : SystemModel → RequirementDef → Type 0
 IsKept model requirement = (run : Run) → IsLegal (system_of model) run
     → (chain : JobChain) → IsRequiredChain model requirement run chain → chain_length chain ≤ requirement.most
 
--- a requirement is broken: in some legal run a complete chain of its chain and kind is longer than it says
+-- a requirement is broken: in some legal run a chain of its chain and kind is longer than it says
 pub record IsBroken (model : SystemModel) (requirement : RequirementDef) : Type 0 where
   pub run : Run
   pub legal : IsLegal (system_of model) run

@@ -7,6 +7,7 @@ pub mod PhasedTimings
 pub mod NearTimings
 pub mod TimedTimings
 pub mod TightChains
+pub mod ExactDelays
 pub mod TightRequirements
 pub mod TightLaws
 pub mod TightLists

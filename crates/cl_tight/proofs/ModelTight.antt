@@ -38,7 +38,7 @@ use Rattle.cl_phase.specs.declared.pace.Pace.TheVariants.{Kept}
 use Rattle.cl_phase.specs.declared.stop.Stop.{Stop}
 use Rattle.cl_phase.specs.Walks.{pace_at}
 use Rattle.cl_tight.specs.TightTimings.{tight_timing}
-use Rattle.cl_phase.specs.TightBounds.{stops_of, span_of, tight_bounds}
+use Rattle.cl_phase.specs.TightBounds.{stops_of, span_of, last_write, tight_bounds}
 use Rattle.cl_tight.specs.ExactBounds.{AreLengthsOf, IsTimedTiming}
 use Rattle.cl_tight.proofs.IdealSteps.{ideal_phase, IsIdealLag}
 use Rattle.cl_tight.proofs.IdealStops.{IsTurning, paces, timed_lag, all_keep_phase}
@@ -145,7 +145,7 @@ module _ (system : System) (sound : IsSound system) (timing : Group → GroupTim
     periodic = λ place below. (turns place below).periodic;
     paces = keeps;
     leads = λ place below. (over_all system sound timing groups all place (ideal_phase system (group_at groups place))
-        (omega (arith, below, as_many)) (keeps place below) (pos 0)).leads;
+        (omega (arith, below, as_many)) (keeps place below) (pos 0) 0).leads;
     lags = λ place below. subst (IsIdealLag system (group_at groups place) (group_at groups (suc place))) (sym (stop_lag system timing groups [] place below))
         (timed_lag system (group_at groups place) (group_at groups (suc place)) (timing (group_at groups place)) (timing (group_at groups (suc place)))
         (timings place no_group (omega (arith, below))) (timings (suc place) no_group below) (turns place (omega (arith, below))).timed);
@@ -155,11 +155,12 @@ module _ (system : System) (sound : IsSound system) (timing : Group → GroupTim
       → AreLengthsOf (tight_bounds system timing groups) exact
   tight_is_exact exact are_exact tied =
       let span = span_of timing groups in
+      let write = last_write timing groups in
       let here : 0 < length groups = omega arith in
       subst (λ bounds. AreLengthsOf bounds exact) (phases_agree system sound timing groups all 0 here (ideal_phase system first) (keeps 0 here))
       (lengths_are_exact system groups stops (λ place below. stops_step system timing sound groups all [] place (omega (arith, below, as_many))) are_ideal
-      ticks (record { some = some; whole = λ place below. (turns place below).divides }) span (span_is system timing first later timings)
-      (λ place below. over_all system sound timing groups all place (ideal_phase system (group_at groups place)) (omega (arith, below, as_many)) (keeps place below) span)
+      ticks (record { some = some; whole = λ place below. (turns place below).divides }) span write (span_is system timing first later timings)
+      (λ place below. over_all system sound timing groups all place (ideal_phase system (group_at groups place)) (omega (arith, below, as_many)) (keeps place below) span write)
       exact are_exact tied 0 here)
 
 -- ---- groups of valid models

@@ -62,6 +62,7 @@ no_greater_through bounds middle other first second = record {
   reaction = omega (arith, first.reaction, second.reaction);
   age = omega (arith, first.age, second.age);
   reduced = omega (arith, first.reduced, second.reduced);
+  delay = omega (arith, first.delay, second.delay);
 }
 
 module _ (model : SystemModel) (valid : IsValid model) where
@@ -135,26 +136,26 @@ module _ (model : SystemModel) (valid : IsValid model) where
           tight_answer ∙ ap (λ (first : Option ℕ). chain_answer first own_bounds) (none_late answers model (chain_at model chain) timely)
 
       -- what is known of the groups of a chain without a late task always holds
-      keeps : NoneIsLate answers groups → All (λ (group : Group). AlwaysKeeps system group (tight_timing system group)) groups
-      keeps timely place d h = tight_keeps model valid (get_or groups place d) (groups_at_are model valid chain place d h) (timely place d h)
+      pub timings_keep : NoneIsLate answers groups → All (λ (group : Group). AlwaysKeeps system group (tight_timing system group)) groups
+      timings_keep timely place d h = tight_keeps model valid (get_or groups place d) (groups_at_are model valid chain place d h) (timely place d h)
 
       -- such a chain has complete chains of each kind in some legal run
       pub timely_complete : NoneIsLate answers groups → HasCompleteChains system groups
       timely_complete timely =
-          has_complete_chains system (system_sound model valid) (tight_timing system) groups (groups_at_some model valid chain within) (keeps timely)
+          has_complete_chains system (system_sound model valid) (tight_timing system) groups (groups_at_some model valid chain within) (timings_keep timely)
 
       -- so its bounds are 1 tick or more
       pub tight_bounds_some : (bounds : Lengths) → chain_answer_at (tight_chain_answers_of model) chain ≡ Bounds bounds → AreSomeTicks bounds
       tight_bounds_some bounds is =
           let (timely, own) = tight_given bounds is in
           subst AreSomeTicks own
-          (take_time system (system_sound model valid) (tight_timing system) groups (groups_at_some model valid chain within) (keeps timely))
+          (take_time system (system_sound model valid) (tight_timing system) groups (groups_at_some model valid chain within) (timings_keep timely))
 
       -- they are safe
       pub tight_bounds_hold : (bounds : Lengths) → chain_answer_at (tight_chain_answers_of model) chain ≡ Bounds bounds → AreSafe system groups bounds
       tight_bounds_hold bounds is =
           let (timely, own) = tight_given bounds is in
-          subst (AreSafe system groups) own (kept_safe system (system_sound model valid) (tight_timing system) groups (keeps timely))
+          subst (AreSafe system groups) own (kept_safe system (system_sound model valid) (tight_timing system) groups (timings_keep timely))
 
       -- ---- beside the report
 

@@ -69,7 +69,7 @@ module _ (system : System) (group : Group) (ticks turns : ℕ) (some : 1 ≤ tur
       }
 
 module _ (system : System) (groups : List Group) (stops : List Stop) (stepped : (place : ℕ) → place < length stops → IsStepped (pace_at stops place))
-    (are : AreIdealStops system groups stops) (ticks : ℕ) (turns : AreTurns system groups ticks) (span : ℤ) where
+    (are : AreIdealStops system groups stops) (ticks : ℕ) (turns : AreTurns system groups ticks) (span : ℤ) (write : ℕ) where
   abbrev group : ℕ → Group
   group place = group_at groups place
 
@@ -115,9 +115,9 @@ module _ (system : System) (groups : List Group) (stops : List Stop) (stepped : 
       let more : job * 1 ≤ job * period_of system (group 0) = mul-le-mul_left job (positive 0 are.some) in
       omega (arith, late, more, greatest_least (second_arrival system) groups place d within)
 
-  module _ (whole : span ≡ pos (timing_at system (last_group groups).task).deadline) (over : AreOverAll stops span 0 (ReadsAt system (group 0)))
+  module _ (whole : span ≡ pos (timing_at system (last_group groups).task).deadline) (over : AreOverAll stops span write 0 (ReadsAt system (group 0)))
       (witness : Witness) (exact : IsExact (IsSteadyForward system groups) first_job witness) where
-    at_least : witness.length ≤ (bounds_from stops span 0).reaction
+    at_least : witness.length ≤ (bounds_from stops span write 0).reaction
     at_least =
         let is = exact.longest.is_chain.is_chain in
         let value = walk_is_chain system groups stops are (chain_of witness) is span whole in
@@ -140,8 +140,8 @@ module _ (system : System) (groups : List Group) (stops : List Stop) (stepped : 
         let there = ap (λ first. length_from stops span 0 (pos (read_in system (group 0) first))) has.starts in
         omega (arith, ints, exact.length, value, longest, there)
 
-    at_most : (bounds_from stops span 0).reaction ≤ witness.length
-    at_most = elim (cases_lt 0 (bounds_from stops span 0).reaction) [
+    at_most : (bounds_from stops span write 0).reaction ≤ witness.length
+    at_most = elim (cases_lt 0 (bounds_from stops span write 0).reaction) [
       | inl some ↦
           let has = over.lengths.attained some in
           let later = late 0 are.some (all_begun system groups) has.arrival has.arrives in
@@ -149,7 +149,7 @@ module _ (system : System) (groups : List Group) (stops : List Stop) (stepped : 
       | inr none ↦ omega (arith, none)
     ]
 
-    pub reaction_is_exact : (bounds_from stops span 0).reaction ≡ witness.length
+    pub reaction_is_exact : (bounds_from stops span write 0).reaction ≡ witness.length
     reaction_is_exact = omega (arith, at_least, at_most)
 
   -- ---- the reduced age
@@ -187,52 +187,52 @@ module _ (system : System) (groups : List Group) (stops : List Stop) (stepped : 
       omega (arith, ints, same_length last within 1 arrival later, same_reduced last within 1 arrival later, shorter_late later.job later.late)
 
   -- and so is the reduced age, where the reaction isn't below the period
-  module _ (over : AreOverAll stops span last (ReadsAt system (group last)))
-      (far : period_of system (group last) ≤ (bounds_from stops span last).reaction) where
-    reduced_at_least : (bounds_from stops span last).reaction ≤ (bounds_from stops span last).reduced + period_of system (group last)
+  module _ (over : AreOverAll stops span write last (ReadsAt system (group last)))
+      (far : period_of system (group last) ≤ (bounds_from stops span write last).reaction) where
+    reduced_at_least : (bounds_from stops span write last).reaction ≤ (bounds_from stops span write last).reduced + period_of system (group last)
     reduced_at_least =
         let has = over.lengths.attained (omega (arith, far, positive last last_in)) in
         omega (arith, ints, has.is, shorter has.arrival has.arrives, over.reduced.above has.arrival has.arrives)
 
-    reduced_at_most : (bounds_from stops span last).reduced + period_of system (group last) ≤ (bounds_from stops span last).reaction
-    reduced_at_most = elim (cases_lt 0 (bounds_from stops span last).reduced) [
+    reduced_at_most : (bounds_from stops span write last).reduced + period_of system (group last) ≤ (bounds_from stops span write last).reaction
+    reduced_at_most = elim (cases_lt 0 (bounds_from stops span write last).reduced) [
       | inl some ↦
           let has = over.reduced.attained some in
           omega (arith, ints, has.is, shorter has.arrival has.arrives, over.lengths.above has.arrival has.arrives)
       | inr none ↦ omega (arith, none, far)
     ]
 
-    pub reduced_is_shorter : (bounds_from stops span last).reduced + period_of system (group last) ≡ (bounds_from stops span last).reaction
+    pub reduced_is_shorter : (bounds_from stops span write last).reduced + period_of system (group last) ≡ (bounds_from stops span write last).reaction
     reduced_is_shorter = omega (arith, reduced_at_least, reduced_at_most)
 
-bounds_age : (stops : List Stop) (span : ℤ) (place : ℕ) → (bounds_from stops span place).age ≡ (bounds_from stops span place).reaction
+bounds_age : (stops : List Stop) (span : ℤ) (write place : ℕ) → (bounds_from stops span write place).age ≡ (bounds_from stops span write place).reaction
 unfolding bounds_from
-bounds_age stops span place = refl
+bounds_age stops span write place = refl
 
 -- bounds by walks from any group whose arrivals are fixed
 module _ (system : System) (groups : List Group) (stops : List Stop) (stepped : (place : ℕ) → place < length stops → IsStepped (pace_at stops place))
-    (are : AreIdealStops system groups stops) (ticks : ℕ) (turns : AreTurns system groups ticks) (span : ℤ)
+    (are : AreIdealStops system groups stops) (ticks : ℕ) (turns : AreTurns system groups ticks) (span : ℤ) (write : ℕ)
     (whole : span ≡ pos (timing_at system (last_group groups).task).deadline)
-    (over : (place : ℕ) → place < length groups → AreOverAll stops span place (ReadsAt system (group_at groups place)))
+    (over : (place : ℕ) → place < length groups → AreOverAll stops span write place (ReadsAt system (group_at groups place)))
     (exact : Witnesses) (are_exact : AreExactLengths system groups exact) (tied : AreTied system groups exact) where
-  at_first : (place : ℕ) → place < length groups → bounds_from stops span place ≡ bounds_from stops span 0
-  at_first place within = each_phase stops stepped span place 0 (ReadsAt system (group_at groups place)) (ReadsAt system (group_at groups 0))
+  at_first : (place : ℕ) → place < length groups → bounds_from stops span write place ≡ bounds_from stops span write 0
+  at_first place within = each_phase stops stepped span write place 0 (ReadsAt system (group_at groups place)) (ReadsAt system (group_at groups 0))
       (over place within) (over 0 are.some)
 
-  lengths_at_first : AreLengthsOf (bounds_from stops span 0) exact
+  lengths_at_first : AreLengthsOf (bounds_from stops span write 0) exact
   lengths_at_first =
-      let reaction = reaction_is_exact system groups stops stepped are ticks turns span whole (over 0 are.some) exact.reaction are_exact.reaction in
+      let reaction = reaction_is_exact system groups stops stepped are ticks turns span write whole (over 0 are.some) exact.reaction are_exact.reaction in
       let last_in : length groups - 1 < length groups = omega (arith, are.some) in
       let same = at_first (length groups - 1) last_in in
       let last_reaction = ap (λ (bounds : Lengths). bounds.reaction) same in
       let last_reduced = ap (λ (bounds : Lengths). bounds.reduced) same in
-      let shorter = reduced_is_shorter system groups stops stepped are ticks turns span (over (length groups - 1) last_in)
+      let shorter = reduced_is_shorter system groups stops stepped are ticks turns span write (over (length groups - 1) last_in)
       (omega (arith, last_reaction, reaction, tied.shorter, tied.equal)) in
       record {
         reaction = reaction;
-        age = omega (arith, bounds_age stops span 0, reaction, tied.equal);
+        age = omega (arith, bounds_age stops span write 0, reaction, tied.equal);
         reduced = omega (arith, shorter, last_reaction, last_reduced, reaction, tied.shorter, tied.equal);
       }
 
-  pub lengths_are_exact : (place : ℕ) → place < length groups → AreLengthsOf (bounds_from stops span place) exact
+  pub lengths_are_exact : (place : ℕ) → place < length groups → AreLengthsOf (bounds_from stops span write place) exact
   lengths_are_exact place within = subst (λ bounds. AreLengthsOf bounds exact) (sym (at_first place within)) lengths_at_first

@@ -28,7 +28,7 @@ use Rattle.cl_analyse.specs.declared.findings.ChainAnswer.{ChainAnswer}
 use Rattle.cl_analyse.specs.declared.findings.ChainAnswer.TheVariants.{Bounds, Late}
 use Rattle.cl_analyse.specs.declared.findings.Verdict.{Verdict}
 use Rattle.cl_analyse.specs.ChainAnswers.{first_late, chain_answer, chain_answer_at}
-use Rattle.cl_analyse.specs.Verdicts.{bound_value, verdict_on}
+use Rattle.cl_analyse.specs.Verdicts.{required_bound, verdict_on}
 use Rattle.cl_tight.specs.declared.findings.TightFindings.{TightFindings}
 use Rattle.cl_tight.specs.TightFindings.{tight_chain_answer_of, tight_chain_answers_of, has_exact_bounds, exact_bound, tight_verdict_of, tight_findings_of}
 
@@ -104,14 +104,14 @@ required_known model valid i d within =
 
 -- the verdict on a requirement, from the bound of its chain
 module _ (model : SystemModel) (chains : List ChainAnswer) (requirement : RequirementDef) (chain : ℕ) (bound : Option ℕ)
-    (same : chain ≡ required_chain model requirement) (is : bound ≡ bound_value requirement.kind (chain_answer_at chains chain)) where
+    (same : chain ≡ required_chain model requirement) (is : bound ≡ required_bound requirement.kind (chain_answer_at chains chain)) where
   judged : (exact : Option ℕ) → exact ≡ exact_bound (has_exact_bounds model chain) bound → verdict_on requirement.most exact bound ≡ tight_verdict_of model chains requirement
   unfolding tight_verdict_of
   judged exact is_exact =
       ap (λ (o : Option ℕ). verdict_on requirement.most o bound) is_exact
       ∙ ap (λ (o : Option ℕ). verdict_on requirement.most (exact_bound (has_exact_bounds model chain) o) o) is
-      ∙ ap (λ (n : ℕ). verdict_on requirement.most (exact_bound (has_exact_bounds model n) (bound_value requirement.kind (chain_answer_at chains n)))
-      (bound_value requirement.kind (chain_answer_at chains n))) same
+      ∙ ap (λ (n : ℕ). verdict_on requirement.most (exact_bound (has_exact_bounds model n) (required_bound requirement.kind (chain_answer_at chains n)))
+      (required_bound requirement.kind (chain_answer_at chains n))) same
 
   -- where it is exact, and where it may not be
   pub judged_exact : (exact : Option ℕ) → exact ≡ bound → has_exact_bounds model chain ≡ true → verdict_on requirement.most exact bound ≡ tight_verdict_of model chains requirement

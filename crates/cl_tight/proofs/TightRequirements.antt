@@ -1,27 +1,33 @@
 -- Requirements by tight findings: what is met is kept, and what is broken is broken in some legal run.
-use Rattle.std.proofs.Common.{◌≡◌, ◌⊎◌, ℕ, ◌≤◌, ◌<◌, Bool, true, false, Option, Some, inl, inr, List, length, get_or, refl, sym, ap, ◌∙◌, arith}
+use Rattle.std.proofs.Common.{◌≡◌, ◌⊎◌, ℕ, ◌+◌, ◌≤◌, ◌<◌, Bool, true, false, Option, Some, inl, inr, List, length, get_or, refl, sym, ap, ◌∙◌, arith}
 use Rattle.std.proofs.Math.ListN.{length-map}
 use Rattle.std.proofs.Math.Nat.{lt_of_not-le}
 use Rattle.std.proofs.lemmas.List.{get_or_past}
 use Rattle.cl_model.specs.declared.model.SystemModel.{SystemModel}
-use Rattle.cl_model.specs.declared.chain.LengthKind.{LengthKind}
 use Rattle.cl_model.specs.declared.chain.LengthKind.TheVariants.{Reaction, Age, Reduced}
+use Rattle.cl_model.specs.declared.chain.RequirementKind.{RequirementKind}
+use Rattle.cl_model.specs.declared.chain.RequirementKind.TheVariants.{Length, Delay}
 use Rattle.cl_model.specs.declared.chain.RequirementDef.{RequirementDef}
 use Rattle.cl_model.specs.declared.group.Group.{Group}
-use Rattle.cl_model.specs.Groups.{groups_at}
+use Rattle.cl_model.specs.Groups.{groups_at, no_group}
+use Rattle.cl_model.specs.Kinds.{is_timed}
 use Rattle.cl_model.specs.Validity.{IsValid}
-use Rattle.cl_model.proofs.GroupFacts.{groups_at_are}
-use Rattle.cl_runs.specs.TaskTiming.{System}
+use Rattle.cl_model.proofs.GroupFacts.{groups_at_are, groups_at_some}
+use Rattle.cl_runs.specs.TaskTiming.{System, IsSound}
 use Rattle.cl_runs.specs.SystemOf.{system_of}
+use Rattle.cl_runs.specs.Run.{Run}
+use Rattle.cl_runs.specs.Legal.{IsLegal}
+use Rattle.cl_runs.specs.Chains.{first_group}
 use Rattle.cl_runs.proofs.ModelSystem.{system_sound}
 use Rattle.cl_runs.specs.Requirements.{required_chain, IsKept, IsBroken}
 use Rattle.cl_bound.specs.Answers.{NoneIsLate}
 use Rattle.cl_bound.specs.Bounds.{Lengths}
 use Rattle.cl_exact.specs.ExactLengths.{Witnesses, chain_of}
-use Rattle.cl_exact.specs.RunPromises.{HaveResponses, HasWitnessRun}
+use Rattle.cl_exact.specs.RunPromises.{HaveResponses, HasWitnessRun, IsSettledTimedChain}
 use Rattle.cl_exact.proofs.ExactOnce.{within_or_past}
 use Rattle.cl_exact.proofs.RunExact.{witness_run}
-use Rattle.cl_exact.proofs.RunTasks.{settled_timed_groups}
+use Rattle.cl_exact.proofs.RunMoments.{IsIdealTask, task_period}
+use Rattle.cl_exact.proofs.RunTasks.{settled_timed_groups, ideal_groups}
 use Rattle.cl_exact.proofs.SomeExact.{exact_lengths_exist}
 use Rattle.cl_tight.specs.TightAnswers.{tight_answers_of, tight_response}
 use Rattle.cl_tight.specs.ExactBounds.{AreLengthsOf}
@@ -29,26 +35,39 @@ use Rattle.cl_tight.proofs.ModelTight.{phased_of_chain}
 use Rattle.cl_analyse.specs.declared.findings.ChainAnswer.TheVariants.{Bounds, Late}
 use Rattle.cl_analyse.specs.declared.findings.Verdict.TheVariants.{Met, Broken}
 use Rattle.cl_analyse.specs.ChainAnswers.{chain_answer_at}
-use Rattle.cl_analyse.specs.Verdicts.{bound_of_kind, witness_of_kind, bound_value}
+use Rattle.cl_analyse.specs.Verdicts.{limited_bound, required_bound}
 use Rattle.cl_analyse.proofs.KeptRequirements.{met_by, broken_by, bound_valued, kind_bound, HasChain}
 use Rattle.cl_tight.specs.TightFindings.{tight_chain_answer_of, tight_chain_answers_of, has_exact_bounds, exact_bound, tight_verdict_of}
 use Rattle.cl_tight.proofs.CommonPeriods.{exact_where}
-use Rattle.cl_tight.proofs.TightChains.{timely_task, own_bounds, tight_given, tight_bounds_hold}
+use Rattle.cl_phase.proofs.DelayReactions.{timed_delay}
+use Rattle.cl_tight.specs.TightTimings.{tight_timing}
+use Rattle.cl_tight.proofs.ExactDelays.{taken, takes_on, shorter_by_a_period}
+use Rattle.cl_tight.proofs.TightChains.{timely_task, own_bounds, timings_keep, tight_given, tight_bounds_hold}
 
 -- ---- kinds
 
--- the bound of a kind that is exact is the length of its witness
-length_of_kind : (kind : LengthKind) (bounds : Lengths) (exact : Witnesses) → AreLengthsOf bounds exact → bound_of_kind kind bounds ≡ (witness_of_kind kind exact).length
-length_of_kind Reaction bounds exact are = are.reaction
-length_of_kind Age bounds exact are = are.age
-length_of_kind Reduced bounds exact are = are.reduced
-
--- the run of the witnesses has a chain of each exact length
-kind_witness : (system : System) (groups : List Group) (kind : LengthKind) (exact : Witnesses) → (has : HasWitnessRun system groups exact)
-    → HasChain system groups has.run kind (witness_of_kind kind exact).length
-kind_witness system groups Reaction exact has = record { chain = chain_of exact.reaction; complete = has.reaction.is_chain; is_long = has.reaction.length }
-kind_witness system groups Age exact has = record { chain = chain_of exact.age; complete = has.age.is_chain; is_long = has.age.length }
-kind_witness system groups Reduced exact has = record { chain = chain_of exact.reduced; complete = has.reduced.is_chain; is_long = has.reduced.length }
+-- the run of the witnesses has a chain of each kind that is as long as the bound, where bounds are exact
+module _ (system : System) (sound : IsSound system) (groups : List Group) (exact : Witnesses) (has : HasWitnessRun system groups exact)
+    (bounds : Lengths) (are : AreLengthsOf bounds exact) (first : IsIdealTask system (first_group groups).task)
+    (shorter : bounds.delay + task_period system (first_group groups).task ≡ bounds.reaction) where
+  kind_occurs : (kind : RequirementKind) → HasChain system groups has.run kind (limited_bound kind bounds)
+  kind_occurs (Length Reaction) = record {
+    chain = chain_of exact.reaction;
+    complete = has.reaction.is_chain;
+    is_long = has.reaction.length ∙ sym are.reaction;
+  }
+  kind_occurs (Length Age) = record { chain = chain_of exact.age; complete = has.age.is_chain; is_long = has.age.length ∙ sym are.age }
+  kind_occurs (Length Reduced) = record {
+    chain = chain_of exact.reduced;
+    complete = has.reduced.is_chain;
+    is_long = has.reduced.length ∙ sym are.reduced;
+  }
+  kind_occurs Delay = record {
+    chain = taken system has.run groups (chain_of exact.reaction) has.reaction.is_chain;
+    complete = takes_on system has.run groups (chain_of exact.reaction) has.reaction.is_chain;
+    is_long = shorter_by_a_period system has.run groups (chain_of exact.reaction) has.reaction.is_chain sound has.legal first
+        bounds.delay (has.reaction.length ∙ sym are.reaction ∙ sym shorter);
+  }
 
 -- ---- exact bounds
 
@@ -85,7 +104,11 @@ module _ (model : SystemModel) (valid : IsValid model) where
       timely = timely_task model valid (get_or groups place d).task (groups_at_are model valid chain place d h).known (timely place d h);
     }
 
-    -- in some legal run a complete chain of each kind is as long as the tight bound
+    settled : has_exact_bounds model chain ≡ true → NoneIsLate (tight_answers_of system) groups → IsSettledTimedChain system groups
+    settled rule timely =
+        settled_timed_groups model groups (groups_at_are model valid chain) (exact_where model valid chain rule).0 (responses timely)
+
+    -- in some legal run complete chains are as long as the tight bounds
     bounds_occur : has_exact_bounds model chain ≡ true → NoneIsLate (tight_answers_of system) groups
         → (exact : Witnesses) × HasWitnessRun system groups exact × AreLengthsOf (own_bounds model valid chain) exact
     bounds_occur rule timely =
@@ -93,11 +116,35 @@ module _ (model : SystemModel) (valid : IsValid model) where
         elim (exact_lengths_exist model valid chain within timed) [
           | inl (exact, are, _) ↦ (
             exact,
-            witness_run system (system_sound model valid) groups (settled_timed_groups model groups (groups_at_are model valid chain) timed (responses timely)) exact are,
+            witness_run system (system_sound model valid) groups (settled rule timely) exact are,
             phased_of_chain model valid chain within timed limit exact are,
           )
           | inr past ↦ absurd (within_or_past system groups limit past)
         ]
+
+    -- the first task is periodic and timed
+    first_ideal : has_exact_bounds model chain ≡ true → NoneIsLate (tight_answers_of system) groups → IsIdealTask system (first_group groups).task
+    first_ideal rule timely = (ideal_groups system groups (settled rule timely) 0 no_group (groups_at_some model valid chain within)).task
+
+    -- so a delay is a reaction less its period
+    period_less : has_exact_bounds model chain ≡ true → NoneIsLate (tight_answers_of system) groups
+        → (own_bounds model valid chain).delay + task_period system (first_group groups).task ≡ (own_bounds model valid chain).reaction
+    period_less rule timely =
+        let some = groups_at_some model valid chain within in
+        let keep = timings_keep model valid chain within timely in
+        let ideal = first_ideal rule timely in
+        timed_delay system (system_sound model valid) (tight_timing system) groups some keep
+        ((keep 0 no_group some).of_group.is_timed ∙ ap is_timed ideal.timed)
+        (task_period system (first_group groups).task) _ _ ideal.periodic
+
+    occurs : has_exact_bounds model chain ≡ true → NoneIsLate (tight_answers_of system) groups → (kind : RequirementKind)
+        → (run : Run) × IsLegal system run × HasChain system groups run kind (limited_bound kind (own_bounds model valid chain))
+    occurs rule timely kind =
+        let (exact, has, are) = bounds_occur rule timely in (
+          has.run,
+          has.legal,
+          kind_occurs system (system_sound model valid) groups exact has (own_bounds model valid chain) are (first_ideal rule timely) (period_less rule timely) kind,
+        )
 
   -- ---- verdicts
 
@@ -106,7 +153,7 @@ module _ (model : SystemModel) (valid : IsValid model) where
     chain = required_chain model requirement
 
     abbrev bound : Option ℕ
-    bound = bound_value requirement.kind (chain_answer_at (tight_chain_answers_of model) chain)
+    bound = required_bound requirement.kind (chain_answer_at (tight_chain_answers_of model) chain)
 
     kept_by : (value : ℕ) → value ≤ requirement.most → bound ≡ Some value → IsKept model requirement
     kept_by value within is =
@@ -127,11 +174,9 @@ module _ (model : SystemModel) (valid : IsValid model) where
         let (bounds, given, same) = bound_valued requirement.kind (chain_answer_at (tight_chain_answers_of model) chain) value is in
         let within = bounded_chain chain bounds given in
         let (timely, own) = tight_given model valid chain within bounds given in
-        let (exact, has, are) = bounds_occur chain within rule timely in
-        let found = kind_witness system (groups_at model chain) requirement.kind exact has in
-        let long = length_of_kind requirement.kind (own_bounds model valid chain) exact are in
-        let as_long = ap (bound_of_kind requirement.kind) own in
-        record { run = has.run; legal = has.legal; chain = found.chain; complete = found.complete; longer = omega (arith, past, same, as_long, long, found.is_long) }
+        let (run, legal, found) = occurs chain within rule timely requirement.kind in
+        let as_long = ap (limited_bound requirement.kind) own in
+        record { run = run; legal = legal; chain = found.chain; complete = found.complete; longer = omega (arith, past, same, as_long, found.is_long) }
 
     pub broken_is : (value : ℕ) → tight_verdict_of model (tight_chain_answers_of model) requirement ≡ Broken value → IsBroken model requirement
     unfolding tight_verdict_of

@@ -18,7 +18,7 @@ use Rattle.cl_phase.specs.TightBounds.{tight_bounds}
 use Rattle.cl_analyse.specs.declared.findings.ChainAnswer.{ChainAnswer}
 use Rattle.cl_analyse.specs.declared.findings.Verdict.{Verdict}
 use Rattle.cl_analyse.specs.ChainAnswers.{first_late, chain_answer, chain_answer_at}
-use Rattle.cl_analyse.specs.Verdicts.{bound_value, verdict_on, is_met}
+use Rattle.cl_analyse.specs.Verdicts.{required_bound, verdict_on, is_met}
 use Rattle.cl_tight.specs.TightAnswers.{tight_answers_of}
 use Rattle.cl_tight.specs.TightTimings.{tight_timing}
 use Rattle.cl_tight.specs.declared.findings.TightFindings.{TightFindings}
@@ -58,7 +58,7 @@ exact_bound false bound = None
 unfoldable pub tight_verdict_of : SystemModel → (chains : List ChainAnswer) → RequirementDef → Verdict
 tight_verdict_of model chains requirement =
     let chain = required_chain model requirement in
-    let bound = bound_value requirement.kind (chain_answer_at chains chain) in
+    let bound = required_bound requirement.kind (chain_answer_at chains chain) in
     verdict_on requirement.most (exact_bound (has_exact_bounds model chain) bound) bound
 
 -- ---- all findings

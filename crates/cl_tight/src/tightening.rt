@@ -21,7 +21,7 @@ ghost use Rattle.cl_tight.specs.Inner.Windows.{window_in};
 
 use crate::access_windows::AccessWindows;
 use crate::findings::TightFindings;
-use cl_analyse::{ChainAnswer, Verdict, answer_tasks, bound_value, first_late, verdict_on};
+use cl_analyse::{ChainAnswer, Verdict, answer_tasks, first_late, required_bound, verdict_on};
 use cl_bound::{Bounds, TaskAnswer};
 use cl_exact::{is_timed_periodic, is_within_limit};
 use cl_model::{List, RequirementDef, ValidModel};
@@ -229,7 +229,7 @@ fn judge_tightly(
     ensures { result ≡ tight_verdict_of model.now chains.now requirement.now }
 {
     let chain = model.chain_named(&requirement.chain).unwrap_or(0);
-    let bound = bound_value(chains, chain, requirement.kind);
+    let bound = required_bound(chains, chain, requirement.kind);
     let exact = if has_exact_bounds(model, chain) {
         bound
     } else {

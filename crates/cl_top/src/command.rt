@@ -19,7 +19,7 @@ pub enum Command {
     /// `analyse MODEL`: writes the report of a model: responses, bounds, exact lengths and
     /// verdicts.
     Analyse,
-    /// `migrate MODEL`: writes a model as a file of version 2.
+    /// `migrate MODEL`: writes a model as a file of the least version from 2 on that can say it.
     Migrate,
     /// `cut MODEL`: finds the best cut of every chain of a model: consecutive pieces by which its
     /// reaction is bounded best.
@@ -45,8 +45,8 @@ pub enum Command {
     /// `edit MODEL EDITS`: makes the edits of a list one after the other, and writes a report of
     /// the model for each line `report` among them.
     Edit,
-    /// `apply MODEL EDITS`: writes a model as it is after all edits of a list, as a file of version
-    /// 2.
+    /// `apply MODEL EDITS`: writes a model as it is after all edits of a list, as a file of the
+    /// least version from 2 on that can say it.
     Apply,
     /// `generate SEED TASKS`: writes a model of so many tasks that the seed draws.
     Generate { seed: u64, tasks: u64 },

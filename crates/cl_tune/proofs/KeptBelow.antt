@@ -5,8 +5,9 @@ use Rattle.std.specs.List.{list_all}
 use Rattle.std.proofs.lemmas.Bool.{true≢false, false≢true, cases_lt, leb-true, le-leb}
 use Rattle.std.proofs.lemmas.List.{length-map, get_or_past}
 use Rattle.std.proofs.lemmas.List.Elements.{All-nil, All-cons, All-head, All-tail}
-use Rattle.cl_model.specs.declared.chain.LengthKind.{LengthKind}
 use Rattle.cl_model.specs.declared.chain.LengthKind.TheVariants.{Reaction, Age, Reduced}
+use Rattle.cl_model.specs.declared.chain.RequirementKind.{RequirementKind}
+use Rattle.cl_model.specs.declared.chain.RequirementKind.TheVariants.{Length, Delay}
 use Rattle.cl_model.specs.declared.chain.RequirementDef.{RequirementDef}
 use Rattle.cl_model.specs.declared.group.Group.{Group}
 use Rattle.cl_model.specs.declared.group.Step.{Step}
@@ -47,7 +48,7 @@ use Rattle.cl_analyse.specs.declared.findings.Verdict.{Verdict}
 use Rattle.cl_analyse.specs.declared.findings.Verdict.TheVariants.{Met, Unshown}
 use Rattle.cl_analyse.specs.ChainAnswers.{first_late, chain_answer, chain_answer_of, chain_answers_of, chain_answer_at, exact_answer_at, IsTimelyAnswer, IsExactAnswer}
 use Rattle.cl_analyse.specs.Findings.{AreFindings}
-use Rattle.cl_analyse.specs.Verdicts.{bound_of_kind, witness_of_kind, bound_value, exact_value, verdict_on, verdict_of, is_met}
+use Rattle.cl_analyse.specs.Verdicts.{bound_of_kind, witness_of_kind, limited_bound, limited_length, required_bound, required_exact, verdict_on, verdict_of, is_met}
 use Rattle.cl_analyse.proofs.FirstLate.{none_late}
 use Rattle.cl_analyse.proofs.SafeFindings.{answer_of_chain, chain_settled}
 use Rattle.cl_analyse.proofs.SomeFindings.{some_findings}
@@ -88,10 +89,19 @@ bound_met most less more le is =
     let within = leb-true more most (met_where (nat_le more most) more is) in
     ap (λ b. is_met (cond b (Met less) (Unshown (Some less)))) (le-leb less most (omega (arith, le, within)))
 
-kind_less : (kind : LengthKind) (one other : Lengths) → AreNoGreater one other → bound_of_kind kind one ≤ bound_of_kind kind other
-kind_less Reaction one other less = less.reaction
-kind_less Age one other less = less.age
-kind_less Reduced one other less = less.reduced
+kind_less : (kind : RequirementKind) (one other : Lengths) → AreNoGreater one other → limited_bound kind one ≤ limited_bound kind other
+kind_less (Length Reaction) one other less = less.reaction
+kind_less (Length Age) one other less = less.age
+kind_less (Length Reduced) one other less = less.reduced
+kind_less Delay one other less = less.delay
+
+-- what is met by exact lengths, or where none is found by a bound, is met by the same ones and a bound that is no greater
+both_exact : (kind : RequirementKind) (most : ℕ) (lengths others : Witnesses) (one other : Lengths) → AreNoGreater one other → others ≡ lengths
+    → is_met (verdict_on most (limited_length kind lengths) (Some (limited_bound kind other))) ≡ true
+    → is_met (verdict_on most (limited_length kind others) (Some (limited_bound kind one))) ≡ true
+both_exact (Length kind) most lengths others one other less same met =
+    ap (λ (l : Witnesses). is_met (verdict_on most (Some (witness_of_kind kind l).length) (Some (bound_of_kind kind one)))) same ∙ met
+both_exact Delay most lengths others one other less same met = bound_met most one.delay other.delay less.delay met
 
 all_met : (one other : RequirementDef → Verdict) → ((r : RequirementDef) → is_met (one r) ≡ true → is_met (other r) ≡ true) → (rs : List RequirementDef)
     → All (λ (verdict : Verdict). is_met verdict ≡ true) (map one rs) → All (λ (verdict : Verdict). is_met verdict ≡ true) (map other rs)
@@ -173,15 +183,15 @@ module _ (model : SystemModel) (valid : IsValid model) (less more : ℕ) (le : l
       (groups_at greater c)
 
   -- what is met by what is found of a chain is met by what is found of it at the smaller percentage
-  module _ (c : ℕ) (kind : LengthKind) (most : ℕ) where
+  module _ (c : ℕ) (kind : RequirementKind) (most : ℕ) where
     abbrev one : Lengths
     one = bounds_of (system_of lesser) (groups_at lesser c)
 
     abbrev other : Lengths
     other = bounds_of (system_of greater) (groups_at greater c)
 
-    by_bounds : is_met (verdict_on most None (Some (bound_of_kind kind other))) ≡ true → is_met (verdict_on most None (Some (bound_of_kind kind one))) ≡ true
-    by_bounds = bound_met most (bound_of_kind kind one) (bound_of_kind kind other) (kind_less kind one other (bounds_below c))
+    by_bounds : is_met (verdict_on most None (Some (limited_bound kind other))) ≡ true → is_met (verdict_on most None (Some (limited_bound kind one))) ≡ true
+    by_bounds = bound_met most (limited_bound kind one) (limited_bound kind other) (kind_less kind one other (bounds_below c))
 
     within_greater : IsWithinLimit (system_of lesser) (groups_at lesser c) → IsWithinLimit (system_of greater) (groups_at greater c)
     within_greater is = within_same (system_of lesser) (system_of greater) arrivals_same (groups_at greater c)
@@ -196,14 +206,14 @@ module _ (model : SystemModel) (valid : IsValid model) (less more : ℕ) (le : l
         (subst (λ (list : List Group). AreExactLengths (system_of lesser) list lengths) (groups_same c) is)
 
     by_timed : (timed : Bool) (found below : ExactAnswer) → IsTimelyAnswer greater c timed found → IsTimelyAnswer lesser c timed below
-        → is_met (verdict_on most (exact_value kind found) (Some (bound_of_kind kind other))) ≡ true
-        → is_met (verdict_on most (exact_value kind below) (Some (bound_of_kind kind one))) ≡ true
+        → is_met (verdict_on most (required_exact kind found) (Some (limited_bound kind other))) ≡ true
+        → is_met (verdict_on most (required_exact kind below) (Some (limited_bound kind one))) ≡ true
     by_timed false found below is is_below met =
-        ap (λ answer. is_met (verdict_on most (exact_value kind answer) (Some (bound_of_kind kind one)))) is_below
-        ∙ by_bounds (sym (ap (λ answer. is_met (verdict_on most (exact_value kind answer) (Some (bound_of_kind kind other)))) is) ∙ met)
+        ap (λ answer. is_met (verdict_on most (required_exact kind answer) (Some (limited_bound kind one)))) is_below
+        ∙ by_bounds (sym (ap (λ answer. is_met (verdict_on most (required_exact kind answer) (Some (limited_bound kind other)))) is) ∙ met)
     by_timed true (Exact lengths) (Exact others) is is_below met =
         let same : others ≡ lengths = exact_unique (system_of greater) (groups_at greater c) others lengths (exact_greater others is_below.1) is.1 in
-        ap (λ (l : Witnesses). is_met (verdict_on most (Some (witness_of_kind kind l).length) (Some (bound_of_kind kind one)))) same ∙ met
+        both_exact kind most lengths others one other (bounds_below c) same met
     by_timed true (Exact lengths) (Past limit) is is_below met = absurd (within_or_past (system_of greater) (groups_at greater c) is.0 (past_greater is_below.0))
     by_timed true (Exact lengths) NotTimed is is_below met = absurd is_below
     by_timed true (Exact lengths) ChainLate is is_below met = absurd is_below
@@ -238,14 +248,14 @@ module _ (model : SystemModel) (valid : IsValid model) (less more : ℕ) (le : l
     required_greater = refl
 
     verdict_greater : verdict_of greater kept.findings.chains kept.findings.exacts r
-        ≡ verdict_on r.most (exact_value r.kind (exact_answer_at kept.findings.exacts c)) (bound_value r.kind (chain_answer_at kept.findings.chains c))
+        ≡ verdict_on r.most (required_exact r.kind (exact_answer_at kept.findings.exacts c)) (required_bound r.kind (chain_answer_at kept.findings.chains c))
     unfolding verdict_of
-    verdict_greater = ap (λ n. verdict_on r.most (exact_value r.kind (exact_answer_at kept.findings.exacts n)) (bound_value r.kind (chain_answer_at kept.findings.chains n))) required_greater
+    verdict_greater = ap (λ n. verdict_on r.most (required_exact r.kind (exact_answer_at kept.findings.exacts n)) (required_bound r.kind (chain_answer_at kept.findings.chains n))) required_greater
 
     verdict_lesser : verdict_of lesser found_below.0.chains found_below.0.exacts r
-        ≡ verdict_on r.most (exact_value r.kind (exact_answer_at found_below.0.exacts c)) (bound_value r.kind (chain_answer_at found_below.0.chains c))
+        ≡ verdict_on r.most (required_exact r.kind (exact_answer_at found_below.0.exacts c)) (required_bound r.kind (chain_answer_at found_below.0.chains c))
     unfolding verdict_of
-    verdict_lesser = ap (λ n. verdict_on r.most (exact_value r.kind (exact_answer_at found_below.0.exacts n)) (bound_value r.kind (chain_answer_at found_below.0.chains n))) required_lesser
+    verdict_lesser = ap (λ n. verdict_on r.most (required_exact r.kind (exact_answer_at found_below.0.exacts n)) (required_bound r.kind (chain_answer_at found_below.0.chains n))) required_lesser
 
     -- a chain that isn't there has no value
     unknown : length model.chains ≤ c → is_met (verdict_of greater kept.findings.chains kept.findings.exacts r) ≡ true → ⊥
@@ -256,8 +266,8 @@ module _ (model : SystemModel) (valid : IsValid model) (less more : ℕ) (le : l
         let no_exact : exact_answer_at kept.findings.exacts c ≡ ChainLate =
         get_or_past kept.findings.exacts c ChainLate (omega (arith, past, kept.found.exacts.one_a_chain, ap length chains_greater)) in
         true≢false (sym met ∙ ap is_met verdict_greater
-        ∙ ap (λ answer. is_met (verdict_on r.most (exact_value r.kind answer) (bound_value r.kind (chain_answer_at kept.findings.chains c)))) no_exact
-        ∙ ap (λ answer. is_met (verdict_on r.most None (bound_value r.kind answer))) no_chain)
+        ∙ ap (λ answer. is_met (verdict_on r.most (required_exact r.kind answer) (required_bound r.kind (chain_answer_at kept.findings.chains c)))) no_exact
+        ∙ ap (λ answer. is_met (verdict_on r.most None (required_bound r.kind answer))) no_chain)
 
     known : c < length model.chains → is_met (verdict_of greater kept.findings.chains kept.findings.exacts r) ≡ true
         → is_met (verdict_of lesser found_below.0.chains found_below.0.exacts r) ≡ true
@@ -275,11 +285,11 @@ module _ (model : SystemModel) (valid : IsValid model) (less more : ℕ) (le : l
         subst (λ (answer : ChainAnswer). IsExactAnswer lesser c answer (exact_answer_at found_below.0.exacts c)) (answer_is lesser valid_lesser timely_lesser c)
         (found_below.1.exacts.each c in_lesser) in
         ap is_met verdict_lesser
-        ∙ ap (λ answer. is_met (verdict_on r.most (exact_value r.kind (exact_answer_at found_below.0.exacts c)) (bound_value r.kind answer))) chain_lesser
+        ∙ ap (λ answer. is_met (verdict_on r.most (required_exact r.kind (exact_answer_at found_below.0.exacts c)) (required_bound r.kind answer))) chain_lesser
         ∙ by_timed c r.kind r.most (is_timed_periodic_chain greater c) (exact_answer_at kept.findings.exacts c) (exact_answer_at found_below.0.exacts c) exact_more
         (subst (λ (timed : Bool). IsTimelyAnswer lesser c timed (exact_answer_at found_below.0.exacts c)) (timed_same c) exact_less)
         (sym (ap is_met verdict_greater
-        ∙ ap (λ answer. is_met (verdict_on r.most (exact_value r.kind (exact_answer_at kept.findings.exacts c)) (bound_value r.kind answer))) chain_greater) ∙ met)
+        ∙ ap (λ answer. is_met (verdict_on r.most (required_exact r.kind (exact_answer_at kept.findings.exacts c)) (required_bound r.kind answer))) chain_greater) ∙ met)
 
     requirement_kept : is_met (verdict_of greater kept.findings.chains kept.findings.exacts r) ≡ true
         → is_met (verdict_of lesser found_below.0.chains found_below.0.exacts r) ≡ true

@@ -77,13 +77,13 @@ module _ {X : Type 0} (written : X → Data) where
       let few : leb (length (map written (x ∷ xs))) limit ≡ true = le-leb _ _ (omega (arith, short, length-map (x ∷ xs) written)) in
       rw (members_of-items (map written xs), few) (append-nil _ ∙ each_passes (λ k p. check (place_in k p)) place 0 (x ∷ xs) (recursion_from_All _ (x ∷ xs) (λ k d lt n p. all k d lt (place_in n p))))
 
-  pub unless_empty_means : (meaning : Data → X) → ((x : X) → meaning (written x) ≡ x) → (xs : List X) → found_or [] (λ d. map meaning (list_of d)) (unless_empty written xs) ≡ xs
-  unless_empty_means meaning means [] = refl
-  unless_empty_means meaning means (x ∷ xs) = rw (members_of-items (map written xs)) (all_mean (x ∷ xs))
+  pub unless_empty_means : (meaning : Data → X) (xs : List X) → All (λ x. meaning (written x) ≡ x) xs → found_or [] (λ d. map meaning (list_of d)) (unless_empty written xs) ≡ xs
+  unless_empty_means meaning [] means = refl
+  unless_empty_means meaning (x ∷ xs) means = rw (members_of-items (map written xs)) (all_mean (x ∷ xs) (recursion_from_All _ (x ∷ xs) means))
     where
-      all_mean : (ys : List X) → map meaning (map written ys) ≡ ys
-      all_mean [] = refl
-      all_mean (y ∷ ys) = rw (means y, all_mean ys) refl
+      all_mean : (ys : List X) → AllByRecursion (λ x. meaning (written x) ≡ x) ys → map meaning (map written ys) ≡ ys
+      all_mean [] each = refl
+      all_mean (y ∷ ys) each = rw (each.0, all_mean ys each.1) refl
 
 -- ---- tables
 

@@ -14,9 +14,10 @@ use Rattle.toml.specs.View.{items_of}
 use Rattle.toml_writer.specs.Text as written
 use Rattle.cl_model.specs.declared.limits.TheConstants.{MOST_REQUIRED}
 use Rattle.cl_model.specs.declared.chain.ChainDef.{ChainDef}
-use Rattle.cl_model.specs.declared.chain.LengthKind.{LengthKind}
 use Rattle.cl_model.specs.declared.chain.LengthKind.TheVariants.{Reaction, Age, Reduced}
 use Rattle.cl_model.specs.declared.chain.RequirementDef.{RequirementDef}
+use Rattle.cl_model.specs.declared.chain.RequirementKind.{RequirementKind}
+use Rattle.cl_model.specs.declared.chain.RequirementKind.TheVariants.{Length, Delay}
 use Rattle.cl_model.specs.declared.model.SystemModel.{SystemModel}
 use Rattle.cl_model.specs.declared.place.Key.{Key}
 use Rattle.cl_model.specs.declared.place.Key.TheVariants as key
@@ -30,9 +31,9 @@ use Rattle.cl_model.specs.AreNamed.{IsRunnableNamed, IsTaskNamed, IsChainNamed, 
 use Rattle.cl_model.specs.Name.{IsName}
 use Rattle.cl_model.specs.Place.{key_text}
 use Rattle.cl_model.specs.Ranges.{IsTime, IsKindInRange, IsRunnableInRange, IsTaskInRange, IsInRange}
-use Rattle.cl_model.specs.Kinds.{access_word}
+use Rattle.cl_model.specs.Kinds.{access_word, requirement_word}
 use Rattle.cl_write.specs.Entries.{Entry, with_member, with_entry, with_entries, members_with, number, number_data_if, unless_zero, when_true, unless_empty, names_data, tables}
-use Rattle.cl_write.specs.Writing.{length_word, core_table_entries, label_entries, kind_entries, stimulus_entries, runnable_entries, task_entries, chain_entries, requirement_entries, model_entries, document}
+use Rattle.cl_write.specs.Writing.{has_delay, version_for, core_table_entries, label_entries, kind_entries, stimulus_entries, runnable_entries, task_entries, chain_entries, requirement_entries, model_entries, document}
 use Rattle.cl_write.proofs.PlainData.{IsPlain, ArePlainItems, ArePlain}
 
 -- ---- keys are ASCII
@@ -195,20 +196,28 @@ task_plain t in_range named = (
 chain_plain : (c : ChainDef) → IsChainNamed c → ArePlainEntries (chain_entries c)
 chain_plain c named = (named.name, (names_plain c.runnables named.runnables, (names_plain c.labels named.labels, tt)))
 
-pub length_plain : (kind : LengthKind) → IsName (length_word kind)
-length_plain Reaction = refl
-length_plain Age = refl
-length_plain Reduced = refl
+pub requirement_word_plain : (kind : RequirementKind) → IsName (requirement_word kind)
+requirement_word_plain (Length Reaction) = refl
+requirement_word_plain (Length Age) = refl
+requirement_word_plain (Length Reduced) = refl
+requirement_word_plain Delay = refl
 
 requirement_plain : (r : RequirementDef) → r.most ≤ MOST_REQUIRED → IsRequirementNamed r → ArePlainEntries (requirement_entries r)
-requirement_plain r most named = (named.name, (named.chain, (length_plain r.kind, (most, tt))))
+requirement_plain r most named = (named.name, (named.chain, (requirement_word_plain r.kind, (most, tt))))
+
+small_version : (late : Bool) → cond late 3 2 ≤ MOST_REQUIRED
+small_version true = omega arith
+small_version false = omega arith
+
+pub version_is_small : (m : SystemModel) → version_for m ≤ MOST_REQUIRED
+version_is_small m = small_version (has_delay m)
 
 pub document_is_plain : (m : SystemModel) → IsInRange m → AreNamed m → ArePlain (document m)
 unfolding document
 document_is_plain m in_range named = entries_plain (model_entries m) no_members (
   refl,
   (
-    omega arith,
+    version_is_small m,
     (
       tables_plain core_table_entries m.cores (λ k d lt. (named.cores k d lt, tt)),
       (

@@ -18,15 +18,15 @@ use Rattle.cl_model.specs.declared.stimulus.StimulusKind.TheVariants.{Periodic, 
 use Rattle.cl_model.specs.declared.task.RunnableDef.{RunnableDef}
 use Rattle.cl_model.specs.declared.task.TaskDef.{TaskDef}
 use Rattle.cl_model.specs.AreNamed.{IsRunnableNamed, IsTaskNamed, IsChainNamed, IsRequirementNamed, AreNamed}
-use Rattle.cl_model.specs.Kinds.{access_word}
+use Rattle.cl_model.specs.Kinds.{access_word, requirement_word}
 use Rattle.cl_model.specs.Name.{IsName}
 use Rattle.cl_model.specs.Place.{key_text}
 use Rattle.cl_model.specs.Ranges.{IsKindInRange, IsRunnableInRange, IsTaskInRange, IsInRange}
 use Rattle.cl_write.specs.Entries.{members_with}
 use Rattle.cl_write.specs.Inner.Lines.{word_line, number_line, number_line_if, line_unless_zero, line_when_true, words_line_if}
 use Rattle.cl_write.specs.Inner.Printed.{core_lines, lines_of_label, lines_of_kind, lines_of_runnable, lines_of_task, lines_of_chain, lines_of_requirement, core_text, label_text, stimulus_text, runnable_text, task_text, chain_text, requirement_text, lines_of_model, model_sections, model_text}
-use Rattle.cl_write.specs.Writing.{length_word, core_table_entries, label_entries, stimulus_entries, runnable_entries, task_entries, chain_entries, requirement_entries, model_entries, document}
-use Rattle.cl_write.proofs.PlainModel.{access_plain, length_plain, deadline_plain}
+use Rattle.cl_write.specs.Writing.{version_for, core_table_entries, label_entries, stimulus_entries, runnable_entries, task_entries, chain_entries, requirement_entries, model_entries, document}
+use Rattle.cl_write.proofs.PlainModel.{access_plain, requirement_word_plain, deadline_plain, version_is_small}
 use Rattle.cl_write.proofs.PrintedLines.{AreLines, IsBody, table_lines, flat_table_lines, word_printed, number_printed, number_if_printed, unless_zero_printed, when_true_printed, names_printed, tables_printed, no_pair}
 use Rattle.cl_write.proofs.Sorted.{in_order}
 
@@ -152,14 +152,14 @@ module _ (path : List (List ℕ)) where
   requirement_printed r most named =
       flat_table_lines path (requirement_entries r)
       ((word_line key.Chain r.chain, [])
-      ∷ (word_line key.Kind (length_word r.kind), [])
+      ∷ (word_line key.Kind (requirement_word r.kind), [])
       ∷ (number_line key.Most r.most, [])
       ∷ (word_line key.Name r.name, [])
       ∷ [])
       refl refl (
         word_printed path key.Chain r.chain named.chain,
         (
-          word_printed path key.Kind (length_word r.kind) (length_plain r.kind),
+          word_printed path key.Kind (requirement_word r.kind) (requirement_word_plain r.kind),
           (
             number_printed path key.Most r.most most,
             (word_printed path key.Name r.name named.name, tt),
@@ -229,7 +229,7 @@ model_begins m =
     rw (in_order (model_entries m) [] refl, no_pair chain_entries (λ c. concat (lines_of_chain c)) key.Chain m.chains _, no_pair core_table_entries (λ c. concat (core_lines c)) key.Core m.cores _) refl
 
 module _ (m : SystemModel) (in_range : IsInRange m) (named : AreNamed m) where
-  model_printed : AreLines (expressions (members_with (model_entries m))) (concat lines_of_model ++ concat (model_sections m))
+  model_printed : AreLines (expressions (members_with (model_entries m))) (concat (lines_of_model m) ++ concat (model_sections m))
   unfolding written.key_text
   model_printed = table_lines [] (model_entries m)
       (([], flat_map chain_text m.chains)
@@ -239,7 +239,7 @@ module _ (m : SystemModel) (in_range : IsInRange m) (named : AreNamed m) where
       ∷ ([], flat_map requirement_text m.requirements)
       ∷ ([], flat_map stimulus_text m.stimuli)
       ∷ ([], flat_map task_text m.tasks)
-      ∷ (number_line key.Version 2, [])
+      ∷ (number_line key.Version (version_for m), [])
       ∷ [])
       refl (
         tables_printed chain_entries (λ c. concat (lines_of_chain c)) [] key.Chain (codes "\n[[chain]]\n") refl m.chains
@@ -261,7 +261,7 @@ module _ (m : SystemModel) (in_range : IsInRange m) (named : AreNamed m) where
                   (
                     tables_printed task_entries (λ t. concat (lines_of_task t) ++ flat_map runnable_text t.runnables) [] key.Task (codes "\n[[task]]\n") refl m.tasks
                         (each _ m.tasks (λ k d lt. task_printed (get_or m.tasks k d) (in_range.tasks k d lt) (named.tasks k d lt))),
-                    (number_printed [] key.Version 2 (omega arith), tt),
+                    (number_printed [] key.Version (version_for m) (version_is_small m), tt),
                   ),
                 ),
               ),
@@ -273,4 +273,4 @@ module _ (m : SystemModel) (in_range : IsInRange m) (named : AreNamed m) where
   -- what is printed is a text of the document
   pub is_document_text : IsDocumentText false (document m) (model_text m)
   unfolding document model_text
-  is_document_text = at_start (expressions (members_with (model_entries m))) (concat lines_of_model ++ concat (model_sections m)) (model_begins m) model_printed
+  is_document_text = at_start (expressions (members_with (model_entries m))) (concat (lines_of_model m) ++ concat (model_sections m)) (model_begins m) model_printed

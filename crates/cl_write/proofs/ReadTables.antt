@@ -1,13 +1,14 @@
 -- Each table that is written passes the checks of its kind and means what was written.
-use Rattle.std.proofs.Common.{◌≡◌, ℕ, ◌≤◌, true, List, [], ◌∷◌, ◌++◌, length, get_or, map, All, Option, Some, None, refl, ap, ◌∙◌, arith}
+use Rattle.std.proofs.Common.{◌≡◌, ℕ, ◌≤◌, true, leb, List, [], ◌∷◌, ◌++◌, length, get_or, map, All, Option, Some, None, refl, ap, ◌∙◌, arith}
 use Rattle.std.specs.Prelude.{unwrap_or}
 use Rattle.std.specs.List.{AllByRecursion}
 use Rattle.toml.specs.Data.{string, table}
 use Rattle.cl_model.specs.declared.limits.TheConstants.{MOST_TICKS, MOST_REQUIRED, MOST_PRIORITY, MOST_RUNNABLES, MOST_ACCESSES, MOST_STEPS, MOST_HOPS, LEAST_JOBS_OF_BURST, MOST_JOBS_OF_BURST}
 use Rattle.cl_model.specs.declared.chain.ChainDef.{ChainDef}
-use Rattle.cl_model.specs.declared.chain.LengthKind.{LengthKind}
 use Rattle.cl_model.specs.declared.chain.LengthKind.TheVariants.{Reaction, Age, Reduced}
 use Rattle.cl_model.specs.declared.chain.RequirementDef.{RequirementDef}
+use Rattle.cl_model.specs.declared.chain.RequirementKind.{RequirementKind}
+use Rattle.cl_model.specs.declared.chain.RequirementKind.TheVariants.{Length, Delay}
 use Rattle.cl_model.specs.declared.model.CoreDef.{CoreDef}
 use Rattle.cl_model.specs.declared.model.LabelDef.{LabelDef}
 use Rattle.cl_model.specs.declared.place.Key.{Key}
@@ -28,12 +29,12 @@ use Rattle.cl_model.specs.Reading.Checks.{a_name, a_word, a_table_of, field_chec
 use Rattle.cl_model.specs.Reading.Meanings.{text_in, list_of, table_of, word_if}
 use Rattle.cl_model.specs.Reading.Tables.{core_fields, core_meaning, label_fields, label_meaning, StimulusForm, periodic_form, sporadic_form, burst_form, stimulus_forms, stimulus_fields, form_checks}
 use Rattle.cl_model.specs.Reading.Tables.{stimulus_entry_checks, stimulus_meaning, runnable_fields, runnables, runnable_meaning, access_words, task_fields, task_meaning, chain_fields, chain_meaning}
-use Rattle.cl_model.specs.Reading.Tables.{length_words, requirement_fields, requirement_meaning}
-use Rattle.cl_model.specs.Kinds.{access_word}
+use Rattle.cl_model.specs.Reading.Tables.{requirement_words, requirement_fields, requirement_meaning}
+use Rattle.cl_model.specs.Kinds.{access_word, requirement_word, is_delay}
 use Rattle.cl_model.proofs.NoRefusals.{none_in_order}
 use Rattle.cl_write.specs.Entries.{Entry, members_with}
 use Rattle.cl_write.specs.Entries as entries
-use Rattle.cl_write.specs.Writing.{length_word, core_table_entries, label_entries, stimulus_entries, runnable_entries, task_entries, chain_entries, requirement_entries}
+use Rattle.cl_write.specs.Writing.{core_table_entries, label_entries, stimulus_entries, runnable_entries, task_entries, chain_entries, requirement_entries}
 use Rattle.cl_write.proofs.Found.{entry_at, are_apart, has_keys_among, found}
 use Rattle.cl_write.proofs.Passing.{name_passes, number_passes, number_if_passes, number_if_means, unless_zero_passes, unless_zero_means, when_true_passes, when_true_means, unless_empty_passes, unless_empty_means, FieldPasses, fields_pass, checks_pass, table_passes}
 
@@ -54,27 +55,27 @@ label_means label = rw (found key.Name (label_entries label) refl) refl
 -- ---- stimuli
 
 -- what the word at `kind` stands for
-abbrev form_named : List Entry → Option StimulusForm
-form_named entries = found_or None (λ d. meaning_of (stimulus_forms 2) (text_in d)) (entry_at key.Kind entries)
+abbrev form_named : (version : ℕ) → List Entry → Option StimulusForm
+form_named version entries = found_or None (λ d. meaning_of (stimulus_forms version) (text_in d)) (entry_at key.Kind entries)
 
 -- a table of the keys of a stimulus and those of its kind
-stimulus_with : (place : Place) (entries : List Entry) (form : StimulusForm) → are_apart entries ≡ true → form_named entries ≡ Some form
-    → AllByRecursion (FieldPasses place entries) (stimulus_fields 2) → has_keys_among (key.Name ∷ key.Kind ∷ keys_of form.fields) entries ≡ true
-    → AllByRecursion (FieldPasses place entries) form.fields → stimulus_entry_checks 2 place (members_with entries) ≡ []
+stimulus_with : (version : ℕ) (place : Place) (entries : List Entry) (form : StimulusForm) → are_apart entries ≡ true → form_named version entries ≡ Some form
+    → AllByRecursion (FieldPasses place entries) (stimulus_fields version) → has_keys_among (key.Name ∷ key.Kind ∷ keys_of form.fields) entries ≡ true
+    → AllByRecursion (FieldPasses place entries) form.fields → stimulus_entry_checks version place (members_with entries) ≡ []
 unfolding stimulus_entry_checks
-stimulus_with place entries form apart is both among own =
-    let named : word_if (stimulus_forms 2) key.Kind (members_with entries) ≡ Some form =
-    ap (λ v. found_or None (λ d. meaning_of (stimulus_forms 2) (text_in d)) v) (found key.Kind entries apart) ∙ is in
-    let checks = fields_pass place entries apart (stimulus_fields 2) both in
-    let kind : form_checks place (members_with entries) (word_if (stimulus_forms 2) key.Kind (members_with entries)) ≡ [] =
+stimulus_with version place entries form apart is both among own =
+    let named : word_if (stimulus_forms version) key.Kind (members_with entries) ≡ Some form =
+    ap (λ v. found_or None (λ d. meaning_of (stimulus_forms version) (text_in d)) v) (found key.Kind entries apart) ∙ is in
+    let checks = fields_pass place entries apart (stimulus_fields version) both in
+    let kind : form_checks place (members_with entries) (word_if (stimulus_forms version) key.Kind (members_with entries)) ≡ [] =
     rw named (checks_pass place entries apart (key.Name ∷ key.Kind ∷ keys_of form.fields) form.fields among own) in
-    none_in_order (map (field_checks place (members_with entries)) (stimulus_fields 2) ++ form_checks place (members_with entries) (word_if (stimulus_forms 2) key.Kind (members_with entries)) ∷ [])
+    none_in_order (map (field_checks place (members_with entries)) (stimulus_fields version) ++ form_checks place (members_with entries) (word_if (stimulus_forms version) key.Kind (members_with entries)) ∷ [])
     (checks.0, (checks.1.0, (kind, tt)))
 
-stimulus_kind_passes : (name : List ℕ) (kind : StimulusKind) → IsKindInRange kind → IsName name → (place : Place)
-    → stimulus_entry_checks 2 place (members_with (stimulus_entries (record { name = name; kind = kind }))) ≡ []
-stimulus_kind_passes name (Periodic period offset jitter) in_range named place =
-    stimulus_with place (stimulus_entries (record { name = name; kind = Periodic period offset jitter })) periodic_form refl refl
+stimulus_kind_passes : (version : ℕ) → leb 2 version ≡ true → (name : List ℕ) (kind : StimulusKind) → IsKindInRange kind → IsName name → (place : Place)
+    → stimulus_entry_checks version place (members_with (stimulus_entries (record { name = name; kind = kind }))) ≡ []
+stimulus_kind_passes version bursts name (Periodic period offset jitter) in_range named place =
+    stimulus_with version place (stimulus_entries (record { name = name; kind = Periodic period offset jitter })) periodic_form refl refl
     (name_passes (at_key key.Name place) name named, (refl, tt)) refl (
       number_passes 1 MOST_TICKS (at_key key.Period place) period in_range.0.0 in_range.0.1,
       (
@@ -85,8 +86,8 @@ stimulus_kind_passes name (Periodic period offset jitter) in_range named place =
         ),
       ),
     )
-stimulus_kind_passes name (Sporadic least greatest) in_range named place =
-    stimulus_with place (stimulus_entries (record { name = name; kind = Sporadic least greatest })) sporadic_form refl refl
+stimulus_kind_passes version bursts name (Sporadic least greatest) in_range named place =
+    stimulus_with version place (stimulus_entries (record { name = name; kind = Sporadic least greatest })) sporadic_form refl refl
     (name_passes (at_key key.Name place) name named, (refl, tt)) refl (
       number_passes 1 MOST_TICKS (at_key key.Least place) least in_range.0.0 in_range.0.1,
       (
@@ -94,9 +95,9 @@ stimulus_kind_passes name (Sporadic least greatest) in_range named place =
         tt,
       ),
     )
-stimulus_kind_passes name (Burst period offset count distance) in_range named place =
-    stimulus_with place (stimulus_entries (record { name = name; kind = Burst period offset count distance })) burst_form refl refl
-    (name_passes (at_key key.Name place) name named, (refl, tt)) refl (
+stimulus_kind_passes version bursts name (Burst period offset count distance) in_range named place =
+    stimulus_with version place (stimulus_entries (record { name = name; kind = Burst period offset count distance })) burst_form refl (rw bursts refl)
+    (name_passes (at_key key.Name place) name named, (rw bursts refl, tt)) refl (
       number_passes 1 MOST_TICKS (at_key key.Period place) period in_range.0.0 in_range.0.1,
       (
         unless_zero_passes MOST_TICKS (at_key key.Offset place) offset in_range.1,
@@ -110,27 +111,29 @@ stimulus_kind_passes name (Burst period offset count distance) in_range named pl
       ),
     )
 
-pub stimulus_passes : (s : StimulusDef) → IsKindInRange s.kind → IsName s.name → (place : Place) → stimulus_entry_checks 2 place (members_with (stimulus_entries s)) ≡ []
-stimulus_passes s in_range named place = stimulus_kind_passes s.name s.kind in_range named place
+-- a stimulus of a version that has bursts
+pub stimulus_passes : (version : ℕ) → leb 2 version ≡ true → (s : StimulusDef) → IsKindInRange s.kind → IsName s.name → (place : Place)
+    → stimulus_entry_checks version place (members_with (stimulus_entries s)) ≡ []
+stimulus_passes version bursts s in_range named place = stimulus_kind_passes version bursts s.name s.kind in_range named place
 
-stimulus_kind_means : (name : List ℕ) (kind : StimulusKind)
-    → stimulus_meaning 2 (members_with (stimulus_entries (record { name = name; kind = kind }))) ≡ record { name = name; kind = kind }
+stimulus_kind_means : (version : ℕ) → leb 2 version ≡ true → (name : List ℕ) (kind : StimulusKind)
+    → stimulus_meaning version (members_with (stimulus_entries (record { name = name; kind = kind }))) ≡ record { name = name; kind = kind }
 unfolding stimulus_meaning
-stimulus_kind_means name (Periodic period offset jitter) =
+stimulus_kind_means version bursts name (Periodic period offset jitter) =
     let es = stimulus_entries (record { name = name; kind = Periodic period offset jitter }) in
     let at : (k : Key) → value_at k (members_with es) ≡ entry_at k es = λ k. found k es refl in
     rw (at key.Name, at key.Kind, at key.Period, at key.Offset, at key.Jitter, unless_zero_means offset, unless_zero_means jitter) refl
-stimulus_kind_means name (Sporadic least greatest) =
+stimulus_kind_means version bursts name (Sporadic least greatest) =
     let es = stimulus_entries (record { name = name; kind = Sporadic least greatest }) in
     let at : (k : Key) → value_at k (members_with es) ≡ entry_at k es = λ k. found k es refl in
     rw (at key.Name, at key.Kind, at key.Least, at key.Greatest) refl
-stimulus_kind_means name (Burst period offset count distance) =
+stimulus_kind_means version bursts name (Burst period offset count distance) =
     let es = stimulus_entries (record { name = name; kind = Burst period offset count distance }) in
     let at : (k : Key) → value_at k (members_with es) ≡ entry_at k es = λ k. found k es refl in
-    rw (at key.Name, at key.Kind, at key.Period, at key.Offset, at key.Count, at key.Distance, unless_zero_means offset) refl
+    rw (at key.Name, at key.Kind, bursts, at key.Period, at key.Offset, at key.Count, at key.Distance, unless_zero_means offset) refl
 
-pub stimulus_means : (s : StimulusDef) → stimulus_meaning 2 (members_with (stimulus_entries s)) ≡ s
-stimulus_means s = stimulus_kind_means s.name s.kind
+pub stimulus_means : (version : ℕ) → leb 2 version ≡ true → (s : StimulusDef) → stimulus_meaning version (members_with (stimulus_entries s)) ≡ s
+stimulus_means version bursts s = stimulus_kind_means version bursts s.name s.kind
 
 -- ---- arrays of names
 
@@ -138,7 +141,7 @@ names_pass : (limit : ℕ) (place : Place) (words : List (List ℕ)) → length 
 names_pass limit place words short named = unless_empty_passes string limit at_spot a_name place words short (λ k d lt there. name_passes there (get_or words k d) (named k d lt))
 
 names_mean : (words : List (List ℕ)) → found_or [] (λ d. map text_in (list_of d)) (entries.names_data words) ≡ words
-names_mean words = unless_empty_means string text_in (λ word. refl) words
+names_mean words = unless_empty_means string text_in words (λ k d lt. refl)
 
 -- ---- runnables
 
@@ -214,7 +217,7 @@ unfolding task_meaning
 task_means t =
     let at : (k : Key) → value_at k (members_with (task_entries t)) ≡ entry_at k (task_entries t) = λ k. found k (task_entries t) refl in
     let all : found_or [] (λ d. map (λ entry. runnable_meaning (table_of entry)) (list_of d)) (entries.tables runnable_entries t.runnables) ≡ t.runnables =
-    unless_empty_means (λ r. table (members_with (runnable_entries r))) (λ d. runnable_meaning (table_of d)) runnable_means t.runnables in
+    unless_empty_means (λ r. table (members_with (runnable_entries r))) (λ d. runnable_meaning (table_of d)) t.runnables (λ k d lt. runnable_means (get_or t.runnables k d)) in
     rw (at key.Name, at key.Core, at key.Stimulus, at key.Priority, at key.Access, at key.Deadline, at key.Runnable, access_means t.access, number_if_means t.deadline, all) refl
 
 -- ---- chains and requirements
@@ -237,23 +240,30 @@ chain_means c =
     let at : (k : Key) → value_at k (members_with (chain_entries c)) ≡ entry_at k (chain_entries c) = λ k. found k (chain_entries c) refl in
     rw (at key.Name, at key.Runnables, at key.Labels, names_mean c.runnables, names_mean c.labels) refl
 
-length_passes : (place : Place) (kind : LengthKind) → a_word length_words place (string (length_word kind)) ≡ []
-length_passes place Reaction = refl
-length_passes place Age = refl
-length_passes place Reduced = refl
+-- a version that has the kind: any but that of delays, which is said from version 3 on
+abbrev pub Says : (version : ℕ) → RequirementKind → Type 0
+Says version kind = is_delay kind ≡ true → leb 3 version ≡ true
 
-length_means : (kind : LengthKind) → unwrap_or (meaning_of length_words (length_word kind)) Reaction ≡ kind
-length_means Reaction = refl
-length_means Age = refl
-length_means Reduced = refl
+word_passes : (version : ℕ) (place : Place) (kind : RequirementKind) → Says version kind → a_word (requirement_words version) place (string (requirement_word kind)) ≡ []
+word_passes version place (Length Reaction) said = refl
+word_passes version place (Length Age) said = refl
+word_passes version place (Length Reduced) said = refl
+word_passes version place Delay said = rw (said refl) refl
 
-pub requirement_passes : (r : RequirementDef) → r.most ≤ MOST_REQUIRED → IsRequirementNamed r → (place : Place) → fields_checks requirement_fields place (members_with (requirement_entries r)) ≡ []
-requirement_passes r most named place = table_passes place (requirement_entries r) refl requirement_fields refl (
+word_means : (version : ℕ) (kind : RequirementKind) → Says version kind → unwrap_or (meaning_of (requirement_words version) (requirement_word kind)) (Length Reaction) ≡ kind
+word_means version (Length Reaction) said = refl
+word_means version (Length Age) said = refl
+word_means version (Length Reduced) said = refl
+word_means version Delay said = rw (said refl) refl
+
+pub requirement_passes : (version : ℕ) (r : RequirementDef) → Says version r.kind → r.most ≤ MOST_REQUIRED → IsRequirementNamed r → (place : Place)
+    → fields_checks (requirement_fields version) place (members_with (requirement_entries r)) ≡ []
+requirement_passes version r said most named place = table_passes place (requirement_entries r) refl (requirement_fields version) refl (
   name_passes (at_key key.Name place) r.name named.name,
   (
     name_passes (at_key key.Chain place) r.chain named.chain,
     (
-      length_passes (at_key key.Kind place) r.kind,
+      word_passes version (at_key key.Kind place) r.kind said,
       (
         number_passes 0 MOST_REQUIRED (at_key key.Most place) r.most (omega arith) most,
         tt,
@@ -262,8 +272,8 @@ requirement_passes r most named place = table_passes place (requirement_entries 
   ),
 )
 
-pub requirement_means : (r : RequirementDef) → requirement_meaning (members_with (requirement_entries r)) ≡ r
+pub requirement_means : (version : ℕ) (r : RequirementDef) → Says version r.kind → requirement_meaning version (members_with (requirement_entries r)) ≡ r
 unfolding requirement_meaning
-requirement_means r =
+requirement_means version r said =
     let at : (k : Key) → value_at k (members_with (requirement_entries r)) ≡ entry_at k (requirement_entries r) = λ k. found k (requirement_entries r) refl in
-    rw (at key.Name, at key.Chain, at key.Kind, at key.Most, length_means r.kind) refl
+    rw (at key.Name, at key.Chain, at key.Kind, at key.Most, word_means version r.kind said) refl

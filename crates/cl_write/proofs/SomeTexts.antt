@@ -1,4 +1,4 @@
--- Each model in range whose names are names has a text of version 2 that is read as it.
+-- Each model in range whose names are names has a text that is read as it.
 use Rattle.std.proofs.Common.{◌≡◌, ℕ, false, List, Some, ◌∙◌}
 use Rattle.std.proofs.lemmas.Str.{IsUtf8-from_ascii}
 use Rattle.toml.proofs.ReadBack.{parse_document-printed}

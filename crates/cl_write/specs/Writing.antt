@@ -1,10 +1,10 @@
--- The document that is written of a model, of version 2. Keys whose value is the default are left out: an offset and a
--- jitter of 0, `whole` where it is false, a deadline that isn't given, empty lists and empty sections.
-use Rattle.std.specs.Prelude.{ℕ, List, [], ◌∷◌, Some, codes}
+-- The document that is written of a model, of the least version from 2 on that can say it. Keys whose value is the default
+-- are left out: an offset and a jitter of 0, `whole` where it is false, a deadline that isn't given, empty lists and empty
+-- sections.
+use Rattle.std.specs.Prelude.{ℕ, Bool, if◌then◌else◌, List, [], ◌∷◌, Some, codes}
+use Rattle.std.specs.List.{list_any}
 use Rattle.toml.specs.Data.{string, Members}
 use Rattle.cl_model.specs.declared.chain.ChainDef.{ChainDef}
-use Rattle.cl_model.specs.declared.chain.LengthKind.{LengthKind}
-use Rattle.cl_model.specs.declared.chain.LengthKind.TheVariants.{Reaction, Age, Reduced}
 use Rattle.cl_model.specs.declared.chain.RequirementDef.{RequirementDef}
 use Rattle.cl_model.specs.declared.model.CoreDef.{CoreDef}
 use Rattle.cl_model.specs.declared.model.LabelDef.{LabelDef}
@@ -13,20 +13,20 @@ use Rattle.cl_model.specs.declared.place.Key.TheVariants as key
 use Rattle.cl_model.specs.declared.stimulus.StimulusDef.{StimulusDef}
 use Rattle.cl_model.specs.declared.stimulus.StimulusKind.{StimulusKind}
 use Rattle.cl_model.specs.declared.stimulus.StimulusKind.TheVariants.{Periodic, Sporadic, Burst}
-use Rattle.cl_model.specs.declared.task.AccessKind.{AccessKind}
-use Rattle.cl_model.specs.declared.task.AccessKind.TheVariants.{Explicit, Implicit, Timed}
 use Rattle.cl_model.specs.declared.task.RunnableDef.{RunnableDef}
 use Rattle.cl_model.specs.declared.task.TaskDef.{TaskDef}
-use Rattle.cl_model.specs.Kinds.{access_word}
+use Rattle.cl_model.specs.Kinds.{access_word, requirement_word, is_delay}
 use Rattle.cl_write.specs.Entries.{Entry, number, number_data_if, unless_zero, when_true, names_data, tables, members_with}
 
--- ---- words
+-- ---- the version
 
--- the word of a kind of length
-abbrev pub length_word : LengthKind → List ℕ
-length_word Reaction = codes "reaction"
-length_word Age = codes "age"
-length_word Reduced = codes "reduced"
+-- whether a requirement of the model is on a delay
+abbrev pub has_delay : SystemModel → Bool
+has_delay model = list_any (λ requirement. is_delay requirement.kind) model.requirements
+
+-- the least version from 2 on that can say the model: 3 where a requirement is on a delay
+abbrev pub version_for : SystemModel → ℕ
+version_for model = if has_delay model then 3 else 2
 
 -- ---- tables
 
@@ -92,7 +92,7 @@ abbrev pub requirement_entries : RequirementDef → List Entry
 requirement_entries requirement =
     (key.Name, Some (string requirement.name))
     ∷ (key.Chain, Some (string requirement.chain))
-    ∷ (key.Kind, Some (string (length_word requirement.kind)))
+    ∷ (key.Kind, Some (string (requirement_word requirement.kind)))
     ∷ (key.Most, Some (number requirement.most))
     ∷ []
 
@@ -101,7 +101,7 @@ requirement_entries requirement =
 abbrev pub model_entries : SystemModel → List Entry
 model_entries model =
     (key.Format, Some (string (codes "chainlat")))
-    ∷ (key.Version, Some (number 2))
+    ∷ (key.Version, Some (number (version_for model)))
     ∷ (key.Core, tables core_table_entries model.cores)
     ∷ (key.Stimulus, tables stimulus_entries model.stimuli)
     ∷ (key.Label, tables label_entries model.labels)

@@ -1,26 +1,14 @@
-//! The kinds of a model as words, and the lines of each kind of stimulus. Times are in ticks.
+//! The lines of each kind of stimulus. Times are in ticks.
 ghost use Rattle.std.specs.Prelude.{◌≡◌, ◌++◌, OnOk};
 ghost use Rattle.std.specs.List.{concat};
 ghost use Rattle.cl_model.specs.declared.stimulus.StimulusKind.TheVariants.{Periodic, Sporadic, Burst};
 ghost use Rattle.cl_model.specs.Name.{IsName};
-ghost use Rattle.cl_write.specs.Writing.{length_word};
 ghost use Rattle.cl_write.specs.Inner.Printed.{lines_of_kind};
 
 use crate::lines::{put_name, put_number, put_unless_zero, put_word};
-use cl_model::{Key, LengthKind, Name, StimulusKind};
+use cl_model::{Key, Name, StimulusKind};
 use cl_text::Text;
 use cl_time::NoMemory;
-
-/// Returns the word of a kind of length.
-pub(crate) fn length_word(kind: LengthKind) -> &'static str
-    ensures { result.now ≡ length_word kind }
-{
-    match kind {
-        LengthKind::Reaction => "reaction",
-        LengthKind::Age => "age",
-        LengthKind::Reduced => "reduced",
-    }
-}
 
 fn put_periodic(
     text: &mut Text,

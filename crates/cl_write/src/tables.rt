@@ -6,7 +6,7 @@ ghost use Rattle.cl_model.specs.Name.{IsName};
 ghost use Rattle.cl_write.specs.Inner.Printed.{core_text, label_text, stimulus_text, runnable_text, lines_of_runnable, task_text, lines_of_task, chain_text, requirement_text, lines_of_requirement};
 
 use crate::entries::{Written, put_all};
-use crate::kinds::{length_word, put_kind};
+use crate::kinds::put_kind;
 use crate::lines::{put_name, put_names, put_number, put_number_if, put_when_true, put_word};
 use cl_model::{
     ChainDef, CoreDef, Key, LabelDef, RequirementDef, RunnableDef, StimulusDef, TaskDef,
@@ -133,7 +133,7 @@ fn put_requirement(text: &mut Text, requirement: &RequirementDef) -> Result<(), 
     ensures named { OnOk result (IsRequirementNamed requirement.now) }
 {
     put_name(text, Key::Chain, &requirement.chain)?;
-    put_word(text, Key::Kind, length_word(requirement.kind).as_bytes())?;
+    put_word(text, Key::Kind, requirement.kind.word().as_bytes())?;
     put_number(text, Key::Most, requirement.most)?;
     put_name(text, Key::Name, &requirement.name)
 }

@@ -25,7 +25,7 @@ sums_of first groups = record {
   backward = hops backward_hop first groups;
 }
 
--- the three bounds of a chain from its first group and its sums
+-- the four bounds of a chain from its first group and its sums
 abbrev pub reaction_in : GroupTiming → Sums → ℤ
 reaction_in first sums = ((pos first.distance -ℤ pos first.read) +ℤ sums.forward) +ℤ pos sums.last.write
 
@@ -35,14 +35,19 @@ reduced_in first sums = (pos sums.last.write -ℤ pos first.read) +ℤ sums.back
 abbrev pub age_in : GroupTiming → Sums → ℤ
 age_in first sums = pos sums.last.distance +ℤ reduced_in first sums
 
--- each of the three is a bound
+abbrev pub delay_in : Sums → ℤ
+delay_in sums = sums.forward +ℤ pos sums.last.write
+
+-- each of the four is a bound
 pub record HaveBounds (first : GroupTiming) (sums : Sums) : Type 0 where
   pub reaction : IsBound (reaction_in first sums)
   pub age : IsBound (age_in first sums)
   pub reduced : IsBound (reduced_in first sums)
+  pub delay : IsBound (delay_in sums)
 
--- the bounds are the three
+-- the bounds are the four
 pub record AreBoundsIn (first : GroupTiming) (sums : Sums) (bounds : Lengths) : Type 0 where
   pub reaction : pos bounds.reaction ≡ reaction_in first sums
   pub age : pos bounds.age ≡ age_in first sums
   pub reduced : pos bounds.reduced ≡ reduced_in first sums
+  pub delay : pos bounds.delay ≡ delay_in sums

@@ -31,6 +31,9 @@ pub fn bounds_are_positive()
     ensures reduced { (system : System) → IsSound system → (groups : List Group)
         → IsSettledChain system groups
         → 0 < length groups → 1 ≤ (bounds_of system groups).reduced }
+    ensures delay { (system : System) → IsSound system → (groups : List Group)
+        → IsSettledChain system groups
+        → 0 < length groups → 1 ≤ (bounds_of system groups).delay }
 {}
 
 /// Each bound of a settled chain is at most twice the number of its groups times the greatest
@@ -46,6 +49,10 @@ pub fn bounds_are_limited()
     ensures reduced { (system : System) → IsSound system → (groups : List Group)
         → IsSettledChain system groups → (most : ℕ)
         → AreWithin system most groups → (bounds_of system groups).reduced
+        ≤ 2 * length groups * most }
+    ensures delay { (system : System) → IsSound system → (groups : List Group)
+        → IsSettledChain system groups → (most : ℕ)
+        → AreWithin system most groups → (bounds_of system groups).delay
         ≤ 2 * length groups * most }
 {}
 

@@ -1,6 +1,6 @@
--- The tables of a model file, versions 1 and 2: the keys of each in reading order, and what it means. Times are in
+-- The tables of a model file, versions 1 to 3: the keys of each in reading order, and what it means. Times are in
 -- ticks.
-use Rattle.std.specs.Prelude.{ℕ, ◌==◌, if◌then◌else◌, List, [], ◌∷◌, ◌++◌, map, Option, Some, None, codes}
+use Rattle.std.specs.Prelude.{ℕ, nat_le, if◌then◌else◌, List, [], ◌∷◌, ◌++◌, map, Option, Some, None, codes}
 use Rattle.toml.specs.Data.{Members}
 use Rattle.cl_model.specs.declared.limits.TheConstants.{MOST_TICKS, MOST_REQUIRED, MOST_PRIORITY, MOST_RUNNABLES, MOST_ACCESSES, MOST_STEPS, MOST_HOPS, LEAST_JOBS_OF_BURST, MOST_JOBS_OF_BURST}
 use Rattle.cl_model.specs.declared.place.Key.TheVariants as key
@@ -16,8 +16,9 @@ use Rattle.cl_model.specs.declared.task.AccessKind.{AccessKind}
 use Rattle.cl_model.specs.declared.task.AccessKind.TheVariants.{Explicit, Implicit, Timed}
 use Rattle.cl_model.specs.declared.task.RunnableDef.{RunnableDef}
 use Rattle.cl_model.specs.declared.task.TaskDef.{TaskDef}
-use Rattle.cl_model.specs.declared.chain.LengthKind.{LengthKind}
 use Rattle.cl_model.specs.declared.chain.LengthKind.TheVariants.{Reaction, Age, Reduced}
+use Rattle.cl_model.specs.declared.chain.RequirementKind.{RequirementKind}
+use Rattle.cl_model.specs.declared.chain.RequirementKind.TheVariants.{Length, Delay}
 use Rattle.cl_model.specs.declared.chain.ChainDef.{ChainDef}
 use Rattle.cl_model.specs.declared.chain.RequirementDef.{RequirementDef}
 use Rattle.cl_model.specs.Reading.Checks.{Check, a_name, a_word, a_number, a_boolean, names, an_array, a_table_of, Field, required, optional, field_checks, keys_of, has_only}
@@ -81,11 +82,11 @@ burst_form = record {
   meaning = λ ms. Burst (number_at key.Period ms) (number_or 0 key.Offset ms) (number_at key.Count ms) (number_at key.Distance ms);
 }
 
--- the kinds that version 2 adds, by their words
+-- the kinds of stimulus that version 2 adds, by their words
 abbrev pub later_forms : (version : ℕ) → List (List ℕ × StimulusForm)
-later_forms version = if version == 2 then (codes "burst", burst_form) ∷ [] else []
+later_forms version = if nat_le 2 version then (codes "burst", burst_form) ∷ [] else []
 
--- the kinds of a version, by their words
+-- the kinds of stimulus of a version, by their words
 abbrev pub stimulus_forms : (version : ℕ) → List (List ℕ × StimulusForm)
 stimulus_forms version = (codes "periodic", periodic_form) ∷ (codes "sporadic", sporadic_form) ∷ later_forms version
 
@@ -183,23 +184,28 @@ chain_meaning ms = record {
   labels = names_at key.Labels ms;
 }
 
--- the kinds of length, by their words
-abbrev pub length_words : List (List ℕ × LengthKind)
-length_words = (codes "reaction", Reaction) ∷ (codes "age", Age) ∷ (codes "reduced", Reduced) ∷ []
+-- the kinds of requirement that version 3 adds, by their words
+abbrev pub later_words : (version : ℕ) → List (List ℕ × RequirementKind)
+later_words version = if nat_le 3 version then (codes "delay", Delay) ∷ [] else []
+
+-- the kinds of requirement of a version, by their words
+abbrev pub requirement_words : (version : ℕ) → List (List ℕ × RequirementKind)
+requirement_words version =
+    (codes "reaction", Length Reaction) ∷ (codes "age", Length Age) ∷ (codes "reduced", Length Reduced) ∷ later_words version
 
 -- the keys of a requirement, and what they mean
-abbrev pub requirement_fields : List Field
-requirement_fields =
+abbrev pub requirement_fields : (version : ℕ) → List Field
+requirement_fields version =
     required key.Name a_name
     ∷ required key.Chain a_name
-    ∷ required key.Kind (a_word length_words)
+    ∷ required key.Kind (a_word (requirement_words version))
     ∷ required key.Most (a_number 0 MOST_REQUIRED)
     ∷ []
 
-unfoldable pub requirement_meaning : Members → RequirementDef
-requirement_meaning ms = record {
+unfoldable pub requirement_meaning : (version : ℕ) → Members → RequirementDef
+requirement_meaning version ms = record {
   name = text_at key.Name ms;
   chain = text_at key.Chain ms;
-  kind = word_at length_words Reaction key.Kind ms;
+  kind = word_at (requirement_words version) (Length Reaction) key.Kind ms;
   most = number_at key.Most ms;
 }

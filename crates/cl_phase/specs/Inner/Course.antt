@@ -1,14 +1,13 @@
 -- The groups of a chain as code puts them together, from what is known of each. Times are in ticks.
 use Rattle.std.specs.Prelude.{◌≡◌, ℤ, pos, List, [], ◌∷◌, map}
-use Rattle.cl_model.specs.declared.limits.TheConstants.{MOST_TICKS}
 use Rattle.cl_model.specs.declared.group.Group.{Group}
 use Rattle.cl_runs.specs.TaskTiming.{System}
-use Rattle.cl_stim.specs.Integers.{IsIntegerWithin}
 use Rattle.cl_bound.specs.Hops.{lag}
 use Rattle.cl_bound.specs.declared.group_timing.GroupTiming.{GroupTiming}
 use Rattle.cl_phase.specs.declared.course.Course.{Course}
-use Rattle.cl_phase.specs.TightBounds.{stops_of, span_of}
-use Rattle.cl_phase.specs.Inner.Ranges.{AreStopsInRange}
+use Rattle.cl_phase.specs.TightBounds.{stops_of, span_of, last_write}
+use Rattle.cl_phase.specs.Inner.Ranges.{AreStopsInRange, AreEndsInRange}
+use Rattle.cl_phase.specs.Inner.Longest.{span_between}
 use Rattle.cl_phase.specs.Inner.Keeping.{AreKeptIn}
 
 -- the lag from the first of some groups to the next one, 0 where there is none
@@ -17,10 +16,11 @@ first_lag [] = pos 0
 first_lag (timing ∷ []) = pos 0
 first_lag (timing ∷ next ∷ later) = lag timing next
 
--- the groups of a chain, which phases they keep, and from the read of the first to the write of the last
+-- the groups of a chain, which phases they keep, and the read of the first and the write of the last
 pub record IsCourseOf (system : System) (groups : List Group) (timings : List GroupTiming) (course : Course) : Type 0 where
   pub stops_are : (timing : Group → GroupTiming) → timings ≡ map timing groups → course.stops.items ≡ stops_of system timing groups
   pub in_range : AreStopsInRange course.stops.items
   pub kept : AreKeptIn course.stops.items course.keeping
-  pub span_is : (timing : Group → GroupTiming) → timings ≡ map timing groups → course.span ≡ span_of timing groups
-  pub span_near : IsIntegerWithin MOST_TICKS course.span
+  pub span_is : (timing : Group → GroupTiming) → timings ≡ map timing groups → span_between course.ends ≡ span_of timing groups
+  pub write_is : (timing : Group → GroupTiming) → timings ≡ map timing groups → course.ends.write ≡ last_write timing groups
+  pub ends_in_range : AreEndsInRange course.ends

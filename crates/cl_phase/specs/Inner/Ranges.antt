@@ -7,6 +7,7 @@ use Rattle.cl_phase.specs.declared.pace.TheConstants.{MOST_ARRIVALS}
 use Rattle.cl_phase.specs.declared.pace.Pace.{Pace}
 use Rattle.cl_phase.specs.declared.pace.Pace.TheVariants.{Kept, Free}
 use Rattle.cl_phase.specs.declared.stop.Stop.{Stop}
+use Rattle.cl_phase.specs.declared.walk.Ends.{Ends}
 use Rattle.cl_phase.specs.Walks.{pace_at, lag_at}
 
 -- the moments from which walks start lie at most so far from 0
@@ -32,3 +33,8 @@ pub record AreStopsInRange (stops : List Stop) : Type 0 where
   pub few : length stops ≤ MOST_STEPS
   pub paces : (place : ℕ) → place < length stops → IsPaceInRange (pace_at stops place)
   pub lags : (place : ℕ) → place < length stops → IsIntegerWithin MOST_TICKS (lag_at stops place)
+
+-- its ends
+pub record AreEndsInRange (ends : Ends) : Type 0 where
+  pub read : ends.read ≤ MOST_TICKS
+  pub write : ends.write ≤ MOST_TICKS

@@ -7,7 +7,7 @@ ghost use Rattle.cl_bound.specs.SettledChains.{IsGroupOfTask};
 ghost use Rattle.cl_bound.specs.declared.group_timing.GroupTiming.{GroupTiming};
 ghost use Rattle.cl_phase.specs.declared.pace.Pace.TheVariants.{Kept};
 ghost use Rattle.cl_phase.specs.Walks.{pace_at};
-ghost use Rattle.cl_phase.specs.TightBounds.{stops_of, span_of, bounds_from, tight_bounds};
+ghost use Rattle.cl_phase.specs.TightBounds.{stops_of, span_of, last_write, bounds_from, tight_bounds};
 
 /// The walks from any group that keeps its phase give the tight bounds of the chain, whatever is
 /// known of its groups, so nothing depends on the choice of the group with the fewest arrivals.
@@ -17,6 +17,7 @@ pub fn phases_give_the_same_bounds()
         → All (IsGroupOfTask system) groups
         → (place : ℕ) → place < length groups → (phase : Phase)
         → pace_at (stops_of system timing groups) place ≡ Kept phase
-        → bounds_from (stops_of system timing groups) (span_of timing groups) place
+        → bounds_from (stops_of system timing groups) (span_of timing groups)
+        (last_write timing groups) place
         ≡ tight_bounds system timing groups }
 {}

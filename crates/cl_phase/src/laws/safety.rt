@@ -8,7 +8,8 @@ ghost use Rattle.cl_bound.specs.declared.group_timing.GroupTiming.{GroupTiming};
 ghost use Rattle.cl_phase.specs.TightBounds.{tight_bounds};
 
 /// The tight bounds of groups over timings that always hold are at least the reaction, the age and
-/// the reduced age of each of their complete chains in each legal run, of any length.
+/// the reduced age of each of their complete chains, and each delay, in each legal run, of any
+/// length.
 pub fn tight_bounds_are_safe()
     ensures { (system : System) → IsSound system
         → (timing : Group → GroupTiming) (groups : List Group)

@@ -1,4 +1,4 @@
--- `apply MODEL EDITS`: the model after all edits, as a file of version 2.
+-- `apply MODEL EDITS`: the model after all edits, as a file of the least version from 2 on that can say it.
 use Rattle.std.specs.Prelude.{◌≡◌, ◌⊎◌, ℕ, ◌+◌, ◌<◌, List, length, take, slice_index_or, Ok, Err}
 use Rattle.cl_model.specs.declared.model.SystemModel.{SystemModel}
 use Rattle.cl_model.specs.declared.refusal.Refusal.{Refusal}
@@ -41,7 +41,7 @@ IsOfApply model text found = HasApplied model text found ⊎ HasBadEditLine text
 
 -- ---- what is promised
 
--- The text is read as the model after the edits; it is of version 2, and its model is valid.
+-- The text is read as the model after the edits, is of the least version from 2 on that can say it, and its model is valid.
 pub record HoldsEdited (model : SystemModel) (listed text : List ℕ) : Type 0 where
   pub edits : List Edit
   pub are : AreEditsOf listed edits

@@ -10,7 +10,7 @@ use cl_time::NoMemory;
 use cl_write::write_model;
 use std::alloc::Global;
 
-/// Finds the outcome of `generate`: a text of version 2 that is read as the generated model.
+/// Finds the outcome of `generate`: a text that is read as the generated model.
 #[tactic(auto, unfolding(crate::specs::Commands::meaning_of, crate::specs::Command::AsksForFew))]
 pub(super) fn generated(alloc: Global, seed: u64, tasks: u64) -> Result<Outcome, NoMemory>
     requires { AsksForFew (Command.Generate seed tasks) }

@@ -36,16 +36,16 @@ const VERSION: &str = "chainlat 1.0.0\n";
 const HELP: &str = "usage: chainlat COMMAND ARGUMENTS\n\
 \n\
 analyse MODEL               the report: responses, bounds, exact lengths and verdicts\n\
-tighten MODEL               the report by bounds that know the phases of tasks\n\
+tighten MODEL               responses, bounds and delays that know the phases of tasks\n\
 verify MODEL                status 0 where every task is shown to be in time and every requirement met, else 13\n\
 explain MODEL               what the responses and the bounds are the sums of\n\
 check MODEL                 what to mend in a model, or what to know of it\n\
 cut MODEL                   the best cuts of the chains\n\
 order MODEL                 on every core the first priorities, in dictionary order, with which no task is late\n\
 headroom MODEL              how far the greatest execution times may grow\n\
-migrate MODEL               the model as a file of version 2\n\
+migrate MODEL               the model as a file of version 2 or 3\n\
 edit MODEL EDITS            a report for each line `report` of a list of edits\n\
-apply MODEL EDITS           the model after a list of edits, as a file of version 2\n\
+apply MODEL EDITS           the model after a list of edits, as such a file\n\
 simulate MODEL TICKS SEED   the trace of a run, drawn by a seed\n\
 replay MODEL TRACE          what is measured in the run of a trace\n\
 draw MODEL TRACE FROM TO    the run of a trace from one tick to another, as a picture (SVG)\n\

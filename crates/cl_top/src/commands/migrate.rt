@@ -9,7 +9,8 @@ use cl_time::NoMemory;
 use cl_write::write_model;
 use std::alloc::Global;
 
-/// Finds the outcome of `migrate` for a valid model: a text of version 2 that is read as the model.
+/// Finds the outcome of `migrate` for a valid model: a text of the least version from 2 on that can
+/// say the model, which is read as the model.
 #[tactic(auto, unfolding(crate::specs::Commands::meaning_of))]
 pub(super) fn migrated(alloc: Global, model: &ValidModel) -> Result<Outcome, NoMemory>
     ensures { IfOk result (IsOutcomeOf Command.Migrate (Model model.now)) }

@@ -12,8 +12,8 @@ use Rattle.cl_model.specs.declared.stimulus.StimulusKind.{StimulusKind}
 use Rattle.cl_model.specs.declared.stimulus.StimulusKind.TheVariants.{Periodic, Sporadic, Burst}
 use Rattle.cl_model.specs.declared.task.RunnableDef.{RunnableDef}
 use Rattle.cl_model.specs.declared.task.TaskDef.{TaskDef}
-use Rattle.cl_model.specs.Kinds.{access_word}
-use Rattle.cl_write.specs.Writing.{length_word}
+use Rattle.cl_model.specs.Kinds.{access_word, requirement_word}
+use Rattle.cl_write.specs.Writing.{version_for}
 use Rattle.cl_write.specs.Inner.Lines.{word_line, number_line, number_line_if, line_unless_zero, line_when_true, words_line_if}
 
 -- ---- lines of a table
@@ -78,7 +78,7 @@ lines_of_chain chain =
 abbrev pub lines_of_requirement : RequirementDef → List (List ℕ)
 lines_of_requirement requirement =
     word_line key.Chain requirement.chain
-    ∷ word_line key.Kind (length_word requirement.kind)
+    ∷ word_line key.Kind (requirement_word requirement.kind)
     ∷ number_line key.Most requirement.most
     ∷ word_line key.Name requirement.name
     ∷ []
@@ -108,8 +108,8 @@ requirement_text requirement = codes "\n[[requirement]]\n" ++ concat (lines_of_r
 
 -- ---- the whole document
 
-abbrev pub lines_of_model : List (List ℕ)
-lines_of_model = word_line key.Format (codes "chainlat") ∷ number_line key.Version 2 ∷ []
+abbrev pub lines_of_model : SystemModel → List (List ℕ)
+lines_of_model model = word_line key.Format (codes "chainlat") ∷ number_line key.Version (version_for model) ∷ []
 
 abbrev pub model_sections : SystemModel → List (List ℕ)
 model_sections model =
@@ -122,4 +122,4 @@ model_sections model =
     ∷ []
 
 unfoldable pub model_text : SystemModel → List ℕ
-model_text model = concat lines_of_model ++ concat (model_sections model)
+model_text model = concat (lines_of_model model) ++ concat (model_sections model)

@@ -5,8 +5,8 @@ ghost use Rattle.cl_model.specs.AreNamed.{AreNamed};
 ghost use Rattle.cl_model.specs.Ranges.{IsInRange};
 ghost use Rattle.cl_write.specs.Texts.{IsTextOf};
 
-/// Each model in range whose names are of the name grammar has a text of version 2 that is read as
-/// that model.
+/// Each model in range whose names are of the name grammar has a text that is read as that model, of
+/// the least version from 2 on that can say it.
 #[tactic(auto, using(crate::proofs::SomeTexts::some_text))]
 pub fn models_have_texts()
     ensures { (model : SystemModel) → IsInRange model → AreNamed model

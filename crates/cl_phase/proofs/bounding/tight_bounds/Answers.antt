@@ -1,5 +1,4 @@
-use Rattle.std.proofs.Common.{◌≡◌, to_z, of_z, w64, ap, sym, ◌∙◌, arith}
-use Rattle.std.proofs.lemmas.Int.{ints}
+use Rattle.std.proofs.Common.{ap, sym, ◌∙◌}
 use Rattle.cl_runs.specs.SystemOf.{system_of}
 use Rattle.cl_phase.specs.TightBounds.{hyperperiod_in}
 use Rattle.cl_phase.proofs.BoundsByWalks.{bounds_by_walks}
@@ -10,11 +9,8 @@ returns-clause-bounds c = λ timing are.
     let course = c.course_of-course.ensures.course in
     let stops = c.as_slice-stops.result.now in
     let value = c.as_slice-stops.ensures.value in
-    let system = system_of c.args.model.now in
-    let span : to_z w64 (of_z w64 c.course_of-course.result.span) ≡ c.course_of-course.result.span = omega (arith, ints, course.span_near) in
     c.new.ensures
-    ∙ bounds_by_walks system timing c.args.groups.now stops (to_z w64 (of_z w64 c.course_of-course.result.span)) c.slowest-place.result
+    ∙ bounds_by_walks (system_of c.args.model.now) timing c.args.groups.now stops c.course_of-course.result.ends c.slowest-place.result
     c.course_of-course.result.keeping.hyperperiod c.longest-longest.result
-    (value ∙ course.stops_are timing are) (span ∙ course.span_is timing are) c.slowest-place.ensures.slowest
-    (course.kept.hyperperiod ∙ ap hyperperiod_in (sym value))
-    c.longest-longest.ensures
+    (value ∙ course.stops_are timing are) c.slowest-place.ensures.slowest (course.kept.hyperperiod ∙ ap hyperperiod_in (sym value))
+    c.longest-longest.ensures (course.span_is timing are) (course.write_is timing are)

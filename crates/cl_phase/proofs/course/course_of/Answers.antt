@@ -9,7 +9,7 @@ use Rattle.cl_runs.proofs.ModelSystem.{timing_is}
 use Rattle.cl_bound.specs.declared.group_timing.GroupTiming.{GroupTiming}
 use Rattle.cl_phase.specs.declared.stop.Stop.{Stop}
 use Rattle.cl_phase.specs.Inner.Course.{first_lag}
-use Rattle.cl_phase.proofs.CourseFacts.{IsCourseTo, course_begins, course_goes_on, course_stops, course_in_range, course_kept, span_by}
+use Rattle.cl_phase.proofs.CourseFacts.{IsCourseTo, course_begins, course_goes_on, course_stops, course_in_range, course_kept, span_by, write_by}
 use Rattle.cl_phase.proofs.course.course_of.Goals as goal
 
 pub beside-pace-requires-clause-range : goal.beside-pace-requires-clause-range
@@ -59,16 +59,16 @@ returns-clause-course c =
     let first = c.requires.near 0 none (omega (arith, c.requires.some, c.requires.as_many)) in
     let write = c.write.ensures in
     let read = c.read.ensures in
-    let ends : (to_z w64 (of_z w64 (to_z w64 c.write.result -ℤ to_z w64 c.read.result))) ≡ (pos c.write.result -ℤ pos c.read.result)
-    = omega (arith, ints, write, read, last.write, first.read) in
     record {
       stops_are = course_stops system groups c.requires.some timings c.loop-i.i c.loop-i.stops.items c.loop-i.keeping c.loop-i.invariant c.requires.few all;
       in_range = course_in_range system groups c.requires.some timings c.loop-i.i c.loop-i.stops.items c.loop-i.keeping c.loop-i.invariant c.requires.few all;
       kept = course_kept system groups c.requires.some timings c.loop-i.i c.loop-i.stops.items c.loop-i.keeping c.loop-i.invariant c.requires.few all;
       span_is = λ timing are.
-          ends ∙ ap (λ n. pos n -ℤ pos c.read.result) write
+          ap (λ n. pos n -ℤ pos c.read.result) write
           ∙ ap (λ n. pos (get_or timings (length timings - 1) none).write -ℤ pos n) read
           ∙ ap (λ (list : List GroupTiming). pos (get_or list (length list - 1) none).write -ℤ pos (get_or list 0 none).read) are
           ∙ span_by timing groups c.requires.some none;
-      span_near = (omega (arith, ints, ends, write, read, last.write, first.read), omega (arith, ints, ends, write, read, last.write, first.read));
+      write_is = λ timing are.
+          write ∙ ap (λ (list : List GroupTiming). (get_or list (length list - 1) none).write) are ∙ write_by timing groups c.requires.some none;
+      ends_in_range = record { read = omega (arith, read, first.read); write = omega (arith, write, last.write) };
     }

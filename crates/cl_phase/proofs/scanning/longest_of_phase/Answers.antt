@@ -1,7 +1,6 @@
 use Rattle.std.proofs.Common.{◌≡◌, pos, ◌+ℤ◌, ◌≤ℤ◌, ◌<ℤ◌, ap, sym, subst, ◌∙◌, arith, to_z, of_z, w64, ℤ}
 use Rattle.std.proofs.lemmas.Int.{ints}
 use Rattle.cl_stim.specs.Phase.{first_arrival}
-use Rattle.cl_phase.specs.declared.pace.Pace.TheVariants.{Kept}
 use Rattle.cl_phase.specs.TightBounds.{starts}
 use Rattle.cl_phase.specs.Inner.Longest.{longer_of, longest_walk}
 use Rattle.cl_phase.proofs.LongestWalks.{IsScannedTo, phase_in_range, scan_begins, scan_goes_on, scan_ends}
@@ -16,7 +15,7 @@ loop-arrival-init c =
     let phase = phase_in_range c.args.stops.now c.requires.stops c.args.place c.requires.place c.args.phase.now c.requires.phase in
     let first = c.first_arrival-arrival in
     let same : passed first.result ≡ first.result = omega (arith, ints, first.ensures.not_before, first.ensures.near) in
-    scan_begins c.args.stops.now (passed c.args.span) c.args.place c.args.phase.now phase.is_phase c.args.ticks (passed first.result)
+    scan_begins c.args.stops.now c.args.ends c.args.place c.args.phase.now phase.is_phase c.args.ticks (passed first.result)
     (same ∙ first.ensures.first) (omega (arith, ints, first.ensures.near, first.ensures.not_before))
 
 pub loop-arrival-preserved : goal.loop-arrival-preserved
@@ -31,8 +30,8 @@ loop-arrival-preserved c =
     let same : passed next.result ≡ next.result = omega (arith, ints, next.ensures.not_before, next.ensures.near, after, is, near, c.requires.few) in
     let longest = c.or-longest.ensures ∙ ap (longer_of c.loop-arrival.longest)
     c.lengths_at.ensures in
-    subst (λ l. IsScannedTo c.args.stops.now (passed c.args.span) c.args.place c.args.phase.now c.args.ticks l (passed next.result)) (sym longest)
-    (scan_goes_on c.args.stops.now (passed c.args.span) c.args.place c.args.phase.now phase.is_phase c.args.ticks c.loop-arrival.longest here (passed next.result)
+    subst (λ l. IsScannedTo c.args.stops.now c.args.ends c.args.place c.args.phase.now c.args.ticks l (passed next.result)) (sym longest)
+    (scan_goes_on c.args.stops.now c.args.ends c.args.place c.args.phase.now phase.is_phase c.args.ticks c.loop-arrival.longest here (passed next.result)
     c.loop-arrival.invariant below (same ∙ next.ensures.first ∙ ap (first_arrival c.args.phase.now) after)
     (omega (arith, ints, same, next.ensures.near, after)))
 
@@ -41,8 +40,6 @@ returns c =
     let phase = phase_in_range c.args.stops.now c.requires.stops c.args.place c.requires.place c.args.phase.now c.requires.phase in
     let here = to_z w64 c.loop-arrival.arrival-bits in
     let past : pos c.args.ticks ≤ℤ here = omega (arith, ints, c.loop-arrival-test.false, c.requires.few) in
-    let span : passed c.args.span ≡ c.args.span = omega (arith, ints, c.requires.span) in
-    scan_ends c.args.stops.now (passed c.args.span) c.args.place c.args.phase.now phase.is_phase c.args.ticks c.loop-arrival.longest here
+    scan_ends c.args.stops.now c.args.ends c.args.place c.args.phase.now phase.is_phase c.args.ticks c.loop-arrival.longest here
     c.loop-arrival.invariant past
-    ∙ ap (λ s. longest_walk c.args.stops.now s c.args.place (starts (Kept c.args.phase.now) c.args.ticks)) span
-    ∙ ap (λ pace. longest_walk c.args.stops.now c.args.span c.args.place (starts pace c.args.ticks)) (sym c.requires.phase)
+    ∙ ap (λ pace. longest_walk c.args.stops.now c.args.ends c.args.place (starts pace c.args.ticks)) (sym c.requires.phase)

@@ -5,7 +5,8 @@ use Rattle.std.proofs.lemmas.Result.{IfOk-equal, on_err_weaker}
 use Rattle.cl_model.specs.ByNumber.{chain_at}
 use Rattle.cl_text.specs.Beginnings.{PutsPart}
 use Rattle.cl_text.proofs.Beginnings.{on_error}
-use Rattle.cl_report.specs.Report.{kind_word, jobs_words, witness_line}
+use Rattle.cl_model.specs.Kinds.{length_word}
+use Rattle.cl_report.specs.Report.{jobs_words, witness_line}
 use Rattle.cl_report.proofs.Pieces.{holds_more, stops_behind, stops_within}
 use Rattle.cl_report.proofs.exact_lines.put_witness.Goals as goal
 
@@ -21,7 +22,7 @@ returns-in_err-put_chain_name-clause-err c =
     let w1 : List ℕ = codes "exact " in
     let h1 : c.put.new.self ≡ old ++ w1 = c.in_ok-put.ensures.ok in
     on_error c.from_residual-in_err-put_chain_name.result _
-    (stops_behind old c.put_chain_name.new.text c.put.new.self w1 (name ∷ (codes " ") ∷ (kind_word c.args.kind) ∷ (codes " ")
+    (stops_behind old c.put_chain_name.new.text c.put.new.self w1 (name ∷ (codes " ") ∷ (length_word c.args.kind) ∷ (codes " ")
     ∷ (decimal c.args.witness.now.length) ∷ (codes " from ") ∷ (decimal c.args.witness.now.from) ∷ (codes " to ")
     ∷ (decimal c.args.witness.now.to) ∷ (codes " jobs") ∷ (jobs_words c.args.model.now c.args.chain c.args.witness.now.jobs) ∷ (0x0A ∷ [])
     ∷ []) h1 c.in_err-put_chain_name.ensures.err)
@@ -37,7 +38,7 @@ returns-in_err-put-2-clause-err c =
     let h2 : c.put_chain_name.new.text ≡ old ++ w2 =
     holds_more old c.put.new.self c.put_chain_name.new.text w1 (name) h1 c.in_ok-put_chain_name.ensures.ok in
     on_error c.from_residual-in_err-put-2.result _
-    (stops_behind old c.put-2.new.self c.put_chain_name.new.text w2 ((codes " ") ∷ (kind_word c.args.kind) ∷ (codes " ")
+    (stops_behind old c.put-2.new.self c.put_chain_name.new.text w2 ((codes " ") ∷ (length_word c.args.kind) ∷ (codes " ")
     ∷ (decimal c.args.witness.now.length) ∷ (codes " from ") ∷ (decimal c.args.witness.now.from) ∷ (codes " to ")
     ∷ (decimal c.args.witness.now.to) ∷ (codes " jobs") ∷ (jobs_words c.args.model.now c.args.chain c.args.witness.now.jobs) ∷ (0x0A ∷ [])
     ∷ []) h2 c.in_err-put-2.ensures.err)
@@ -55,7 +56,7 @@ returns-in_err-put-3-clause-err c =
     let w3 : List ℕ = w2 ++ codes " " in
     let h3 : c.put-2.new.self ≡ old ++ w3 = holds_more old c.put_chain_name.new.text c.put-2.new.self w2 (codes " ") h2 c.in_ok-put-2.ensures.ok in
     on_error c.from_residual-in_err-put-3.result _
-    (stops_behind old c.put-3.new.self c.put-2.new.self w3 ((kind_word c.args.kind) ∷ (codes " ") ∷ (decimal c.args.witness.now.length)
+    (stops_behind old c.put-3.new.self c.put-2.new.self w3 ((length_word c.args.kind) ∷ (codes " ") ∷ (decimal c.args.witness.now.length)
     ∷ (codes " from ") ∷ (decimal c.args.witness.now.from) ∷ (codes " to ") ∷ (decimal c.args.witness.now.to) ∷ (codes " jobs")
     ∷ (jobs_words c.args.model.now c.args.chain c.args.witness.now.jobs) ∷ (0x0A ∷ []) ∷ []) h3 c.in_err-put-3.ensures.err)
 
@@ -71,9 +72,9 @@ returns-in_err-put-4-clause-err c =
     holds_more old c.put.new.self c.put_chain_name.new.text w1 (name) h1 c.in_ok-put_chain_name.ensures.ok in
     let w3 : List ℕ = w2 ++ codes " " in
     let h3 : c.put-2.new.self ≡ old ++ w3 = holds_more old c.put_chain_name.new.text c.put-2.new.self w2 (codes " ") h2 c.in_ok-put-2.ensures.ok in
-    let w4 : List ℕ = w3 ++ kind_word c.args.kind in
+    let w4 : List ℕ = w3 ++ length_word c.args.kind in
     let h4 : c.put-3.new.self ≡ old ++ w4 =
-    holds_more old c.put-2.new.self c.put-3.new.self w3 (kind_word c.args.kind) h3 (c.in_ok-put-3.ensures.ok ∙ ap (λ (word : List ℕ). c.put-2.new.self ++ word) c.kind_word.ensures) in
+    holds_more old c.put-2.new.self c.put-3.new.self w3 (length_word c.args.kind) h3 (c.in_ok-put-3.ensures.ok ∙ ap (λ (word : List ℕ). c.put-2.new.self ++ word) c.kind_word.ensures) in
     on_error c.from_residual-in_err-put-4.result _
     (stops_behind old c.put-4.new.self c.put-3.new.self w4 ((codes " ") ∷ (decimal c.args.witness.now.length) ∷ (codes " from ")
     ∷ (decimal c.args.witness.now.from) ∷ (codes " to ") ∷ (decimal c.args.witness.now.to) ∷ (codes " jobs")
@@ -91,9 +92,9 @@ returns-in_err-put_number-clause-err c =
     holds_more old c.put.new.self c.put_chain_name.new.text w1 (name) h1 c.in_ok-put_chain_name.ensures.ok in
     let w3 : List ℕ = w2 ++ codes " " in
     let h3 : c.put-2.new.self ≡ old ++ w3 = holds_more old c.put_chain_name.new.text c.put-2.new.self w2 (codes " ") h2 c.in_ok-put-2.ensures.ok in
-    let w4 : List ℕ = w3 ++ kind_word c.args.kind in
+    let w4 : List ℕ = w3 ++ length_word c.args.kind in
     let h4 : c.put-3.new.self ≡ old ++ w4 =
-    holds_more old c.put-2.new.self c.put-3.new.self w3 (kind_word c.args.kind) h3 (c.in_ok-put-3.ensures.ok ∙ ap (λ (word : List ℕ). c.put-2.new.self ++ word) c.kind_word.ensures) in
+    holds_more old c.put-2.new.self c.put-3.new.self w3 (length_word c.args.kind) h3 (c.in_ok-put-3.ensures.ok ∙ ap (λ (word : List ℕ). c.put-2.new.self ++ word) c.kind_word.ensures) in
     let w5 : List ℕ = w4 ++ codes " " in
     let h5 : c.put-4.new.self ≡ old ++ w5 = holds_more old c.put-3.new.self c.put-4.new.self w4 (codes " ") h4 c.in_ok-put-4.ensures.ok in
     on_error c.from_residual-in_err-put_number.result _
@@ -113,9 +114,9 @@ returns-in_err-put-5-clause-err c =
     holds_more old c.put.new.self c.put_chain_name.new.text w1 (name) h1 c.in_ok-put_chain_name.ensures.ok in
     let w3 : List ℕ = w2 ++ codes " " in
     let h3 : c.put-2.new.self ≡ old ++ w3 = holds_more old c.put_chain_name.new.text c.put-2.new.self w2 (codes " ") h2 c.in_ok-put-2.ensures.ok in
-    let w4 : List ℕ = w3 ++ kind_word c.args.kind in
+    let w4 : List ℕ = w3 ++ length_word c.args.kind in
     let h4 : c.put-3.new.self ≡ old ++ w4 =
-    holds_more old c.put-2.new.self c.put-3.new.self w3 (kind_word c.args.kind) h3 (c.in_ok-put-3.ensures.ok ∙ ap (λ (word : List ℕ). c.put-2.new.self ++ word) c.kind_word.ensures) in
+    holds_more old c.put-2.new.self c.put-3.new.self w3 (length_word c.args.kind) h3 (c.in_ok-put-3.ensures.ok ∙ ap (λ (word : List ℕ). c.put-2.new.self ++ word) c.kind_word.ensures) in
     let w5 : List ℕ = w4 ++ codes " " in
     let h5 : c.put-4.new.self ≡ old ++ w5 = holds_more old c.put-3.new.self c.put-4.new.self w4 (codes " ") h4 c.in_ok-put-4.ensures.ok in
     let w6 : List ℕ = w5 ++ decimal c.args.witness.now.length in
@@ -138,9 +139,9 @@ returns-in_err-put_number-2-clause-err c =
     holds_more old c.put.new.self c.put_chain_name.new.text w1 (name) h1 c.in_ok-put_chain_name.ensures.ok in
     let w3 : List ℕ = w2 ++ codes " " in
     let h3 : c.put-2.new.self ≡ old ++ w3 = holds_more old c.put_chain_name.new.text c.put-2.new.self w2 (codes " ") h2 c.in_ok-put-2.ensures.ok in
-    let w4 : List ℕ = w3 ++ kind_word c.args.kind in
+    let w4 : List ℕ = w3 ++ length_word c.args.kind in
     let h4 : c.put-3.new.self ≡ old ++ w4 =
-    holds_more old c.put-2.new.self c.put-3.new.self w3 (kind_word c.args.kind) h3 (c.in_ok-put-3.ensures.ok ∙ ap (λ (word : List ℕ). c.put-2.new.self ++ word) c.kind_word.ensures) in
+    holds_more old c.put-2.new.self c.put-3.new.self w3 (length_word c.args.kind) h3 (c.in_ok-put-3.ensures.ok ∙ ap (λ (word : List ℕ). c.put-2.new.self ++ word) c.kind_word.ensures) in
     let w5 : List ℕ = w4 ++ codes " " in
     let h5 : c.put-4.new.self ≡ old ++ w5 = holds_more old c.put-3.new.self c.put-4.new.self w4 (codes " ") h4 c.in_ok-put-4.ensures.ok in
     let w6 : List ℕ = w5 ++ decimal c.args.witness.now.length in
@@ -165,9 +166,9 @@ returns-in_err-put-6-clause-err c =
     holds_more old c.put.new.self c.put_chain_name.new.text w1 (name) h1 c.in_ok-put_chain_name.ensures.ok in
     let w3 : List ℕ = w2 ++ codes " " in
     let h3 : c.put-2.new.self ≡ old ++ w3 = holds_more old c.put_chain_name.new.text c.put-2.new.self w2 (codes " ") h2 c.in_ok-put-2.ensures.ok in
-    let w4 : List ℕ = w3 ++ kind_word c.args.kind in
+    let w4 : List ℕ = w3 ++ length_word c.args.kind in
     let h4 : c.put-3.new.self ≡ old ++ w4 =
-    holds_more old c.put-2.new.self c.put-3.new.self w3 (kind_word c.args.kind) h3 (c.in_ok-put-3.ensures.ok ∙ ap (λ (word : List ℕ). c.put-2.new.self ++ word) c.kind_word.ensures) in
+    holds_more old c.put-2.new.self c.put-3.new.self w3 (length_word c.args.kind) h3 (c.in_ok-put-3.ensures.ok ∙ ap (λ (word : List ℕ). c.put-2.new.self ++ word) c.kind_word.ensures) in
     let w5 : List ℕ = w4 ++ codes " " in
     let h5 : c.put-4.new.self ≡ old ++ w5 = holds_more old c.put-3.new.self c.put-4.new.self w4 (codes " ") h4 c.in_ok-put-4.ensures.ok in
     let w6 : List ℕ = w5 ++ decimal c.args.witness.now.length in
@@ -194,9 +195,9 @@ returns-in_err-put_number-3-clause-err c =
     holds_more old c.put.new.self c.put_chain_name.new.text w1 (name) h1 c.in_ok-put_chain_name.ensures.ok in
     let w3 : List ℕ = w2 ++ codes " " in
     let h3 : c.put-2.new.self ≡ old ++ w3 = holds_more old c.put_chain_name.new.text c.put-2.new.self w2 (codes " ") h2 c.in_ok-put-2.ensures.ok in
-    let w4 : List ℕ = w3 ++ kind_word c.args.kind in
+    let w4 : List ℕ = w3 ++ length_word c.args.kind in
     let h4 : c.put-3.new.self ≡ old ++ w4 =
-    holds_more old c.put-2.new.self c.put-3.new.self w3 (kind_word c.args.kind) h3 (c.in_ok-put-3.ensures.ok ∙ ap (λ (word : List ℕ). c.put-2.new.self ++ word) c.kind_word.ensures) in
+    holds_more old c.put-2.new.self c.put-3.new.self w3 (length_word c.args.kind) h3 (c.in_ok-put-3.ensures.ok ∙ ap (λ (word : List ℕ). c.put-2.new.self ++ word) c.kind_word.ensures) in
     let w5 : List ℕ = w4 ++ codes " " in
     let h5 : c.put-4.new.self ≡ old ++ w5 = holds_more old c.put-3.new.self c.put-4.new.self w4 (codes " ") h4 c.in_ok-put-4.ensures.ok in
     let w6 : List ℕ = w5 ++ decimal c.args.witness.now.length in
@@ -225,9 +226,9 @@ returns-in_err-put-7-clause-err c =
     holds_more old c.put.new.self c.put_chain_name.new.text w1 (name) h1 c.in_ok-put_chain_name.ensures.ok in
     let w3 : List ℕ = w2 ++ codes " " in
     let h3 : c.put-2.new.self ≡ old ++ w3 = holds_more old c.put_chain_name.new.text c.put-2.new.self w2 (codes " ") h2 c.in_ok-put-2.ensures.ok in
-    let w4 : List ℕ = w3 ++ kind_word c.args.kind in
+    let w4 : List ℕ = w3 ++ length_word c.args.kind in
     let h4 : c.put-3.new.self ≡ old ++ w4 =
-    holds_more old c.put-2.new.self c.put-3.new.self w3 (kind_word c.args.kind) h3 (c.in_ok-put-3.ensures.ok ∙ ap (λ (word : List ℕ). c.put-2.new.self ++ word) c.kind_word.ensures) in
+    holds_more old c.put-2.new.self c.put-3.new.self w3 (length_word c.args.kind) h3 (c.in_ok-put-3.ensures.ok ∙ ap (λ (word : List ℕ). c.put-2.new.self ++ word) c.kind_word.ensures) in
     let w5 : List ℕ = w4 ++ codes " " in
     let h5 : c.put-4.new.self ≡ old ++ w5 = holds_more old c.put-3.new.self c.put-4.new.self w4 (codes " ") h4 c.in_ok-put-4.ensures.ok in
     let w6 : List ℕ = w5 ++ decimal c.args.witness.now.length in
@@ -259,9 +260,9 @@ returns-in_err-put_jobs-clause-err c =
     holds_more old c.put.new.self c.put_chain_name.new.text w1 (name) h1 c.in_ok-put_chain_name.ensures.ok in
     let w3 : List ℕ = w2 ++ codes " " in
     let h3 : c.put-2.new.self ≡ old ++ w3 = holds_more old c.put_chain_name.new.text c.put-2.new.self w2 (codes " ") h2 c.in_ok-put-2.ensures.ok in
-    let w4 : List ℕ = w3 ++ kind_word c.args.kind in
+    let w4 : List ℕ = w3 ++ length_word c.args.kind in
     let h4 : c.put-3.new.self ≡ old ++ w4 =
-    holds_more old c.put-2.new.self c.put-3.new.self w3 (kind_word c.args.kind) h3 (c.in_ok-put-3.ensures.ok ∙ ap (λ (word : List ℕ). c.put-2.new.self ++ word) c.kind_word.ensures) in
+    holds_more old c.put-2.new.self c.put-3.new.self w3 (length_word c.args.kind) h3 (c.in_ok-put-3.ensures.ok ∙ ap (λ (word : List ℕ). c.put-2.new.self ++ word) c.kind_word.ensures) in
     let w5 : List ℕ = w4 ++ codes " " in
     let h5 : c.put-4.new.self ≡ old ++ w5 = holds_more old c.put-3.new.self c.put-4.new.self w4 (codes " ") h4 c.in_ok-put-4.ensures.ok in
     let w6 : List ℕ = w5 ++ decimal c.args.witness.now.length in
@@ -297,9 +298,9 @@ returns-clause-err c =
     holds_more old c.put.new.self c.put_chain_name.new.text w1 (name) h1 c.in_ok-put_chain_name.ensures.ok in
     let w3 : List ℕ = w2 ++ codes " " in
     let h3 : c.put-2.new.self ≡ old ++ w3 = holds_more old c.put_chain_name.new.text c.put-2.new.self w2 (codes " ") h2 c.in_ok-put-2.ensures.ok in
-    let w4 : List ℕ = w3 ++ kind_word c.args.kind in
+    let w4 : List ℕ = w3 ++ length_word c.args.kind in
     let h4 : c.put-3.new.self ≡ old ++ w4 =
-    holds_more old c.put-2.new.self c.put-3.new.self w3 (kind_word c.args.kind) h3 (c.in_ok-put-3.ensures.ok ∙ ap (λ (word : List ℕ). c.put-2.new.self ++ word) c.kind_word.ensures) in
+    holds_more old c.put-2.new.self c.put-3.new.self w3 (length_word c.args.kind) h3 (c.in_ok-put-3.ensures.ok ∙ ap (λ (word : List ℕ). c.put-2.new.self ++ word) c.kind_word.ensures) in
     let w5 : List ℕ = w4 ++ codes " " in
     let h5 : c.put-4.new.self ≡ old ++ w5 = holds_more old c.put-3.new.self c.put-4.new.self w4 (codes " ") h4 c.in_ok-put-4.ensures.ok in
     let w6 : List ℕ = w5 ++ decimal c.args.witness.now.length in

@@ -1,7 +1,7 @@
 use Rattle.std.proofs.Common.{rules}
 use Rattle.std.proofs.lemmas.List.{append_assoc}
 use Rattle.cl_report.specs.Tight.{tight_text}
-use Rattle.cl_report.proofs.TightLines.{tight_tasks_found, tight_chains_found, tight_verdicts_found}
+use Rattle.cl_report.proofs.TightLines.{tight_tasks_found, tight_chains_found}
 use Rattle.cl_report.proofs.tight.tight_report.Goals as goal
 
 pub put_tasks-requires : goal.put_tasks-requires
@@ -9,9 +9,6 @@ put_tasks-requires c = tight_tasks_found c.args.model.now c.args.findings.now c.
 
 pub put_bounded-requires : goal.put_bounded-requires
 put_bounded-requires c = tight_chains_found c.args.model.now c.args.findings.now c.requires
-
-pub put_requirements-requires : goal.put_requirements-requires
-put_requirements-requires c = tight_verdicts_found c.args.model.now c.args.findings.now c.requires
 
 pub returns : goal.returns
 unfolding tight_text

@@ -9,3 +9,6 @@ returns-clause-age c = λ system sound groups chain most within. (limited system
 
 pub returns-clause-reduced : goal.returns-clause-reduced
 returns-clause-reduced c = λ system sound groups chain most within. (limited system sound groups chain most within).reduced
+
+pub returns-clause-delay : goal.returns-clause-delay
+returns-clause-delay c = λ system sound groups chain most within. (limited system sound groups chain most within).delay

@@ -1,4 +1,4 @@
-use Rattle.cl_bound.proofs.SettledChains.{reaction_positive, age_positive, reduced_positive}
+use Rattle.cl_bound.proofs.SettledChains.{reaction_positive, age_positive, reduced_positive, delay_positive}
 use Rattle.cl_bound.proofs.laws.sums.bounds_are_positive.Goals as goal
 
 pub returns-clause-reaction : goal.returns-clause-reaction
@@ -9,3 +9,6 @@ returns-clause-age c = age_positive
 
 pub returns-clause-reduced : goal.returns-clause-reduced
 returns-clause-reduced c = reduced_positive
+
+pub returns-clause-delay : goal.returns-clause-delay
+returns-clause-delay c = delay_positive

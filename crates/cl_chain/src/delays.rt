@@ -1,0 +1,122 @@
+//! Measuring the delays of a run: how long an event takes that comes with a job. Moments are in
+//! ticks.
+//!
+//! A delay is a reaction to such an event. It takes the number of its job, reads as the job
+//! arrives, and stands for the job before it; the job itself takes the next number.
+ghost use Rattle.std.specs.Prelude.{◌≡◌, ◌-◌, ◌<◌, ◌≤◌, length, slice_index, slice_set, IfOk};
+ghost use Rattle.cl_model.specs.Groups.{groups_at};
+ghost use Rattle.cl_model.specs.Validity.{IsValid};
+ghost use Rattle.cl_runs.specs.SystemOf.{system_of};
+ghost use Rattle.cl_runs.specs.Legal.{IsLegal};
+ghost use Rattle.cl_runs.specs.Chains.{first_job};
+ghost use Rattle.cl_runs.specs.Delays.{IsDelayChain};
+ghost use Rattle.cl_runs.specs.Measured.{IsMeasuredBy};
+ghost use Rattle.cl_check.specs.Apart.{StandApart};
+ghost use Rattle.cl_chain.specs.JobChains.{option_of};
+ghost use Rattle.cl_chain.specs.Inner.ChainsOver.{AreForwardOrdered};
+ghost use Rattle.cl_chain.specs.Inner.Events.{AreEventTables, IsDelayOver};
+
+use crate::group_moments::{GroupMoments, arrivals_of, moments_of_groups_apart};
+use crate::job_chain::JobChain;
+use crate::measuring::{forward_measured, moments_before};
+use cl_check::tasks_apart;
+use cl_model::{List, ValidModel};
+use cl_run_data::RunData;
+use cl_time::NoMemory;
+use std::alloc::Global;
+
+/// Finds when the jobs of each group of a chain read and write, with an event before each job of
+/// the first.
+fn moments_after_events(
+    alloc: Global,
+    model: &ValidModel,
+    run: &RunData,
+    apart: &RunData,
+    chain: u32,
+) -> Result<List<GroupMoments>, NoMemory>
+    requires is_chain { chain < length model.now.chains }
+    requires legal { IsLegal (system_of model.now) run.now }
+    requires apart { StandApart (system_of model.now) run.now apart.now }
+    ensures tables { IfOk result
+        (AreEventTables (system_of model.now) run.now (groups_at model.now chain)) }
+    ensures some { 0 < length (groups_at model.now chain) }
+    ensures valid { IsValid model.now }
+{
+    let mut groups = moments_of_groups_apart(alloc, model, run, apart, chain)?;
+    let task = model.group(chain, 0).task;
+    let reads = arrivals_of(alloc, run.table().jobs_of(task))?;
+    let writes = moments_before(alloc, groups.as_slice()[0].writes.as_slice())?;
+    *groups.item_mut(0) = GroupMoments { reads, writes };
+    Ok(groups)
+}
+
+/// Gives the first job of a chain that begins with an event its number in the run.
+fn without_event(chain: JobChain) -> JobChain
+    requires some { 0 < length chain.jobs }
+    requires first { 1 ≤ slice_index chain.jobs 0 }
+    ensures from { result.from ≡ chain.from }
+    ensures to { result.to ≡ chain.to }
+    ensures jobs { result.jobs ≡ slice_set chain.jobs 0 (slice_index chain.jobs 0 - 1) }
+{
+    let mut chain = chain;
+    *chain.jobs.item_mut(0) -= 1;
+    chain
+}
+
+/// Finds the chain of the greatest delay over the moments of groups with an event before each job
+/// of the first.
+fn delay_over(alloc: Global, groups: &[GroupMoments]) -> Result<Option<JobChain>, NoMemory>
+    requires { AreForwardOrdered groups.now }
+    ensures { IfOk result
+        (λ found. IsMeasuredBy (IsDelayOver groups.now) first_job (option_of found)) }
+{
+    let (found, _) = forward_measured(alloc, groups)?;
+    match found {
+        Some(chain) => Ok(Some(without_event(chain))),
+        None => Ok(None),
+    }
+}
+
+/// Finds the greatest delay of a chain of the model in a run: a longest of the chains that take an
+/// event on, from the arrival of the first job to the write of the last, and, among equals, the one
+/// of the least first job. Returns `None` exactly where the run has no such chain.
+///
+/// The run is legal for the model. `NoMemory` comes where there is no memory for the moments of the
+/// chain's groups or for the chain; it leaves nothing. Takes time linear in the stretches of the
+/// run, its numbers of tasks and cores, and, for each group of the chain, the execution times of
+/// the jobs of its task, whatever the number of ticks.
+pub fn measure_delay(
+    alloc: Global,
+    model: &ValidModel,
+    run: &RunData,
+    chain: u32,
+) -> Result<Option<JobChain>, NoMemory>
+    requires is_chain { chain < length model.now.chains }
+    requires legal { IsLegal (system_of model.now) run.now }
+    ensures { IfOk result (λ found.
+        IsMeasuredBy (IsDelayChain (system_of model.now) run.now (groups_at model.now chain)) first_job (option_of found)) }
+{
+    let apart = tasks_apart(alloc, model, run)?;
+    measure_delay_apart(alloc, model, run, &apart, chain)
+}
+
+/// Finds the greatest delay of a chain of the model in a run as `measure_delay` does, with the same
+/// errors. `apart` has a list of entries for each task, as `tasks_apart` returns it. Takes time
+/// linear, for each group of the chain, in the stretches of the list of its task and the execution
+/// times of the jobs of that task.
+pub fn measure_delay_apart(
+    alloc: Global,
+    model: &ValidModel,
+    run: &RunData,
+    apart: &RunData,
+    chain: u32,
+) -> Result<Option<JobChain>, NoMemory>
+    requires is_chain { chain < length model.now.chains }
+    requires legal { IsLegal (system_of model.now) run.now }
+    requires apart { StandApart (system_of model.now) run.now apart.now }
+    ensures { IfOk result (λ found.
+        IsMeasuredBy (IsDelayChain (system_of model.now) run.now (groups_at model.now chain)) first_job (option_of found)) }
+{
+    let groups = moments_after_events(alloc, model, run, apart, chain)?;
+    delay_over(alloc, groups.as_slice())
+}
