@@ -94,7 +94,7 @@ fn of_valid<S: Shelf, L: Ledger>(
     steps: &mut Steps<L>,
 ) -> Result<Text, NoMemory> {
     match word(words, 1) {
-        "trace" | "check" | "forward" | "backward" | "measure" | "moments" => {
+        "trace" | "check" | "forward" | "backward" | "measure" | "delay" | "moments" => {
             of_trace(alloc, words, model, shelf)
         }
         "session" | "kept" | "alike" => sessions::session_lines(alloc, words, model, shelf, steps),

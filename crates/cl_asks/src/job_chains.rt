@@ -7,7 +7,7 @@ ghost use Rattle.cl_runs.specs.Legal.{IsLegal};
 use crate::words::{
     chain_at, no_such_number, number_at, put_number, put_numbers, said, task_at, word,
 };
-use cl_chain::{JobChain, Measured, backward, forward, measure};
+use cl_chain::{JobChain, Measured, backward, forward, measure, measure_delay};
 use cl_check::{Moment, moments};
 use cl_io::Words;
 use cl_model::ValidModel;
@@ -47,8 +47,8 @@ fn of_some_chain(
     }
 }
 
-/// Answers `measure MODEL TRACE CHAIN`: what is measured of the chain. Every other question is on
-/// the job chain of one job.
+/// Answers `measure MODEL TRACE CHAIN`: what is measured of the chain; or `delay MODEL TRACE CHAIN`:
+/// the chain of its greatest delay. Every other question is on the job chain of one job.
 fn of_chain(
     alloc: Global,
     words: &Words,
@@ -61,6 +61,7 @@ fn of_chain(
 {
     match word(words, 1) {
         "measure" => measured(alloc, &measure(alloc, model, run, chain)?),
+        "delay" => one_chain(alloc, &measure_delay(alloc, model, run, chain)?),
         _ => of_some_job(alloc, words, model, run, chain),
     }
 }
