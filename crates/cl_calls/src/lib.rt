@@ -29,4 +29,6 @@ mod texts;
 #[cfg(test)]
 mod validity;
 #[cfg(test)]
+mod wishes;
+#[cfg(test)]
 mod writing;

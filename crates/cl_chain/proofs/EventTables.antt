@@ -3,13 +3,15 @@ use Rattle.std.proofs.Common.{◌≡◌, ℕ, zero, suc, ◌+◌, ◌-◌, ◌<�
 use Rattle.std.specs.Prelude.{slice_index}
 use Rattle.std.proofs.lemmas.List.{get_or-set_same}
 use Rattle.cl_model.specs.declared.model.SystemModel.{SystemModel}
+use Rattle.cl_model.specs.declared.group.Group.{Group}
 use Rattle.cl_model.specs.ByNumber.{chain_at}
 use Rattle.cl_model.specs.Groups.{groups_of, groups_at, steps_of}
 use Rattle.cl_model.specs.Validity.{IsValid}
 use Rattle.cl_runs.specs.declared.job.Job.{Job}
 use Rattle.cl_runs.specs.Table.{no_job}
+use Rattle.cl_runs.specs.TaskTiming.{System}
 use Rattle.cl_runs.specs.SystemOf.{system_of}
-use Rattle.cl_runs.specs.Run.{Run, jobs_of}
+use Rattle.cl_runs.specs.Run.{Run, jobs_of, IsInForm}
 use Rattle.cl_runs.specs.Legal.{IsLegal}
 use Rattle.cl_runs.specs.Chains.{JobChain, first_job}
 use Rattle.cl_runs.specs.Delays.{IsDelayChain}
@@ -17,12 +19,14 @@ use Rattle.cl_runs.specs.Measured.{IsLongest, IsMeasuredBy}
 use Rattle.cl_runs.proofs.ChainsUnique.{chain_same}
 use Rattle.cl_runs.proofs.ModelSystem.{system_sound}
 use Rattle.cl_runs.proofs.OrderedMoments.{run_in_order}
+use Rattle.cl_run_data.specs.Parts.{ShowsGroups}
 use Rattle.cl_chain.specs.declared.group_moments.GroupMoments.{GroupMoments}
 use Rattle.cl_chain.specs.Inner.GroupTables.{moment_at, AreMomentsAt, NeverFall, writes_in}
 use Rattle.cl_chain.specs.Inner.ChainsOver.{IsForwardOver, AreForwardOrdered}
 use Rattle.cl_chain.specs.Inner.Events.{JobArrives, with_events, AreEventTables, after_event, IsDelayOver}
 use Rattle.cl_chain.proofs.ForwardFacts.{forward_written}
 use Rattle.cl_chain.proofs.GroupReads.{mapped_moments}
+use Rattle.cl_chain.proofs.AlikeTables.{alike_events}
 use Rattle.cl_chain.proofs.RunTables.{writes_never_fall, same_measured}
 use Rattle.cl_chain.proofs.DelayOrder.{run_delay_ordered}
 use Rattle.cl_chain.proofs.EventChains.{delay_to, delay_from, delay_in_run}
@@ -107,8 +111,8 @@ module _ (model : SystemModel) (valid : IsValid model) (run : Run) (legal : IsLe
   same_count : length tables ≡ length are.plain
   same_count = ap length are.is ∙ length-set are.plain 0 (with_events are.arrivals (writes_in are.plain 0))
 
-  pub events_ordered : AreForwardOrdered tables
-  events_ordered = record {
+  legal_ordered : AreForwardOrdered tables
+  legal_ordered = record {
     some = omega (arith, some, same_count, are.are_tables.one_a_group);
     writes = λ i h.
         subst (λ (ts : List GroupMoments). NeverFall (writes_in ts i)) (sym are.is)
@@ -121,7 +125,15 @@ module _ (model : SystemModel) (valid : IsValid model) (run : Run) (legal : IsLe
         omega (arith, delay_later (record { from = c.from; to = c.to; jobs = jobs }) delay);
   }
 
-  pub delay_answer : (found : Option JobChain) → IsMeasuredBy (IsDelayOver tables) first_job found
-      → IsMeasuredBy (IsDelayChain (system_of model) run (groups_at model chain)) first_job found
-  delay_answer = same_measured (IsDelayOver tables) (IsDelayChain (system_of model) run (groups_at model chain))
-      (delay_to (system_of model) run (groups_at model chain) tables are) (delay_from (system_of model) run (groups_at model chain) tables are) first_job
+-- the lists of a run that shows the groups are those of a legal run
+pub events_ordered : (model : SystemModel) → IsValid model → (run : Run) → IsInForm (system_of model) run → (chain : ℕ)
+    → ShowsGroups (system_of model) (groups_at model chain) run → 0 < length (groups_at model chain) → (tables : List GroupMoments)
+    → AreEventTables (system_of model) run (groups_at model chain) tables → AreForwardOrdered tables
+events_ordered model valid run in_form chain shows some tables are = legal_ordered model valid shows.whole shows.legal chain some tables
+    (alike_events (system_of model) (groups_at model chain) run shows.whole shows.alike in_form shows.legal.in_form some tables are)
+
+-- what is found over the lists is so of the run
+pub delay_answer : (system : System) (run : Run) (all : List Group) (tables : List GroupMoments) → AreEventTables system run all tables
+    → (found : Option JobChain) → IsMeasuredBy (IsDelayOver tables) first_job found → IsMeasuredBy (IsDelayChain system run all) first_job found
+delay_answer system run all tables are = same_measured (IsDelayOver tables) (IsDelayChain system run all)
+    (delay_to system run all tables are) (delay_from system run all tables are) first_job

@@ -7,6 +7,7 @@ pub mod ForwardFacts
 pub mod BackwardFacts
 pub mod RowFacts
 pub mod MeasuredFacts
+pub mod AlikeTables
 pub mod RunTables
 pub mod DecidedMoments
 pub mod ChainsByJob

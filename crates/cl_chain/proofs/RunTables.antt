@@ -1,4 +1,4 @@
--- The lists of moments of a legal run's groups: complete chains over them are those of the run.
+-- The lists of moments of a run's groups: complete chains over them are those of the run.
 use Rattle.std.proofs.Common.{◌≡◌, ℕ, suc, ◌+◌, ◌-◌, ◌<◌, ◌≤◌, Option, Some, None, List, length, sym, ap, ◌∙◌, subst, arith}
 use Rattle.std.specs.Prelude.{slice_index}
 use Rattle.cl_model.specs.declared.model.SystemModel.{SystemModel}
@@ -17,12 +17,14 @@ use Rattle.cl_runs.specs.Measured.{IsMeasuredBy, IsCountOf, Measured, IsMeasured
 use Rattle.cl_runs.proofs.ModelSystem.{system_sound}
 use Rattle.cl_runs.proofs.OrderedMoments.{run_in_order}
 use Rattle.cl_runs.proofs.ChainsOfRuns.{run_forward_ordered, run_age_ordered, run_reduced_ordered}
+use Rattle.cl_run_data.specs.Parts.{ShowsGroups}
 use Rattle.cl_chain.specs.declared.group_moments.GroupMoments.{GroupMoments}
 use Rattle.cl_chain.specs.JobChains.{IsChainOf}
 use Rattle.cl_chain.specs.Inner.GroupTables.{moment_at, NeverFall, reads_in, writes_in, AreTables}
 use Rattle.cl_chain.specs.Inner.Hops.{IsForwardHop, IsBackwardHop}
 use Rattle.cl_chain.specs.Inner.ChainsOver.{IsForwardOver, AreBackwardJobs, last_writes, IsAgeOver, IsReducedOver, AreOrdered, IsMeasuredOver}
 use Rattle.cl_chain.proofs.ForwardFacts.{forward_written}
+use Rattle.cl_chain.proofs.AlikeTables.{alike_tables}
 
 module _ (system : System) (run : Run) (all : List Group) (tables : List GroupMoments) (are : AreTables system run all tables) where
   -- ---- moments
@@ -241,6 +243,39 @@ module _ (IsChain Other : JobChain → Type 0) (to : (chain : JobChain) → IsCh
     counted = is.counted;
   }
 
+-- ---- what is found over the lists is so of the run
+
+module _ (system : System) (run : Run) (all : List Group) (tables : List GroupMoments) (are : AreTables system run all tables) where
+  pub forward_answer : (job : ℕ) (found : Option JobChain) → IsChainOf (IsForwardOver tables) first_job job found
+      → IsChainOf (IsForwardChain (run_moments system run) all) first_job job found
+  forward_answer = same_chain (IsForwardOver tables) (IsForwardChain (run_moments system run) all)
+      (forward_of_run system run all tables are) (run_of_forward system run all tables are) first_job
+
+  pub backward_answer : (job : ℕ) (found : Option JobChain) → IsChainOf (IsAgeOver tables) last_job job found
+      → IsChainOf (IsAgeChain (run_moments system run) all) last_job job found
+  backward_answer = same_chain (IsAgeOver tables) (IsAgeChain (run_moments system run) all)
+      (age_of_run system run all tables are) (run_of_age system run all tables are) last_job
+
+  pub measured_answer : (measured : Measured) → IsMeasuredOver tables measured → IsMeasured (run_moments system run) all measured
+  measured_answer measured is =
+      let forward_to = forward_of_run system run all tables are in
+      let forward_from = run_of_forward system run all tables are in
+      let age_to = age_of_run system run all tables are in
+      let age_from = run_of_age system run all tables are in
+      record {
+        is_reaction = same_measured (IsForwardOver tables) (IsForwardChain (run_moments system run) all)
+            forward_to forward_from first_job measured.reaction is.is_reaction;
+        is_age = same_measured (IsAgeOver tables) (IsAgeChain (run_moments system run) all)
+            age_to age_from last_job measured.age is.is_age;
+        is_reduced = same_measured (IsReducedOver tables) (IsReducedChain (run_moments system run) all)
+            (reduced_of_run system run all tables are) (run_of_reduced system run all tables are)
+            last_job measured.reduced is.is_reduced;
+        forward_count = same_count (IsForwardOver tables) (IsForwardChain (run_moments system run) all)
+            forward_to forward_from measured.forward is.forward_count;
+        backward_count = same_count (IsAgeOver tables) (IsAgeChain (run_moments system run) all)
+            age_to age_from measured.backward is.backward_count;
+      }
+
 -- ---- a chain of a valid model
 
 module _ (model : SystemModel) (valid : IsValid model) (run : Run) (legal : IsLegal (system_of model) run) (chain : ℕ) (some : 0 < length (groups_at model chain))
@@ -263,8 +298,8 @@ module _ (model : SystemModel) (valid : IsValid model) (run : Run) (legal : IsLe
   order : AreInOrder (run_moments (system_of model) run) (groups_at model chain)
   order = run_in_order (system_of model) sound run legal (groups_at model chain)
 
-  pub tables_ordered : AreOrdered tables
-  tables_ordered = record {
+  legal_ordered : AreOrdered tables
+  legal_ordered = record {
     some = omega (arith, some, are.one_a_group);
     reads = reads_never_fall (system_of model) run (groups_at model chain) tables are order;
     writes = writes_never_fall (system_of model) run (groups_at model chain) tables are order;
@@ -273,32 +308,8 @@ module _ (model : SystemModel) (valid : IsValid model) (run : Run) (legal : IsLe
     reduced = λ c is. omega (arith, reduced_later c (reduced_of_run (system_of model) run (groups_at model chain) tables are c is));
   }
 
-  pub forward_answer : (job : ℕ) (found : Option JobChain) → IsChainOf (IsForwardOver tables) first_job job found
-      → IsChainOf (IsForwardChain (run_moments (system_of model) run) (groups_at model chain)) first_job job found
-  forward_answer = same_chain (IsForwardOver tables) (IsForwardChain (run_moments (system_of model) run) (groups_at model chain))
-      (forward_of_run (system_of model) run (groups_at model chain) tables are) (run_of_forward (system_of model) run (groups_at model chain) tables are) first_job
-
-  pub backward_answer : (job : ℕ) (found : Option JobChain) → IsChainOf (IsAgeOver tables) last_job job found
-      → IsChainOf (IsAgeChain (run_moments (system_of model) run) (groups_at model chain)) last_job job found
-  backward_answer = same_chain (IsAgeOver tables) (IsAgeChain (run_moments (system_of model) run) (groups_at model chain))
-      (age_of_run (system_of model) run (groups_at model chain) tables are) (run_of_age (system_of model) run (groups_at model chain) tables are) last_job
-
-  pub measured_answer : (measured : Measured) → IsMeasuredOver tables measured → IsMeasured (run_moments (system_of model) run) (groups_at model chain) measured
-  measured_answer measured is =
-      let forward_to = forward_of_run (system_of model) run (groups_at model chain) tables are in
-      let forward_from = run_of_forward (system_of model) run (groups_at model chain) tables are in
-      let age_to = age_of_run (system_of model) run (groups_at model chain) tables are in
-      let age_from = run_of_age (system_of model) run (groups_at model chain) tables are in
-      record {
-        is_reaction = same_measured (IsForwardOver tables) (IsForwardChain (run_moments (system_of model) run) (groups_at model chain))
-            forward_to forward_from first_job measured.reaction is.is_reaction;
-        is_age = same_measured (IsAgeOver tables) (IsAgeChain (run_moments (system_of model) run) (groups_at model chain))
-            age_to age_from last_job measured.age is.is_age;
-        is_reduced = same_measured (IsReducedOver tables) (IsReducedChain (run_moments (system_of model) run) (groups_at model chain))
-            (reduced_of_run (system_of model) run (groups_at model chain) tables are) (run_of_reduced (system_of model) run (groups_at model chain) tables are)
-            last_job measured.reduced is.is_reduced;
-        forward_count = same_count (IsForwardOver tables) (IsForwardChain (run_moments (system_of model) run) (groups_at model chain))
-            forward_to forward_from measured.forward is.forward_count;
-        backward_count = same_count (IsAgeOver tables) (IsAgeChain (run_moments (system_of model) run) (groups_at model chain))
-            age_to age_from measured.backward is.backward_count;
-      }
+-- the lists of a run that shows the groups are those of a legal run
+pub tables_ordered : (model : SystemModel) → IsValid model → (run : Run) (chain : ℕ) → ShowsGroups (system_of model) (groups_at model chain) run
+    → 0 < length (groups_at model chain) → (tables : List GroupMoments) → AreTables (system_of model) run (groups_at model chain) tables → AreOrdered tables
+tables_ordered model valid run chain shows some tables are = legal_ordered model valid shows.whole shows.legal chain some tables
+    (alike_tables (system_of model) (groups_at model chain) run shows.whole shows.alike tables are)

@@ -7,10 +7,12 @@ ghost use Rattle.std.specs.Prelude.{◌≡◌, ◌-◌, ◌<◌, ◌≤◌, leng
 ghost use Rattle.cl_model.specs.Groups.{groups_at};
 ghost use Rattle.cl_model.specs.Validity.{IsValid};
 ghost use Rattle.cl_runs.specs.SystemOf.{system_of};
+ghost use Rattle.cl_runs.specs.Run.{IsInForm};
 ghost use Rattle.cl_runs.specs.Legal.{IsLegal};
 ghost use Rattle.cl_runs.specs.Chains.{first_job};
 ghost use Rattle.cl_runs.specs.Delays.{IsDelayChain};
 ghost use Rattle.cl_runs.specs.Measured.{IsMeasuredBy};
+ghost use Rattle.cl_run_data.specs.Parts.{ShowsGroups};
 ghost use Rattle.cl_check.specs.Apart.{StandApart};
 ghost use Rattle.cl_chain.specs.JobChains.{option_of};
 ghost use Rattle.cl_chain.specs.Inner.ChainsOver.{AreForwardOrdered};
@@ -35,7 +37,8 @@ fn moments_after_events(
     chain: u32,
 ) -> Result<List<GroupMoments>, NoMemory>
     requires is_chain { chain < length model.now.chains }
-    requires legal { IsLegal (system_of model.now) run.now }
+    requires in_form { IsInForm (system_of model.now) run.now }
+    requires shows { ShowsGroups (system_of model.now) (groups_at model.now chain) run.now }
     requires apart { StandApart (system_of model.now) run.now apart.now }
     ensures tables { IfOk result
         (AreEventTables (system_of model.now) run.now (groups_at model.now chain)) }
@@ -101,9 +104,11 @@ pub fn measure_delay(
 }
 
 /// Finds the greatest delay of a chain of the model in a run as `measure_delay` does, with the same
-/// errors. `apart` has a list of entries for each task, as `tasks_apart` returns it. Takes time
-/// linear, for each group of the chain, in the stretches of the list of its task and the execution
-/// times of the jobs of that task.
+/// errors. `apart` has a list of entries for each task, as `tasks_apart` returns it.
+///
+/// The run is in form. It need not be legal: it is enough that a legal run has the same entries and
+/// jobs on the cores of the chain's groups. Takes time linear, for each group of the chain, in the
+/// stretches of the list of its task and the execution times of the jobs of that task.
 pub fn measure_delay_apart(
     alloc: Global,
     model: &ValidModel,
@@ -112,7 +117,8 @@ pub fn measure_delay_apart(
     chain: u32,
 ) -> Result<Option<JobChain>, NoMemory>
     requires is_chain { chain < length model.now.chains }
-    requires legal { IsLegal (system_of model.now) run.now }
+    requires in_form { IsInForm (system_of model.now) run.now }
+    requires shows { ShowsGroups (system_of model.now) (groups_at model.now chain) run.now }
     requires apart { StandApart (system_of model.now) run.now apart.now }
     ensures { IfOk result (λ found.
         IsMeasuredBy (IsDelayChain (system_of model.now) run.now (groups_at model.now chain)) first_job (option_of found)) }

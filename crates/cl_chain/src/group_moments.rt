@@ -5,8 +5,10 @@ ghost use Rattle.cl_model.specs.ByNumber.{task_at};
 ghost use Rattle.cl_model.specs.Groups.{groups_at};
 ghost use Rattle.cl_model.specs.Validity.{IsValid};
 ghost use Rattle.cl_runs.specs.SystemOf.{system_of};
+ghost use Rattle.cl_runs.specs.Run.{IsInForm};
 ghost use Rattle.cl_runs.specs.Legal.{IsLegal};
 ghost use Rattle.cl_runs.specs.Moments.{Reads, Writes};
+ghost use Rattle.cl_run_data.specs.Parts.{ShowsTask, ShowsGroups};
 ghost use Rattle.cl_check.specs.Apart.{StandApart};
 ghost use Rattle.cl_check.specs.JobMoments.{IsMomentOf, EndsAt};
 ghost use Rattle.cl_chain.specs.Inner.GroupTables.{AreMomentsAt, AreTables, IsTimedWrite, AreTimedWrites};
@@ -39,7 +41,8 @@ fn ends_of(
 ) -> Result<List<Option<u64>>, NoMemory>
     requires is_task { task < length model.now.tasks }
     requires is_runnable { place < length (task_at model.now task).runnables }
-    requires legal { IsLegal (system_of model.now) run.now }
+    requires in_form { IsInForm (system_of model.now) run.now }
+    requires shows { ShowsTask (system_of model.now) task run.now }
     requires apart { StandApart (system_of model.now) run.now apart.now }
     ensures { IfOk result (λ ends.
         AreMomentsAt (λ job t. EndsAt end (system_of model.now) run.now task job place t) ends) }
@@ -110,7 +113,8 @@ fn reads_of(
 ) -> Result<List<Option<u64>>, NoMemory>
     requires is_task { task < length model.now.tasks }
     requires is_runnable { place < length (task_at model.now task).runnables }
-    requires legal { IsLegal (system_of model.now) run.now }
+    requires in_form { IsInForm (system_of model.now) run.now }
+    requires shows { ShowsTask (system_of model.now) task run.now }
     requires apart { StandApart (system_of model.now) run.now apart.now }
     ensures { IfOk result (λ reads.
         AreMomentsAt (λ job t. Reads (system_of model.now) run.now task job place t) reads) }
@@ -133,7 +137,8 @@ fn writes_of(
 ) -> Result<List<Option<u64>>, NoMemory>
     requires is_task { task < length model.now.tasks }
     requires is_runnable { place < length (task_at model.now task).runnables }
-    requires legal { IsLegal (system_of model.now) run.now }
+    requires in_form { IsInForm (system_of model.now) run.now }
+    requires shows { ShowsTask (system_of model.now) task run.now }
     requires apart { StandApart (system_of model.now) run.now apart.now }
     ensures { IfOk result (λ writes.
         AreMomentsAt (λ job t. Writes (system_of model.now) run.now task job place t) writes) }
@@ -167,7 +172,8 @@ pub(crate) fn moments_of_groups_apart(
     chain: u32,
 ) -> Result<List<GroupMoments>, NoMemory>
     requires is_chain { chain < length model.now.chains }
-    requires legal { IsLegal (system_of model.now) run.now }
+    requires in_form { IsInForm (system_of model.now) run.now }
+    requires shows { ShowsGroups (system_of model.now) (groups_at model.now chain) run.now }
     requires apart { StandApart (system_of model.now) run.now apart.now }
     ensures tables { IfOk result
         (AreTables (system_of model.now) run.now (groups_at model.now chain)) }

@@ -2,10 +2,12 @@
 ghost use Rattle.std.specs.Prelude.{◌≡◌, ◌-◌, ◌<◌, ◌∷◌, None, length, IfOk};
 ghost use Rattle.cl_model.specs.Groups.{groups_at};
 ghost use Rattle.cl_runs.specs.SystemOf.{system_of};
+ghost use Rattle.cl_runs.specs.Run.{IsInForm};
 ghost use Rattle.cl_runs.specs.Legal.{IsLegal};
 ghost use Rattle.cl_runs.specs.Chains.{first_job, last_job};
 ghost use Rattle.cl_runs.specs.RunChains.{run_moments};
 ghost use Rattle.cl_runs.specs.Measured.{IsMeasured, IsMeasuredBy, IsCountOf};
+ghost use Rattle.cl_run_data.specs.Parts.{ShowsGroups};
 ghost use Rattle.cl_check.specs.Apart.{StandApart};
 ghost use Rattle.cl_check.specs.JobMoments.{IsMomentOf};
 ghost use Rattle.cl_chain.specs.JobChains.{option_of, measured_of};
@@ -260,9 +262,11 @@ pub fn measure(
 }
 
 /// Measures a chain of the model in a run as `measure` does, with the same errors. `apart` has a
-/// list of entries for each task, as `tasks_apart` returns it. Takes time linear, for each group of
-/// the chain, in the stretches of the list of its task and the execution times of the jobs of that
-/// task.
+/// list of entries for each task, as `tasks_apart` returns it.
+///
+/// The run is in form. It need not be legal: it is enough that a legal run has the same entries and
+/// jobs on the cores of the chain's groups. Takes time linear, for each group of the chain, in the
+/// stretches of the list of its task and the execution times of the jobs of that task.
 pub fn measure_apart(
     alloc: Global,
     model: &ValidModel,
@@ -271,7 +275,8 @@ pub fn measure_apart(
     chain: u32,
 ) -> Result<Measured, NoMemory>
     requires is_chain { chain < length model.now.chains }
-    requires legal { IsLegal (system_of model.now) run.now }
+    requires in_form { IsInForm (system_of model.now) run.now }
+    requires shows { ShowsGroups (system_of model.now) (groups_at model.now chain) run.now }
     requires apart { StandApart (system_of model.now) run.now apart.now }
     ensures { IfOk result (λ measured.
         IsMeasured (run_moments (system_of model.now) run.now) (groups_at model.now chain) (measured_of measured)) }

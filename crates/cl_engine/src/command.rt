@@ -9,7 +9,7 @@ use std::alloc::Global;
 use std::sync::ledger::Ledger;
 
 /// A command of a program, which words spell.
-pub trait Command: Copy {
+pub trait Command: Drop {
     /// Which words spell a command, which files it needs, what its outcome is, and how many steps
     /// it counts.
     ghost language: { Language Self };
@@ -21,8 +21,8 @@ pub trait Command: Copy {
         ensures file_words { IfSome result (HasFileWords language words.now) };
 
     /// Returns the files that the command names behind its verb.
-    fn files(self) -> Files
-        ensures { result ≡ language.files self };
+    fn files(&self) -> Files
+        ensures { result ≡ language.files self.now };
 
     /// Finds the outcome of the command, by what its files hold. `NoMemory` is the only error.
     ///

@@ -38,3 +38,9 @@ pub const NOT_VERIFIED: u8 = 13;
 
 /// The window that is to be drawn doesn't lie within the run.
 pub const WINDOW_REFUSED: u8 = 14;
+
+/// The model has no task, chain or requirement of the name that is asked for.
+pub const NAME_UNKNOWN: u8 = 15;
+
+/// The run that is asked for would have too many ticks.
+pub const RUN_REFUSED: u8 = 16;

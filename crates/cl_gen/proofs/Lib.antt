@@ -8,6 +8,9 @@ pub mod TasksOfModels
 pub mod DrawnTasks
 pub mod BurstCount
 pub mod CountedJobs
+pub mod WishedTimes
+pub mod WishedJobs
+pub mod WishedTables
 pub mod MappedRanges
 pub mod GeneratedNames
 pub mod PassingChecks

@@ -1,11 +1,12 @@
 -- How many executions of runnables a simulation is counted to have, before anything is drawn.
-use Rattle.std.specs.Prelude.{ℕ, ◌+◌, ◌-◌, ◌*◌, ◌/◌, ◌%◌, length, sum_by}
+use Rattle.std.specs.Prelude.{ℕ, ◌+◌, ◌-◌, ◌*◌, ◌/◌, ◌%◌, Bool, cond, List, length, sum_by}
 use Rattle.std.specs.Int.{div_ceil}
 use Rattle.cl_model.specs.declared.model.SystemModel.{SystemModel}
 use Rattle.cl_model.specs.declared.stimulus.StimulusKind.{StimulusKind}
 use Rattle.cl_model.specs.declared.stimulus.StimulusKind.TheVariants.{Periodic, Sporadic, Burst}
 use Rattle.cl_runs.specs.TaskTiming.{Timing}
 use Rattle.cl_runs.specs.SystemOf.{system_of}
+use Rattle.cl_run_data.specs.Parts.{is_among}
 use Rattle.cl_gen.specs.Arrivals.{arrivals_below}
 
 -- how many jobs are counted in the first ticks: as many as the least gaps allow
@@ -22,3 +23,11 @@ task_executions ticks task = length task.ranges * arrival_count task.pattern tic
 -- of all tasks
 abbrev pub execution_count : SystemModel → (ticks : ℕ) → ℕ
 execution_count model ticks = sum_by (task_executions ticks) (system_of model).tasks
+
+-- of a task in a table of some cores: none if its core isn't among these
+abbrev pub executions_of : (ticks : ℕ) → (cores : List Bool) → Timing → ℕ
+executions_of ticks cores task = cond (is_among cores task.core) (task_executions ticks task) 0
+
+-- of the tasks of some cores
+abbrev pub executions_on : SystemModel → (ticks : ℕ) → (cores : List Bool) → ℕ
+executions_on model ticks cores = sum_by (executions_of ticks cores) (system_of model).tasks

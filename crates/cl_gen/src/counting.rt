@@ -6,9 +6,10 @@ ghost use Rattle.cl_model.specs.Timing.{IsKindOrdered};
 ghost use Rattle.cl_model.specs.Validity.{IsValid};
 ghost use Rattle.cl_runs.specs.TaskTiming.{timing_at};
 ghost use Rattle.cl_runs.specs.SystemOf.{system_of};
-ghost use Rattle.cl_gen.specs.Count.{arrival_count, task_executions, execution_count};
+ghost use Rattle.cl_gen.specs.Count.{arrival_count, task_executions, execution_count, executions_of, executions_on};
 
 use crate::limits::MOST_RUN_TICKS;
+use crate::marks::is_among;
 use cl_model::{StimulusKind, ValidModel};
 
 /// Counts the jobs of bursts that arrive in the first `ticks` ticks: those of the whole periods
@@ -69,6 +70,33 @@ pub(crate) fn execution_count(model: &ValidModel, ticks: u64) -> u64
     let mut count = 0;
     for task in 0..model.tasks() {
         count += task_executions(model, task, ticks);
+    }
+    count
+}
+
+/// Counts the executions of a task if its core is among `cores`, and none else.
+fn executions_of(model: &ValidModel, task: u32, ticks: u64, cores: &[bool]) -> u64
+    requires task { task < length model.now.tasks }
+    requires ticks { ticks ≤ MOST_RUN_TICKS }
+    ensures count { result ≡ executions_of ticks cores.now (timing_at (system_of model.now) task) }
+    ensures few { result ≤ 2 ^ 40 }
+{
+    if is_among(cores, model.core_of(task)) {
+        return task_executions(model, task, ticks);
+    }
+    0
+}
+
+/// Counts the executions of runnables that a job table of `ticks` ticks of the tasks of some cores
+/// may have. The cores are marked by their numbers. Each gap between arrivals is counted as the
+/// least, so no such table has more.
+pub fn count_executions(model: &ValidModel, ticks: u64, cores: &[bool]) -> u64
+    requires { ticks ≤ MOST_RUN_TICKS }
+    ensures { result ≡ executions_on model.now ticks cores.now }
+{
+    let mut count = 0;
+    for task in 0..model.tasks() {
+        count += executions_of(model, task, ticks, cores);
     }
     count
 }

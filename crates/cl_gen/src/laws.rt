@@ -1,16 +1,18 @@
-//! What holds of drawn job tables and of generated models.
-ghost use Rattle.std.specs.Prelude.{◌≡◌, ◌≤◌, ◌+◌, ◌-◌, ◌*◌, ◌/◌, ◌%◌, ℕ, suc, List, length};
+//! What holds of drawn job tables, of tables of all cores and of generated models.
+ghost use Rattle.std.specs.Prelude.{◌≡◌, ◌<◌, ◌≤◌, ◌+◌, ◌-◌, ◌*◌, ◌/◌, ◌%◌, ℕ, suc, Bool, true, List, length};
 ghost use Rattle.cl_model.specs.declared.model.SystemModel.{SystemModel};
 ghost use Rattle.cl_model.specs.declared.stimulus.StimulusKind.{StimulusKind};
 ghost use Rattle.cl_model.specs.declared.stimulus.StimulusKind.TheVariants.{Periodic, Sporadic, Burst};
 ghost use Rattle.cl_model.specs.AreNamed.{AreNamed};
 ghost use Rattle.cl_model.specs.Validity.{IsValid};
 ghost use Rattle.cl_runs.specs.declared.job.Job.{Job};
+ghost use Rattle.cl_runs.specs.declared.job.JobTable.{JobTable};
 ghost use Rattle.cl_runs.specs.Pattern.{IsPattern};
 ghost use Rattle.cl_runs.specs.Arrivals.{FollowPattern};
-ghost use Rattle.cl_runs.specs.TaskTiming.{TimeRange};
+ghost use Rattle.cl_runs.specs.TaskTiming.{TimeRange, System, IsSound};
 ghost use Rattle.cl_runs.specs.SystemOf.{system_of};
 ghost use Rattle.cl_runs.specs.Table.{IsLawful};
+ghost use Rattle.cl_run_data.specs.Parts.{is_among, IsLawfulOn};
 ghost use Rattle.cl_gen.specs.Count.{arrival_count};
 ghost use Rattle.cl_gen.specs.Words.{draw};
 ghost use Rattle.cl_gen.specs.Drawn.{drawn_job, drawn};
@@ -65,6 +67,12 @@ pub fn counted_jobs_suffice()
     ensures { (pattern : StimulusKind) → IsPattern pattern → (ticks : ℕ) (jobs : List Job)
         → FollowPattern pattern ticks jobs
         → length jobs ≤ arrival_count pattern ticks }
+{}
+
+/// A table that is lawful on some cores is lawful where these are all cores of the system.
+pub fn tables_of_all_cores_are_lawful()
+    ensures { (system : System) (cores : List Bool) → ((core : ℕ) → core < system.cores → is_among cores core ≡ true)
+        → IsSound system → (table : JobTable) → IsLawfulOn system cores table → IsLawful system table }
 {}
 
 /// A generated model of at most `MOST_TASKS` tasks is valid and its names are of the grammar of

@@ -46,6 +46,7 @@ pub(crate) fn course_of(model: &ValidModel, groups: &[Group], timings: &[GroupTi
     requires as_many { length timings.now ≡ length groups.now }
     requires near { All IsNear timings.now }
     ensures course { IsCourseOf (system_of model.now) groups.now timings.now result }
+    ensures as_many { length result.stops.items ≡ length groups.now }
     ensures valid { IsValid model.now }
 {
     // So that it is known that the model is valid.

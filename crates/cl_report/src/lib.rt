@@ -11,5 +11,5 @@ mod words;
 
 pub use lines::{put_bounds, put_chain, put_report, put_task, report};
 pub use survey::survey_text;
-pub use tight::{tight_report, verify_report};
+pub use tight::tight_report;
 pub use words::{kind_word, put_chain_name, put_jobs, put_name, put_task_name};

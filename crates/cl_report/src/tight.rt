@@ -2,13 +2,11 @@
 ghost use Rattle.std.specs.Prelude.{◌≡◌, ℕ, ◌<◌, ◌++◌, length, OnOk, IfOk};
 ghost use Rattle.cl_analyse.specs.declared.findings.ChainAnswer.TheVariants.{Late};
 ghost use Rattle.cl_tight.specs.TightFindings.{tight_chain_answers_of, tight_findings_of};
-ghost use Rattle.cl_report.specs.Tight.{tight_words, tight_chain_line, tight_chain_lines, tight_text, late_line, late_lines, verify_text};
+ghost use Rattle.cl_report.specs.Tight.{tight_words, tight_chain_line, tight_chain_lines, tight_text};
 
-use crate::lines::{put_bounds, put_chain_answer, put_task, put_tasks};
-use crate::requirement_lines::put_requirements;
+use crate::lines::{put_bounds, put_chain_answer, put_tasks};
 use crate::words::put_chain_name;
 use cl_analyse::ChainAnswer;
-use cl_bound::TaskAnswer;
 use cl_model::{List, ValidModel};
 use cl_text::Text;
 use cl_tight::TightFindings;
@@ -32,26 +30,6 @@ pub fn tight_report(
     text.put(b"chainlat tight 2\n")?;
     put_tasks(&mut text, model, &findings.tasks)?;
     put_bounded(&mut text, model, &findings.chains)?;
-    Ok(text)
-}
-
-/// Builds the text that shows whether a model is verified: a title, a line for each task that is
-/// late by phases, and a line with the verdict on each requirement, each in file order. Times are in
-/// ticks. The findings are those of the model.
-///
-/// `NoMemory` comes where there is no memory for the text; it leaves nothing.
-pub fn verify_report(
-    alloc: Global,
-    model: &ValidModel,
-    findings: &TightFindings,
-) -> Result<Text, NoMemory>
-    requires { findings.now ≡ tight_findings_of model.now }
-    ensures { IfOk result (λ text. text ≡ verify_text model.now) }
-{
-    let mut text = Text::new(alloc);
-    text.put(b"chainlat verify 1\n")?;
-    put_late(&mut text, model, &findings.tasks)?;
-    put_requirements(&mut text, model, &findings.verdicts)?;
     Ok(text)
 }
 
@@ -104,32 +82,5 @@ fn put_tight_answer(
             text.put_number(bounds.delay())
         }
         ChainAnswer::Late { .. } => put_chain_answer(text, model, answer),
-    }
-}
-
-/// Puts the lines of the late tasks in file order. There is one answer for each task.
-fn put_late(text: &mut Text, model: &ValidModel, tasks: &List<TaskAnswer>) -> Result<(), NoMemory>
-    requires { length tasks.now ≡ length model.now.tasks }
-    ensures { OnOk result (text.new ≡ text.old ++ late_lines model.now tasks.now) }
-{
-    for task in 0..model.tasks() {
-        put_if_late(text, model, &tasks.as_slice()[task as usize], task)?;
-    }
-    Ok(())
-}
-
-/// Puts the line of a task if it is late.
-fn put_if_late(
-    text: &mut Text,
-    model: &ValidModel,
-    answer: &TaskAnswer,
-    task: u32,
-) -> Result<(), NoMemory>
-    requires { task < length model.now.tasks }
-    ensures { OnOk result (text.new ≡ text.old ++ late_line model.now answer.now task) }
-{
-    match answer {
-        TaskAnswer::Settled(_) => Ok(()),
-        TaskAnswer::Late => put_task(text, model, answer, task),
     }
 }

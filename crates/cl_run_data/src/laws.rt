@@ -1,7 +1,10 @@
-//! The longest stretches of a list of entries are determined by the entries, and hold them.
+//! The longest stretches of a list of entries are determined by the entries, and hold them; and runs
+//! of some cores are parts of legal runs.
 ghost use Rattle.std.specs.Prelude.{◌≡◌, ℕ, suc, Option, None, ◌<◌, ◌≤◌, List, length, slice_index_or};
 ghost use Rattle.cl_run_data.specs.declared.stretches.Stretch.{Stretch};
 ghost use Rattle.cl_run_data.specs.Stretches.{AreStretchesOf, LastsFrom};
+
+pub mod parts;
 
 /// The longest stretches of a list of entries are unique.
 pub fn stretches_are_unique()

@@ -1,5 +1,5 @@
 -- What it means that a requirement of a model is kept or broken, and that a model is in time. Times are in ticks.
-use Rattle.std.specs.Prelude.{ℕ, ◌+◌, ◌<◌, ◌≤◌, List, [], length, slice_index_or, unwrap_or}
+use Rattle.std.specs.Prelude.{◌≡◌, ℕ, ◌+◌, ◌<◌, ◌≤◌, List, [], length, slice_index_or, unwrap_or}
 use Rattle.cl_model.specs.declared.chain.LengthKind.{LengthKind}
 use Rattle.cl_model.specs.declared.chain.LengthKind.TheVariants.{Reaction, Age, Reduced}
 use Rattle.cl_model.specs.declared.chain.RequirementKind.{RequirementKind}
@@ -64,6 +64,19 @@ pub record IsBroken (model : SystemModel) (requirement : RequirementDef) : Type 
   pub chain : JobChain
   pub complete : IsRequiredChain model requirement run chain
   pub longer : requirement.most < chain_length chain
+
+-- in some legal run a complete chain of a chain of the model, of a kind, is this long
+pub record HasLength (model : SystemModel) (chain : ℕ) (kind : RequirementKind) (ticks : ℕ) : Type 0 where
+  pub run : Run
+  pub legal : IsLegal (system_of model) run
+  pub jobs : JobChain
+  pub complete : IsChainRequired kind (system_of model) run (groups_at model chain) jobs
+  pub lasts : chain_length jobs ≡ ticks
+
+-- a requirement is broken by a length that its chain and kind have: it is longer than it says
+pub record IsBrokenBy (model : SystemModel) (requirement : RequirementDef) (ticks : ℕ) : Type 0 where
+  pub longer : requirement.most < ticks
+  pub occurs : HasLength model (required_chain model requirement) requirement.kind ticks
 
 -- ---- in time
 

@@ -154,6 +154,9 @@ module _ (system : System) (table : JobTable) (core : ℕ) (entries : List (Opti
   pub task_within : (progress_at old.tasks.items index).task < length system.tasks
   task_within = (at.tasks.each index is_within).is_task
 
+  pub task_on : (timing_at system (progress_at old.tasks.items index).task).core ≡ core
+  task_on = (at.tasks.each index is_within).on_core
+
   standing_of : (held : Option ℕ) → old.held ≡ held → IsChoice old.tasks.items held old.tick next.chosen next.until
       → IsAtRunnable (table_jobs table (progress_at old.tasks.items index).task) (ticks_of entries (progress_at old.tasks.items index).task)
       (progress_at old.tasks.items index)

@@ -16,6 +16,16 @@ use Rattle.cl_sched.specs.CoreProgress.{progress_at, IsOfCore, StandsAmong, AreO
 use Rattle.cl_sched.specs.Inner.Executing.{IsUnbegun}
 use Rattle.cl_sched.proofs.CoreLists.{passing, passing_there, passing_fine, passing_rise}
 
+-- each of the tasks of a core is on it
+pub number_on : (model : SystemModel) (core : ℕ) (numbers : List ℕ) → numbers ≡ tasks_of_core model core
+    → (k : ℕ) → k < length numbers → (timing_at (system_of model) (get_or numbers k 0)).core ≡ core
+number_on model core numbers are k h =
+    let is_on : ℕ → Bool = λ i. core_of model i == core in
+    let number = get_or (passing is_on (length model.tasks)) k 0 in
+    let fine = passing_fine is_on (length model.tasks) k (omega (arith, h, ap length are)) in
+    ap (λ (ns : List ℕ). (timing_at (system_of model) (get_or ns k 0)).core) are
+    ∙ ap (λ (t : Timing). t.core) (timing_is model number fine.0) ∙ eqb-true (core_of model number) core fine.1
+
 module _ (model : SystemModel) (table : JobTable) (core : ℕ) (tasks : List Progress) (numbers : List ℕ) (are : numbers ≡ tasks_of_core model core)
     (as_many : length tasks ≡ length numbers)
     (begun : (k : ℕ) → k < length numbers → IsUnbegun model table (get_or numbers k 0) (progress_at tasks k)) where

@@ -113,7 +113,7 @@ pub record AreFilledBelow (system : System) (n : ℕ) (start run : Run) : Type 0
   pub filled : (core : ℕ) → core < n → IsFilled system run core
   pub empty : (core : ℕ) → n ≤ core → core_entries run core ≡ []
 
-filled_along : (system : System) (core : ℕ) (old new : Run) → new.table ≡ old.table → core_entries new core ≡ core_entries old core
+pub filled_along : (system : System) (core : ℕ) (old new : Run) → new.table ≡ old.table → core_entries new core ≡ core_entries old core
     → IsFilled system old core → IsFilled system new core
 filled_along system core old new table entries filled = record {
   ticks = ap length entries ∙ filled.ticks ∙ ap (λ (t : JobTable). t.ticks) (sym table);

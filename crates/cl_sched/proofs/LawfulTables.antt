@@ -1,16 +1,36 @@
--- The jobs of a lawful table of a sound system: each takes time, and they are released in order.
-use Rattle.std.proofs.Common.{◌≡◌, ℕ, ◌<◌, ◌≤◌, inl, inr, length, ap, arith}
+-- The jobs of a table that is lawful at a core, of its tasks in a sound system: each takes time, and they are released in
+-- order.
+use Rattle.std.proofs.Common.{◌≡◌, ℕ, ◌<◌, ◌≤◌, inl, inr, Bool, true, List, length, ap, ◌∙◌, subst, arith}
 use Rattle.std.proofs.lemmas.Bool.{cases_lt}
 use Rattle.cl_runs.specs.TaskTiming.{System, timing_at, IsSound}
 use Rattle.cl_runs.specs.declared.job.JobTable.{JobTable}
 use Rattle.cl_runs.specs.Table.{no_job, job_at, table_jobs, HasTimes, IsLawful}
 use Rattle.cl_runs.proofs.ArrivalFacts as facts
 use Rattle.cl_runs.proofs.LawfulJobs.{times_length, times_positive}
+use Rattle.cl_run_data.specs.Parts.{is_among, IsLawfulOn}
 use Rattle.cl_sched.specs.Inner.TakingTime.{TakeTime}
+use Rattle.cl_sched.specs.CoreProgress.{IsLawfulAt}
 
-module _ (system : System) (sound : IsSound system) (table : JobTable) (lawful : IsLawful system table) (i : ℕ) (is : i < length system.tasks) where
+-- a lawful table is lawful at each core
+pub lawful_at : (system : System) (core : ℕ) (table : JobTable) → IsLawful system table → IsLawfulAt system core table
+lawful_at system core table lawful = record { tasks = lawful.tasks; jobs = λ task is on. lawful.jobs task is }
+
+-- and one that is lawful on some cores at each of these
+pub lawful_at_among : (system : System) (cores : List Bool) (core : ℕ) (table : JobTable) → IsLawfulOn system cores table
+    → is_among cores core ≡ true → IsLawfulAt system core table
+lawful_at_among system cores core table lawful among = record {
+  tasks = lawful.tasks;
+  jobs = λ task is on. lawful.jobs task is (ap (is_among cores) on ∙ among);
+}
+
+-- lawful at the core of a task, by another name of that core
+pub lawful_there : (system : System) (core other : ℕ) (table : JobTable) → core ≡ other → IsLawfulAt system core table → IsLawfulAt system other table
+lawful_there system core other table same lawful = subst (λ c. IsLawfulAt system c table) same lawful
+
+module _ (system : System) (sound : IsSound system) (core : ℕ) (table : JobTable) (lawful : IsLawfulAt system core table) (i : ℕ)
+    (is : i < length system.tasks) (on : (timing_at system i).core ≡ core) where
   times : (k : ℕ) → k < length (table_jobs table i) → HasTimes (timing_at system i) (job_at (table_jobs table i) k)
-  times k h = (lawful.jobs i is).times k no_job h
+  times k h = (lawful.jobs i is on).times k no_job h
 
   -- a job has one time per runnable
   pub places : (k : ℕ) → k < length (table_jobs table i) → length (job_at (table_jobs table i) k).times ≡ length (timing_at system i).ranges
@@ -28,7 +48,7 @@ module _ (system : System) (sound : IsSound system) (table : JobTable) (lawful :
       → (job_at (table_jobs table i) k).release ≤ (job_at (table_jobs table i) l).release
   in_order k l h below =
       let task = sound.tasks i is in
-      let follow = (lawful.jobs i is).arrivals in
+      let follow = (lawful.jobs i is on).arrivals in
       elim (cases_lt k l) [
         | inl earlier ↦ omega (
           arith,

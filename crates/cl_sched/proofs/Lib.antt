@@ -9,3 +9,5 @@ pub mod Advanced
 pub mod Executing
 pub mod Filled
 pub mod FullCores
+pub mod CoreTables
+pub mod FilledCores

@@ -1,5 +1,5 @@
--- The jobs of a task of a valid model, where the table is lawful.
-use Rattle.std.proofs.Common.{◌≡◌, ℕ, ◌<◌, inl, inr, List, length, ap, ◌∙◌, arith}
+-- The jobs of a task of a valid model, where the table is lawful at its core.
+use Rattle.std.proofs.Common.{◌≡◌, ℕ, ◌<◌, inl, inr, List, length, refl, ap, ◌∙◌, arith}
 use Rattle.cl_model.specs.declared.model.SystemModel.{SystemModel}
 use Rattle.cl_model.specs.declared.task.RunnableDef.{RunnableDef}
 use Rattle.cl_model.specs.ByNumber.{task_at}
@@ -7,15 +7,18 @@ use Rattle.cl_model.specs.Validity.{IsValid}
 use Rattle.cl_runs.specs.declared.job.Job.{Job}
 use Rattle.cl_runs.specs.declared.job.JobTable.{JobTable}
 use Rattle.cl_runs.specs.SystemOf.{system_of}
-use Rattle.cl_runs.specs.Table.{job_at, table_jobs, IsLawful}
+use Rattle.cl_runs.specs.TaskTiming.{timing_at}
+use Rattle.cl_runs.specs.Table.{job_at, table_jobs}
 use Rattle.cl_runs.proofs.ModelSystem.{count_is, range_count_is, system_sound}
 use Rattle.cl_sched.specs.declared.progress.Progress.{Progress}
 use Rattle.cl_sched.specs.Progress.{HasComeTo}
 use Rattle.cl_sched.specs.Inner.TakingTime.{TakeTime}
+use Rattle.cl_sched.specs.CoreProgress.{IsLawfulAt}
 use Rattle.cl_sched.specs.Inner.Executing.{IsInLists}
 use Rattle.cl_sched.proofs.LawfulTables.{places, take_time}
 
-module _ (model : SystemModel) (table : JobTable) (lawful : IsLawful (system_of model) table) (i : ℕ) (is : i < length model.tasks) where
+module _ (model : SystemModel) (table : JobTable) (i : ℕ) (lawful : IsLawfulAt (system_of model) (timing_at (system_of model) i).core table)
+    (is : i < length model.tasks) where
   pub in_system : i < length (system_of model).tasks
   in_system = omega (arith, is, count_is model)
 
@@ -25,12 +28,12 @@ module _ (model : SystemModel) (table : JobTable) (lawful : IsLawful (system_of 
 
   -- each takes time
   pub jobs_take_time : IsValid model → TakeTime (table_jobs table i)
-  jobs_take_time valid = take_time (system_of model) (system_sound model valid) table lawful i in_system
+  jobs_take_time valid = take_time (system_of model) (system_sound model valid) _ table lawful i in_system refl
 
   -- a job has a time for each runnable
   pub times_of_runnables : IsValid model → (k : ℕ) → k < length (table_jobs table i)
       → length (job_at (table_jobs table i) k).times ≡ length (task_at model i).runnables
-  times_of_runnables valid k h = places (system_of model) (system_sound model valid) table lawful i in_system k h ∙ range_count_is model i is
+  times_of_runnables valid k h = places (system_of model) (system_sound model valid) _ table lawful i in_system refl k h ∙ range_count_is model i is
 
   -- a task that has come to a runnable has come to one of the model's, and its job has a time for it
   pub in_lists : IsValid model → (runnables : List RunnableDef) (jobs : List Job) (done : ℕ) (progress : Progress)

@@ -4,14 +4,14 @@ use Rattle.std.specs.Option.{option_map}
 use Rattle.std.proofs.lemmas.Bool.{cases_lt, cases_eq, eq-eqb, ne_eqb}
 use Rattle.cl_runs.specs.TaskTiming.{System, timing_at, IsSound}
 use Rattle.cl_runs.specs.declared.job.JobTable.{JobTable}
-use Rattle.cl_runs.specs.Table.{table_jobs, IsLawful}
+use Rattle.cl_runs.specs.Table.{table_jobs}
 use Rattle.cl_runs.specs.Legal.{released, IsTaskHeld, IsFirstHeld, IsNoneHeld, IsNonePending, IsScheduled}
 use Rattle.cl_runs.proofs.Executed.{count_appended}
 use Rattle.cl_runs.proofs.HeldTasks.{held_or_not, held_moved}
 use Rattle.cl_sched.specs.declared.progress.Progress.{Progress}
 use Rattle.cl_sched.specs.declared.core_progress.CoreProgress.{CoreProgress}
 use Rattle.cl_sched.specs.declared.core_progress.Next.{Next}
-use Rattle.cl_sched.specs.CoreProgress.{ticks_of, progress_at, Holds, IsBestOf, AreSteadyOf, AreSteadyAbove, IsChoice, IsReached, IsNext}
+use Rattle.cl_sched.specs.CoreProgress.{IsLawfulAt, ticks_of, progress_at, Holds, IsBestOf, AreSteadyOf, AreSteadyAbove, IsChoice, IsReached, IsNext}
 use Rattle.cl_sched.proofs.LawfulTables.{places, in_order}
 use Rattle.cl_sched.proofs.Standing.{later, pending, holding_held, not_yet_pending, is_held, some_job_released, some_job_holds}
 
@@ -33,7 +33,7 @@ others_ticks entries n task who other = omega (
 pub idle_ticks : (entries : List (Option ℕ)) (n task : ℕ) → ticks_of (entries ++ replicate n None) task ≡ ticks_of entries task
 idle_ticks entries n task = omega (arith, count_appended task entries n None)
 
-module _ (system : System) (sound : IsSound system) (table : JobTable) (lawful : IsLawful system table) (core : ℕ) (entries : List (Option ℕ))
+module _ (system : System) (sound : IsSound system) (core : ℕ) (table : JobTable) (lawful : IsLawfulAt system core table) (entries : List (Option ℕ))
     (reached : CoreProgress) (at : IsReached system table core entries reached) where
   abbrev progress : ℕ → Progress
   progress index = progress_at reached.tasks.items index
@@ -51,7 +51,7 @@ module _ (system : System) (sound : IsSound system) (table : JobTable) (lawful :
       let of = at.tasks.each index within in
       at.held.alone index within
       (is_held (table_jobs table (task index)) (ticks_of entries (task index)) (progress index) (timing_at system (task index))
-      (places system sound table lawful (task index) of.is_task) of.has_come
+      (places system sound core table lawful (task index) of.is_task of.on_core) of.has_come
       ((held_moved (timing_at system (task index)) (table_jobs table (task index)) _ _ _ refl same).0 held))
 
   -- nor is it pending, but where it is released
@@ -60,7 +60,7 @@ module _ (system : System) (sound : IsSound system) (table : JobTable) (lawful :
   kept_pending index within t n same early more =
       let of = at.tasks.each index within in
       not_yet_pending (table_jobs table (task index)) (ticks_of entries (task index)) (progress index)
-      (in_order system sound table lawful (task index) of.is_task) t of.has_come early (omega (arith, more, same))
+      (in_order system sound core table lawful (task index) of.is_task of.on_core) t of.has_come early (omega (arith, more, same))
 
   -- ---- where no task goes on
 
@@ -136,7 +136,7 @@ module _ (system : System) (sound : IsSound system) (table : JobTable) (lawful :
         (held_moved (timing_at system (task index)) jobs jobs _ _ refl (sym own)).0
         (holding_held jobs (ticks_of entries (task index) + n) (record (progress index) { left = (progress index).left - n })
         (later jobs (ticks_of entries (task index)) (progress index) here n left) (timing_at system (task index))
-        (places system sound table lawful (task index) of.is_task)
+        (places system sound core table lawful (task index) of.is_task of.on_core)
         (record { in_table = holding.in_table; is_whole = holding.is_whole; begun = omega (arith, holding.begun) }))
 
     pub held_scheduled : reached.held ≡ Some index → n < (progress index).left → IsScheduled system table done t core (Some (task index))
@@ -163,7 +163,7 @@ module _ (system : System) (sound : IsSound system) (table : JobTable) (lawful :
             arith,
             own,
             pending jobs (ticks_of entries (task index) + n) (record (progress index) { left = (progress index).left - n })
-                (later jobs (ticks_of entries (task index)) (progress index) here n left) (in_order system sound table lawful (task index) of.is_task) t
+                (later jobs (ticks_of entries (task index)) (progress index) here n left) (in_order system sound core table lawful (task index) of.is_task of.on_core) t
                 (omega (arith, first, best.1)),
           )
 

@@ -3,7 +3,7 @@ use Rattle.std.specs.Prelude.{◌≡◌, ℕ, Option, Some, None, ◌+◌, ◌^�
 use Rattle.std.specs.Option.{option_map}
 use Rattle.cl_runs.specs.TaskTiming.{System, timing_at, IsSound}
 use Rattle.cl_runs.specs.declared.job.JobTable.{JobTable}
-use Rattle.cl_runs.specs.Table.{table_jobs, IsLawful}
+use Rattle.cl_runs.specs.Table.{table_jobs, AreLawfulJobs}
 use Rattle.cl_runs.specs.Run.{is_task}
 use Rattle.cl_runs.specs.Legal.{IsScheduled}
 use Rattle.cl_sched.specs.declared.progress.Progress.{Progress}
@@ -11,6 +11,12 @@ use Rattle.cl_sched.specs.declared.core_progress.CoreProgress.{CoreProgress}
 use Rattle.cl_sched.specs.declared.core_progress.Next.{Next}
 use Rattle.cl_sched.specs.declared.core_progress.Waiting.{Waiting}
 use Rattle.cl_sched.specs.Progress.{HasComeTo, IsHolding}
+
+-- a table is lawful at a core: it has lawful jobs of each task of that
+pub record IsLawfulAt (system : System) (core : ℕ) (table : JobTable) : Type 0 where
+  pub tasks : length table.jobs ≡ length system.tasks
+  pub jobs : (task : ℕ) → task < length system.tasks → (timing_at system task).core ≡ core
+      → AreLawfulJobs (timing_at system task) table.ticks (table_jobs table task)
 
 -- the ticks of a task among entries of its core
 abbrev pub ticks_of : List (Option ℕ) → (task : ℕ) → ℕ
@@ -117,10 +123,11 @@ pub record IsNext (reached : CoreProgress) (next : Next) : Type 0 where
   pub within_left : (index : ℕ) → next.chosen ≡ Some index
       → next.until ≤ reached.tick + (progress_at reached.tasks.items index).left
 
--- a core is underway with a table: it is reached after some entries
+-- a core is underway with a table that is lawful at it: it is reached after some entries
 pub record IsUnderwayIn (system : System) (table : JobTable) (reached : CoreProgress) : Type 0 where
   pub core : ℕ
   pub entries : List (Option ℕ)
+  pub lawful : IsLawfulAt system core table
   pub is : IsReached system table core entries reached
 
 -- with some table
@@ -128,5 +135,4 @@ pub record IsUnderway (reached : CoreProgress) : Type 0 where
   pub system : System
   pub table : JobTable
   pub sound : IsSound system
-  pub lawful : IsLawful system table
   pub is : IsUnderwayIn system table reached

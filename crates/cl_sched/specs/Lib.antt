@@ -1,4 +1,5 @@
 pub mod Progress
+pub mod CoreTables
 pub mod CoreProgress
 pub mod Continuing
 pub mod Inner

@@ -1,13 +1,12 @@
 //! How far the tasks of a core have come, and what the core does next. Times are in ticks.
 ghost use Rattle.std.specs.Prelude.{◌≡◌, ℕ, ◌+◌, ◌-◌, ◌^◌, ◌<◌, ◌≤◌, ◌↔◌, ◌++◌, [], List, Option, Some, IsTrue, IfOk, length, map, replicate};
 ghost use Rattle.std.specs.List.Sorted.{IsPermutation};
-ghost use Rattle.cl_runs.specs.TaskTiming.{System, Timing, IsSound};
+ghost use Rattle.cl_runs.specs.TaskTiming.{System, Timing, timing_at, IsSound};
 ghost use Rattle.cl_runs.specs.SystemOf.{range_of, system_of};
 ghost use Rattle.cl_runs.specs.declared.job.JobTable.{JobTable as Table};
-ghost use Rattle.cl_runs.specs.Table.{IsLawful};
 ghost use Rattle.cl_sched.specs.declared.progress.Progress.{Progress};
 ghost use Rattle.cl_sched.specs.Progress.{IsHolding};
-ghost use Rattle.cl_sched.specs.CoreProgress.{AreOfCore, IsReached, IsScheduledUntil, IsUnderwayIn, IsUnderway};
+ghost use Rattle.cl_sched.specs.CoreProgress.{IsLawfulAt, AreOfCore, IsReached, IsScheduledUntil, IsUnderwayIn, IsUnderway};
 ghost use Rattle.cl_sched.specs.CoreProgress.{progress_at, AreFalling, AreWaiting, IsBestOf, AreSteadyAbove, IsChoice, IsNext};
 ghost use Rattle.cl_sched.specs.Inner.Executing.{IsInLists, IsUnbegun, HasJobLeft, HasExecuted};
 
@@ -65,7 +64,7 @@ struct Choice {
 
 /// Returns how far a task has come at tick 0.
 fn unbegun(model: &ValidModel, table: &JobTable, task: u32) -> Progress
-    requires lawful { IsLawful (system_of model.now) table.now }
+    requires lawful { IsLawfulAt (system_of model.now) (timing_at (system_of model.now) task).core table.now }
     requires task { task < length model.now.tasks }
     ensures { IsUnbegun model.now table.now task result }
 {
@@ -88,7 +87,7 @@ fn all_unbegun(
     table: &JobTable,
     core: u32,
 ) -> Result<Vec<Progress>, NoMemory>
-    requires lawful { IsLawful (system_of model.now) table.now }
+    requires lawful { IsLawfulAt (system_of model.now) core table.now }
     requires core { core < length model.now.cores }
     ensures of_core { IfOk result
         (λ tasks. AreOfCore (system_of model.now) table.now core [] tasks.items) }
@@ -193,7 +192,7 @@ impl CoreProgress {
         table: &JobTable,
         core: u32,
     ) -> Result<CoreProgress, NoMemory>
-        requires lawful { IsLawful (system_of model.now) table.now }
+        requires lawful { IsLawfulAt (system_of model.now) core table.now }
         requires core { core < length model.now.cores }
         ensures { IfOk result (IsReached (system_of model.now) table.now core []) }
     {
@@ -263,7 +262,7 @@ impl CoreProgress {
         ensures next { IsNext self.now result }
         ensures within { result.until ≤ end }
         ensures scheduled { (system : System) (table : Table) (core : ℕ) (entries : List (Option ℕ))
-            → IsSound system → IsLawful system table → IsReached system table core entries self.now
+            → IsSound system → IsLawfulAt system core table → IsReached system table core entries self.now
             → IsScheduledUntil system table core entries result.until result.who }
     {
         self.following(end)
@@ -272,7 +271,9 @@ impl CoreProgress {
     /// Executes the runnable of the task at an index for `ticks` ticks, and notes whether the task
     /// is held after that.
     fn execute(&mut self, model: &ValidModel, table: &JobTable, index: usize, ticks: u64)
-        requires lawful { IsLawful (system_of model.now) table.now }
+        requires lawful { IsLawfulAt (system_of model.now)
+            (timing_at (system_of model.now) (progress_at self.old.tasks.items index).task).core
+            table.now }
         requires index { index < length self.old.tasks.items }
         requires task { (progress_at self.old.tasks.items index).task < length model.now.tasks }
         requires left { HasJobLeft table.now (progress_at self.old.tasks.items index) }
@@ -291,7 +292,6 @@ impl CoreProgress {
     /// Takes no memory.
     #[inline(always)]
     pub fn advance(&mut self, model: &ValidModel, table: &JobTable, next: Next, until: u64)
-        requires lawful { IsLawful (system_of model.now) table.now }
         requires underway { IsUnderwayIn (system_of model.now) table.now self.old }
         requires next { IsNext self.old next }
         requires after { self.old.tick ≤ until }

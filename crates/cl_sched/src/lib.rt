@@ -1,4 +1,5 @@
-//! The simulator: computes the legal run of a job table, from event to event.
+//! The simulator: computes the legal run of a job table, or its part on some cores, from event to
+//! event.
 #![tactic(auto)]
 
 mod core_progress;
@@ -7,4 +8,4 @@ mod simulating;
 
 pub use core_progress::{CoreProgress, Next, Waiting};
 pub use progress::Progress;
-pub use simulating::simulate;
+pub use simulating::{simulate, simulate_cores};

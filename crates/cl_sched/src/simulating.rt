@@ -1,13 +1,15 @@
 //! Computing the legal run of a job table. Times are in ticks.
-ghost use Rattle.std.specs.Prelude.{◌≡◌, ◌<◌, ◌≤◌, [], length, replicate, IfOk, OnOk};
+ghost use Rattle.std.specs.Prelude.{◌≡◌, ◌<◌, ◌≤◌, true, [], length, replicate, IfOk, OnOk};
 ghost use Rattle.cl_runs.specs.TaskTiming.{IsSound};
 ghost use Rattle.cl_runs.specs.SystemOf.{system_of};
 ghost use Rattle.cl_runs.specs.Table.{IsLawful};
 ghost use Rattle.cl_runs.specs.Run.{core_entries};
 ghost use Rattle.cl_runs.specs.Legal.{IsLegal};
+ghost use Rattle.cl_run_data.specs.Parts.{is_among, IsLawfulOn, HasNoOtherJobs, IsLegalOn};
 ghost use Rattle.cl_sched.specs.Continuing.{HasContinuations};
-ghost use Rattle.cl_sched.specs.CoreProgress.{IsReached};
-ghost use Rattle.cl_sched.specs.Inner.Filling.{AreScheduled, HasFilled};
+ghost use Rattle.cl_sched.specs.CoreTables.{HaveTimes};
+ghost use Rattle.cl_sched.specs.CoreProgress.{IsLawfulAt, IsReached};
+ghost use Rattle.cl_sched.specs.Inner.Filling.{AreScheduled, HasFilled, HasFilledIf};
 
 use crate::core_progress::CoreProgress;
 use cl_model::ValidModel;
@@ -24,7 +26,7 @@ fn fill_from(
     reached: &mut CoreProgress,
 ) -> Result<(), NoMemory>
     requires sound { IsSound (system_of model.now) }
-    requires lawful { IsLawful (system_of model.now) run.old.table }
+    requires lawful { IsLawfulAt (system_of model.now) core run.old.table }
     requires core { core < length run.old.entries }
     requires reached { IsReached (system_of model.now) run.old.table core (core_entries run.old core) reached.old }
     requires scheduled { AreScheduled (system_of model.now) run.old.table core (core_entries run.old core) }
@@ -48,7 +50,7 @@ fn fill_core(
     core: u32,
 ) -> Result<(), NoMemory>
     requires sound { IsSound (system_of model.now) }
-    requires lawful { IsLawful (system_of model.now) run.old.table }
+    requires lawful { IsLawfulAt (system_of model.now) core run.old.table }
     requires core { core < length run.old.entries }
     requires in_model { core < length model.now.cores }
     requires empty { core_entries run.old core ≡ [] }
@@ -86,4 +88,75 @@ pub fn simulate(alloc: Global, model: &ValidModel, table: JobTable) -> Result<Ru
         Ok(()) => Ok(run),
         Err(no_memory) => Err(no_memory),
     }
+}
+
+/// Checks whether a core is among those that are marked.
+fn is_marked(cores: &[bool], core: u32) -> bool
+    ensures { result ≡ is_among cores.now core }
+{
+    (core as usize) < cores.len() && cores[core as usize]
+}
+
+/// Fills the entries of a core where it is to be filled, and lets it idle otherwise. The entries are
+/// empty before.
+fn fill_if(
+    alloc: Global,
+    model: &ValidModel,
+    run: &mut RunData,
+    core: u32,
+    fills: bool,
+) -> Result<(), NoMemory>
+    requires sound { IsSound (system_of model.now) }
+    requires lawful { fills ≡ true → IsLawfulAt (system_of model.now) core run.old.table }
+    requires core { core < length run.old.entries }
+    requires in_model { core < length model.now.cores }
+    requires empty { core_entries run.old core ≡ [] }
+    ensures { OnOk result (HasFilledIf fills (system_of model.now) core run.old run.new) }
+{
+    if fills {
+        return fill_core(alloc, model, run, core);
+    }
+    let ticks = run.table().ticks;
+    run.push(core, None, ticks)
+}
+
+/// Fills the entries of the marked cores, and lets the others idle. All entries are empty before.
+fn fill_marked(
+    alloc: Global,
+    model: &ValidModel,
+    run: &mut RunData,
+    cores: &[bool],
+) -> Result<(), NoMemory>
+    requires lawful { IsLawfulOn (system_of model.now) cores.now run.old.table }
+    requires times { HaveTimes (system_of model.now) run.old.table }
+    requires empty { run.old.entries ≡ replicate (length model.now.cores) [] }
+    ensures table { OnOk result (run.new.table ≡ run.old.table) }
+    ensures legal { OnOk result (IsLegalOn (system_of model.now) cores.now run.new) }
+{
+    for core in 0..model.cores() {
+        let fills = is_marked(cores, core);
+        fill_if(alloc, model, run, core, fills)?;
+    }
+    Ok(())
+}
+
+/// Computes the run of a job table on some cores alone, which `cores` marks by their numbers; the
+/// others have no jobs and idle, one long stretch each. A core past the end of `cores` isn't marked.
+/// What the run shows of the marked cores is so in a legal run. Goes from event to event, as
+/// `simulate` does, on the marked cores alone. `NoMemory` comes where there is no memory for the
+/// run; then the table is dropped.
+pub fn simulate_cores(
+    alloc: Global,
+    model: &ValidModel,
+    table: JobTable,
+    cores: &[bool],
+) -> Result<RunData, NoMemory>
+    requires lawful { IsLawfulOn (system_of model.now) cores.now table }
+    requires none { HasNoOtherJobs (system_of model.now) cores.now table }
+    ensures table { IfOk result (λ run. run.table ≡ table) }
+    ensures legal { IfOk result (IsLegalOn (system_of model.now) cores.now) }
+{
+    let mut run = RunData::start(alloc, table, model.cores())?;
+    fill_marked(alloc, model, &mut run, cores)?;
+    Ok(run)
 }

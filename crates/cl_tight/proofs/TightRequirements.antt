@@ -19,7 +19,7 @@ use Rattle.cl_runs.specs.Run.{Run}
 use Rattle.cl_runs.specs.Legal.{IsLegal}
 use Rattle.cl_runs.specs.Chains.{first_group}
 use Rattle.cl_runs.proofs.ModelSystem.{system_sound}
-use Rattle.cl_runs.specs.Requirements.{required_chain, IsKept, IsBroken}
+use Rattle.cl_runs.specs.Requirements.{required_chain, IsKept, HasLength, IsBrokenBy}
 use Rattle.cl_bound.specs.Answers.{NoneIsLate}
 use Rattle.cl_bound.specs.Bounds.{Lengths}
 use Rattle.cl_exact.specs.ExactLengths.{Witnesses, chain_of}
@@ -169,18 +169,18 @@ module _ (model : SystemModel) (valid : IsValid model) where
         let (own, within, from) = met_by requirement.most value (exact_bound (has_exact_bounds model chain) bound) bound is in
         kept_by own within (bound_of_either (has_exact_bounds model chain) bound own from)
 
-    broken_by_bound : (value : ℕ) → requirement.most < value → has_exact_bounds model chain ≡ true → bound ≡ Some value → IsBroken model requirement
-    broken_by_bound value past rule is =
+    occurs_by_bound : (value : ℕ) → has_exact_bounds model chain ≡ true → bound ≡ Some value → HasLength model chain requirement.kind value
+    occurs_by_bound value rule is =
         let (bounds, given, same) = bound_valued requirement.kind (chain_answer_at (tight_chain_answers_of model) chain) value is in
         let within = bounded_chain chain bounds given in
         let (timely, own) = tight_given model valid chain within bounds given in
         let (run, legal, found) = occurs chain within rule timely requirement.kind in
         let as_long = ap (limited_bound requirement.kind) own in
-        record { run = run; legal = legal; chain = found.chain; complete = found.complete; longer = omega (arith, past, same, as_long, found.is_long) }
+        record { run = run; legal = legal; jobs = found.chain; complete = found.complete; lasts = omega (arith, same, as_long, found.is_long) }
 
-    pub broken_is : (value : ℕ) → tight_verdict_of model (tight_chain_answers_of model) requirement ≡ Broken value → IsBroken model requirement
+    pub broken_is : (value : ℕ) → tight_verdict_of model (tight_chain_answers_of model) requirement ≡ Broken value → IsBrokenBy model requirement value
     unfolding tight_verdict_of
     broken_is value is =
         let (exact, past) = broken_by requirement.most value (exact_bound (has_exact_bounds model chain) bound) bound is in
         let (rule, own) = exact_bounded (has_exact_bounds model chain) bound value exact in
-        broken_by_bound value past rule own
+        record { longer = past; occurs = occurs_by_bound value rule own }

@@ -3,7 +3,7 @@ use Rattle.std.specs.Prelude.{◌≡◌, ℕ, ◌<◌, ◌≤◌, length}
 use Rattle.cl_model.specs.declared.model.SystemModel.{SystemModel}
 use Rattle.cl_model.specs.Groups.{groups_at}
 use Rattle.cl_runs.specs.SystemOf.{system_of}
-use Rattle.cl_runs.specs.Requirements.{requirement_at, IsKept, IsBroken}
+use Rattle.cl_runs.specs.Requirements.{requirement_at, IsKept, IsBrokenBy}
 use Rattle.cl_runs.specs.Responses.{AlwaysFinishesWithin}
 use Rattle.cl_resp.specs.Response.{Response}
 use Rattle.cl_bound.specs.declared.answer.TaskAnswer.TheVariants.{Settled}
@@ -24,7 +24,7 @@ use Rattle.cl_tight.specs.declared.findings.TightFindings.{TightFindings}
 
 -- The findings are safe. In every legal run each job of a settled task finishes within its response, each tight
 -- bound is at least the length of every complete chain of its kind, and 1 tick or more, what is met is kept, and what is
--- broken is broken in some legal run.
+-- broken is broken in some legal run, by as much as the verdict says.
 pub record AreSafeTightFindings (model : SystemModel) (findings : TightFindings) : Type 0 where
   pub responses : (task : ℕ) (response : Response) → task < length model.tasks
       → answer_at findings.tasks task ≡ Settled response → AlwaysFinishesWithin (system_of model) task response.response
@@ -35,7 +35,7 @@ pub record AreSafeTightFindings (model : SystemModel) (findings : TightFindings)
   pub met : (i value : ℕ) → i < length model.requirements
       → verdict_at findings.verdicts i ≡ Met value → IsKept model (requirement_at model i)
   pub broken : (i value : ℕ) → i < length model.requirements
-      → verdict_at findings.verdicts i ≡ Broken value → IsBroken model (requirement_at model i)
+      → verdict_at findings.verdicts i ≡ Broken value → IsBrokenBy model (requirement_at model i) value
 
 -- a task that the report doesn't call late has a response by phases, and one that is no later
 pub record HasNoLater (findings : TightFindings) (task : ℕ) (response : Response) : Type 0 where

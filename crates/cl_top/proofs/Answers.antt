@@ -7,7 +7,7 @@ use Rattle.cl_engine.specs.declared.files.Files.{Files}
 use Rattle.cl_engine.specs.declared.files.Files.TheVariants as files
 use Rattle.cl_engine.specs.declared.files.TheConstants.{FILE_LIMIT}
 use Rattle.cl_engine.specs.declared.outcome.Outcome.{Outcome}
-use Rattle.cl_engine.specs.declared.status.TheConstants.{DONE, EDITS_REFUSED}
+use Rattle.cl_engine.specs.declared.status.TheConstants.{DONE, EDITS_REFUSED, NOT_VERIFIED}
 use Rattle.cl_engine.specs.Calls.{ShelfCall, SinkCall}
 use Rattle.cl_engine.specs.Content.{Content, Nothing, Bytes as Whole, Model, ModelAnd, Fits, Means}
 use Rattle.cl_engine.specs.Fetched.{Fetched, Bytes, MayGive, EachFile, WasFetched, TellsFiles, told_fetch}
@@ -19,14 +19,15 @@ use Rattle.cl_engine.specs.Run.{ComesAs, ComesTo, IsCarriedOut, Ends}
 use Rattle.cl_engine.proofs.Openings.{valid_read}
 use Rattle.cl_engine.proofs.Outcomes.{IsOpened, SomeOutcome, some_opens, same_opens, IsOfTold, opens_of_told, done_model, no_want}
 use Rattle.cl_engine.proofs.Tellings.{IsToldOwn, told_own}
+use Rattle.cl_verify.specs.VerifyText.{IsVerifyTextOf}
 use Rattle.cl_top.specs.declared.command.Command.{Command}
 use Rattle.cl_top.specs.declared.command.Command.TheVariants.{Analyse, Verify, Edit}
 use Rattle.cl_top.specs.Command.{files_read, command_of}
 use Rattle.cl_top.specs.Commands.{meaning_of, commands, IsOutcomeOf, TakesStepsOf, SaysTheSame}
 use Rattle.cl_top.specs.Commands.Edit.{StopsSafely}
 use Rattle.cl_top.specs.Headline.{HasReported, HasReportedSome}
-use Rattle.cl_top.specs.Meaning.{promises_of_both}
-use Rattle.cl_top.specs.Printed.{HasPrinted, HasPrintedSafe, HasStoppedSafely, ProvesInTime}
+use Rattle.cl_top.specs.Meaning.{promises, promises_of_both}
+use Rattle.cl_top.specs.Printed.{HasPrinted, HasPrintedSafe, HasStoppedSafely, HasDecided, ProvesInTime}
 use Rattle.cl_top.proofs.WellMeant.{meant_well, asks_for_few}
 use Rattle.cl_top.proofs.WellMeant.Edit.{stops_safely}
 use Rattle.cl_top.proofs.SafeReport.{safe_report_of}
@@ -121,6 +122,21 @@ module _ (words : List (List ℕ)) (shelf : ShelfCall) {S K : Type 0} (before af
       printed (refused_content seven) Edit is contents tells (promises_of_both StopsSafely)
       (λ content opened found comes own. stopped_content content opened found comes (own ∙ seven))
 
+  -- ---- what `verify` has written where something isn't met
+
+  decided_content : (content : Content) → (found : Outcome) → IsOutcomeOf Verify content found → promises IsVerifyTextOf content found.text
+  unfolding meaning_of
+  decided_content Nothing found is = absurd is
+  decided_content (Whole bytes) found is = absurd is
+  decided_content (Model model) found is = is.text_is
+  decided_content (ModelAnd model text) found is = absurd is
+
+  pub decides : status ≡ NOT_VERIFIED → command_of words ≡ Some Verify → (contents : ℕ → List ℕ)
+      → TellsFiles (files_of_words commands words) words shelf.held contents → HasDecided sink contents
+  decides thirteen is contents tells =
+      printed (inr (inr (omega (arith, thirteen)))) Verify is contents tells (promises IsVerifyTextOf)
+      (λ content opened found comes own. decided_content content found comes)
+
   -- ---- where it did what it says
 
   module _ (is_done : status ≡ DONE) where
@@ -146,7 +162,7 @@ module _ (words : List (List ℕ)) (shelf : ShelfCall) {S K : Type 0} (before af
             of_cases : (content : Content) → Means files.Model (λ _. bytes) content → (meaning_of Verify).safe content printed.text → ProvesInTime bytes
             of_cases Nothing means safe = absurd means
             of_cases (Whole whole) means safe = absurd means
-            of_cases (Model model) means safe = record { model = model; means = means.means; valid = valid_read bytes model means; in_time = safe }
+            of_cases (Model model) means safe = record { model = model; means = means.means; valid = valid_read bytes model means; in_time = safe.in_time }
             of_cases (ModelAnd model text) means safe = absurd means
 
     -- ---- what `analyse` has written

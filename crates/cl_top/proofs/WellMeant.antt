@@ -2,12 +2,13 @@
 pub mod Alone
 pub mod OnModels
 pub mod Simulate
+pub mod Witness
 pub mod Replay
 pub mod Draw
 pub mod Edit
 pub mod Apply
 pub mod Check
-use Rattle.std.proofs.Common.{◌≡◌, ℕ, ◌+◌, ◌<◌, ◌≤◌, List, [], ◌∷◌, length, Option, Some, None, subst, arith}
+use Rattle.std.proofs.Common.{◌≡◌, ℕ, ◌+◌, ◌<◌, ◌≤◌, List, [], ◌∷◌, drop, length, Option, Some, None, subst, arith}
 use Rattle.std.proofs.lemmas.Bool.{cond_both}
 use Rattle.std.specs.Prelude.{codes}
 use Rattle.std.specs.Str.{bytes_eq}
@@ -23,7 +24,7 @@ use Rattle.cl_engine.specs.declared.outcome.Outcome.{Outcome}
 use Rattle.cl_top.specs.declared.command.Command.{Command}
 use Rattle.cl_top.specs.declared.command.Command.TheVariants as command
 use Rattle.cl_top.specs.declared.commands.help.TheConstants.{HELP, VERSION}
-use Rattle.cl_top.specs.Command.{files_read, upto, some_tasks, any_seed, whole, with_two_numbers, asks_help, asks_version, by_verb, command_of, AsksForFew}
+use Rattle.cl_top.specs.Command.{files_read, upto, some_tasks, any_seed, whole, with_two_numbers, with_subject, asks_help, asks_version, by_verb, command_of, AsksForFew}
 use Rattle.cl_top.specs.Commands.{meaning_of, of_run}
 use Rattle.cl_top.proofs.WellMeant.Alone.{saying_well, generating_well, surveying_well}
 use Rattle.cl_top.proofs.WellMeant.Apply.{applying_well}
@@ -33,8 +34,9 @@ use Rattle.cl_top.proofs.WellMeant.Edit.{editing_well}
 use Rattle.cl_top.proofs.WellMeant.OnModels.{analysing_well, migrating_well, cutting_well, ordering_well, headroom_well, tightening_well, verifying_well, explaining_well}
 use Rattle.cl_top.proofs.WellMeant.Replay.{replaying_well, replayed_once}
 use Rattle.cl_top.proofs.WellMeant.Simulate.{simulating_well}
+use Rattle.cl_top.proofs.WellMeant.Witness.{witnessing_well}
 use Rattle.cl_top.proofs.Meanings.{IsMeantWell}
-use Rattle.cl_top.proofs.Words.{IsFew, IsGood, whole_good, numbered_good}
+use Rattle.cl_top.proofs.Words.{IsFew, IsGood, whole_good, numbered_good, subject_good}
 
 pub meant_well : (asked : Command) → IsMeantWell (files_read asked) (meaning_of asked) (AsksForFew asked)
 unfolding meaning_of AsksForFew
@@ -46,6 +48,7 @@ meant_well command.Headroom = headroom_well
 meant_well command.Tighten = tightening_well
 meant_well command.Verify = verifying_well
 meant_well command.Explain = explaining_well
+meant_well (command.Witness what name) = witnessing_well what name (AsksForFew (command.Witness what name))
 meant_well (command.Simulate ticks seed) = simulating_well ticks seed (AsksForFew (command.Simulate ticks seed))
 meant_well command.Replay = replaying_well
 meant_well (command.Draw from to) = drawing_well from to (AsksForFew (command.Draw from to))
@@ -68,6 +71,7 @@ of_run_same asked model valid run legal one other h k = absurd h
 
 -- what holds of each command behind a verb, and of none, holds of the words
 module _ (P : Option Command → Type 0) (words : List (List ℕ)) (of_whole : (asked : Command) → AsksForFew asked → P (whole asked words))
+    (witness : P (with_subject command.Witness (drop 2 words)))
     (simulate : P (with_two_numbers command.Simulate 2 (upto MOST_RUN_TICKS) any_seed words)) (draw : P (with_two_numbers command.Draw 3 (upto MOST_WINDOW) (upto MOST_WINDOW) words))
     (generate : P (with_two_numbers command.Generate 1 any_seed some_tasks words)) (survey : P (with_two_numbers command.Survey 1 any_seed some_tasks words)) (none : P None) where
   each_verb : (verb : List ℕ) → P (by_verb verb words)
@@ -81,6 +85,7 @@ module _ (P : Option Command → Type 0) (words : List (List ℕ)) (of_whole : (
       cond_both (bytes_eq verb (codes "tighten")) _ _ P (λ _. of_whole command.Tighten tt) (λ _.
       cond_both (bytes_eq verb (codes "verify")) _ _ P (λ _. of_whole command.Verify tt) (λ _.
       cond_both (bytes_eq verb (codes "explain")) _ _ P (λ _. of_whole command.Explain tt) (λ _.
+      cond_both (bytes_eq verb (codes "witness")) _ _ P (λ _. witness) (λ _.
       cond_both (bytes_eq verb (codes "simulate")) _ _ P (λ _. simulate) (λ _.
       cond_both (bytes_eq verb (codes "replay")) _ _ P (λ _. of_whole command.Replay tt) (λ _.
       cond_both (bytes_eq verb (codes "draw")) _ _ P (λ _. draw) (λ _.
@@ -90,7 +95,7 @@ module _ (P : Option Command → Type 0) (words : List (List ℕ)) (of_whole : (
       cond_both (bytes_eq verb (codes "survey")) _ _ P (λ _. survey) (λ _.
       cond_both (bytes_eq verb (codes "check")) _ _ P (λ _. of_whole command.Check tt) (λ _.
       cond_both (asks_help verb) _ _ P (λ _. of_whole command.Help tt) (λ _.
-      cond_both (asks_version verb) _ _ P (λ _. of_whole command.Version tt) (λ _. none))))))))))))))))))
+      cond_both (asks_version verb) _ _ P (λ _. of_whole command.Version tt) (λ _. none)))))))))))))))))))
 
 by_words : (words : List (List ℕ)) → IsGood AsksForFew words (command_of words)
 unfolding command_of AsksForFew
@@ -98,6 +103,7 @@ by_words [] = tt
 by_words (verb ∷ rest) =
     let words = verb ∷ rest in
     each_verb (IsGood AsksForFew words) words (λ asked few. whole_good AsksForFew asked few words)
+    (subject_good AsksForFew command.Witness (λ what name. (tt, omega arith)) words)
     (numbered_good AsksForFew command.Simulate (upto MOST_RUN_TICKS) any_seed 2 (λ n m small low high. (small, omega arith)) words)
     (numbered_good AsksForFew command.Draw (upto MOST_WINDOW) (upto MOST_WINDOW) 3 (λ n m small low high. (high, omega arith)) words)
     (numbered_good AsksForFew command.Generate any_seed some_tasks 1 (λ n m small low high. ((low, high), omega arith)) words)

@@ -2,6 +2,7 @@
 use Rattle.std.specs.Prelude.{ℕ, Bool, List, [], ◌∷◌, length, drop, Option, Some, None, ◌+◌, ◌≤◌, ◌||◌, ◌==◌, codes, if◌then◌else◌}
 use Rattle.std.specs.Option.{option_map}
 use Rattle.std.specs.Str.{bytes_eq}
+use Rattle.cl_model.specs.Name.{is_name}
 use Rattle.cl_gen.specs.declared.limits.TheConstants.{MOST_RUN_TICKS}
 use Rattle.cl_model.specs.declared.limits.TheConstants.{MOST_TASKS}
 use Rattle.cl_picture.specs.declared.window.TheConstants.{MOST_WINDOW}
@@ -14,6 +15,8 @@ use Rattle.cl_engine.specs.Words.{two_numbers}
 use Rattle.cl_top.specs.declared.command.Command.{Command}
 use Rattle.cl_top.specs.declared.command.Command.TheVariants as command
 use Rattle.cl_top.specs.declared.command.TheConstants.{TRACE_LIMIT}
+use Rattle.cl_top.specs.declared.subject.What.{What}
+use Rattle.cl_top.specs.Subject.{what_of}
 
 -- ---- the files of each
 
@@ -52,6 +55,14 @@ whole asked words = if length words == file_count (files_read asked) + 1 then So
 abbrev pub with_two_numbers : (asked : ℕ → ℕ → Command) → (place : ℕ) → (one other : Bounds) → List (List ℕ) → Option Command
 with_two_numbers asked place one other words = option_map (λ numbers. asked numbers.0 numbers.1) (two_numbers one other (drop place words))
 
+-- behind these words what a run is asked of and its name, and nothing behind them
+abbrev pub named_by : (asked : What → List ℕ → Command) → Option What → (name : List ℕ) → Option Command
+named_by asked what name = if is_name name then option_map (λ of. asked of name) what else None
+
+abbrev pub with_subject : (asked : What → List ℕ → Command) → List (List ℕ) → Option Command
+with_subject asked (what ∷ name ∷ []) = named_by asked (what_of what) name
+with_subject asked words = None
+
 -- the words that ask for help, and for the version
 abbrev pub asks_help : List ℕ → Bool
 asks_help verb = bytes_eq verb (codes "help") || bytes_eq verb (codes "--help") || bytes_eq verb (codes "-h")
@@ -70,6 +81,7 @@ by_verb verb words =
     else if bytes_eq verb (codes "tighten") then whole command.Tighten words
     else if bytes_eq verb (codes "verify") then whole command.Verify words
     else if bytes_eq verb (codes "explain") then whole command.Explain words
+    else if bytes_eq verb (codes "witness") then with_subject command.Witness (drop 2 words)
     else if bytes_eq verb (codes "simulate") then with_two_numbers command.Simulate 2 (upto MOST_RUN_TICKS) any_seed words
     else if bytes_eq verb (codes "replay") then whole command.Replay words
     else if bytes_eq verb (codes "draw") then with_two_numbers command.Draw 3 (upto MOST_WINDOW) (upto MOST_WINDOW) words

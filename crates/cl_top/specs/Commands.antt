@@ -1,5 +1,6 @@
 -- What each command comes to, the steps that it takes, and what is promised of its text.
 pub mod Simulate
+pub mod Witness
 pub mod Replay
 pub mod Draw
 pub mod Edit
@@ -7,13 +8,12 @@ pub mod Apply
 pub mod Check
 use Rattle.std.specs.Prelude.{◌≡◌, ℕ, ◌+◌, ◌≤◌, List, Option, Some, None}
 use Rattle.cl_model.specs.declared.model.SystemModel.{SystemModel}
-use Rattle.cl_runs.specs.Requirements.{IsInTime}
 use Rattle.cl_runs.specs.Run.{Run}
 use Rattle.cl_gen.specs.Generated.{generated}
 use Rattle.cl_write.specs.Texts.{IsTextOf}
 use Rattle.cl_report.specs.Report.{IsReportOf}
 use Rattle.cl_report.specs.Survey.{IsSurveyOf}
-use Rattle.cl_report.specs.Tight.{tight_text, verify_text}
+use Rattle.cl_report.specs.Tight.{tight_text}
 use Rattle.cl_explain.specs.Explanation.{explanation}
 use Rattle.cl_explain.specs.Promises.{IsSafeExplanation}
 use Rattle.cl_designs.specs.Cuts.{IsCutTextOf}
@@ -21,7 +21,7 @@ use Rattle.cl_designs.specs.Orders.{IsOrderTextOf, IsSafeOrderText}
 use Rattle.cl_designs.specs.Headroom.{IsHeadroomTextOf, IsSafeHeadroomText}
 use Rattle.cl_engine.specs.declared.outcome.Outcome.{Outcome}
 use Rattle.cl_engine.specs.Content.{Content}
-use Rattle.cl_engine.specs.Done.{HasStatusAndText, IsDone}
+use Rattle.cl_engine.specs.Done.{IsDone}
 use Rattle.cl_engine.specs.Language.{Language}
 use Rattle.cl_top.specs.declared.command.Command.{Command}
 use Rattle.cl_top.specs.declared.command.Command.TheVariants as command
@@ -33,9 +33,10 @@ use Rattle.cl_top.specs.Commands.Draw.{drawing, IsDrawn}
 use Rattle.cl_top.specs.Commands.Edit.{editing}
 use Rattle.cl_top.specs.Commands.Replay.{replaying, IsReplayed}
 use Rattle.cl_top.specs.Commands.Simulate.{simulating}
+use Rattle.cl_top.specs.Commands.Witness.{witnessing}
 use Rattle.cl_top.specs.Headline.{IsSafeReportOf, AreSafeCuts, IsSafeTightReport}
-use Rattle.cl_top.specs.Meaning.{Meaning, printing, on_nothing, on_model, no_step, any_steps, at_most, model_steps, task_steps, entry_steps, no_promise, promises, equal, WritesTheSame}
-use Rattle.cl_top.specs.Verified.{verify_status}
+use Rattle.cl_top.specs.Meaning.{Meaning, printing, on_nothing, on_model, no_step, any_steps, at_most, model_steps, task_steps, entry_steps, no_promise, promises, equal, of_one_model, WritesTheSame}
+use Rattle.cl_top.specs.Verified.{IsVerifiedAs, IsShownInTime}
 
 -- a command without a file that writes this text
 abbrev pub saying : (text : List ℕ) → Meaning
@@ -46,9 +47,9 @@ saying text = record {
   same = equal;
 }
 
--- What each command comes to, its steps, what it promises of its text, and when two outcomes of it say the same. Twelve
--- promise something of every legal run, or of the model that they print: `analyse`, `cut`, `order`, `headroom`, `tighten`,
--- `verify`, `explain`, `check`, `replay`, `draw`, `edit` and `apply`. The others print no bound of a given model.
+-- What each command comes to, its steps, what it promises of its text, and when two outcomes of it say the same. Thirteen
+-- promise something of every legal run, or of the model or the run that they print: `analyse`, `cut`, `order`, `headroom`,
+-- `tighten`, `verify`, `explain`, `witness`, `check`, `replay`, `draw`, `edit` and `apply`. The others print no bound of a given model.
 unfoldable pub meaning_of : Command → Meaning
 meaning_of command.Analyse = printing IsReportOf (at_most model_steps) (promises IsSafeReportOf)
 meaning_of command.Migrate = record { comes_to = on_model (λ model. IsDone (IsTextOf model)); takes = no_step; safe = no_promise; same = WritesTheSame }
@@ -57,12 +58,13 @@ meaning_of command.Order = printing IsOrderTextOf any_steps (promises IsSafeOrde
 meaning_of command.Headroom = printing IsHeadroomTextOf any_steps (promises IsSafeHeadroomText)
 meaning_of command.Tighten = printing (λ model text. text ≡ tight_text model) (at_most task_steps) (promises IsSafeTightReport)
 meaning_of command.Verify = record {
-  comes_to = on_model (λ model. HasStatusAndText (verify_status model) (λ text. text ≡ verify_text model));
+  comes_to = on_model IsVerifiedAs;
   takes = at_most task_steps;
-  safe = promises (λ model text. IsInTime model);
-  same = equal;
+  safe = promises IsShownInTime;
+  same = of_one_model IsVerifiedAs;
 }
 meaning_of command.Explain = printing (λ model text. text ≡ explanation model) (at_most entry_steps) (promises IsSafeExplanation)
+meaning_of (command.Witness what name) = witnessing what name
 meaning_of (command.Simulate ticks seed) = simulating ticks seed
 meaning_of command.Replay = replaying
 meaning_of (command.Draw from to) = drawing from to

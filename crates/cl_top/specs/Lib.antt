@@ -1,3 +1,4 @@
+pub mod Subject
 pub mod Command
 pub mod Verified
 pub mod OfTrace

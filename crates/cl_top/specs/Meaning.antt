@@ -75,9 +75,13 @@ on_nothing each = of_nothing each (λ found. ⊥)
 abbrev pub equal : (one other : Outcome) → Type 0
 equal one other = one ≡ other
 
--- two outcomes are equal, or texts of one model: a model has more texts than one
+-- Two outcomes are equal, or this holds of both for one model: where a command may answer one model in more ways than one.
+abbrev pub of_one_model : (SystemModel → Outcome → Type 0) → (one other : Outcome) → Type 0
+of_one_model each one other = (one ≡ other) ⊎ ((model : SystemModel) × each model one × each model other)
+
+-- they are equal, or texts of one model
 abbrev pub WritesTheSame : (one other : Outcome) → Type 0
-WritesTheSame one other = (one ≡ other) ⊎ ((model : SystemModel) × IsDone (IsTextOf model) one × IsDone (IsTextOf model) other)
+WritesTheSame = of_one_model (λ model. IsDone (IsTextOf model))
 
 -- ---- commands on a model that print one text
 

@@ -5,6 +5,7 @@ use Rattle.cl_model.specs.declared.model.SystemModel.{SystemModel}
 use Rattle.cl_model.specs.Reading.{model_of}
 use Rattle.cl_model.specs.Validity.{IsValid}
 use Rattle.cl_runs.specs.Requirements.{IsInTime}
+use Rattle.cl_verify.specs.VerifyText.{IsVerifyTextOf}
 use Rattle.cl_engine.specs.Calls.{SinkCall}
 use Rattle.cl_engine.specs.Content.{Content, Means}
 use Rattle.cl_top.specs.declared.command.Command.{Command}
@@ -12,7 +13,7 @@ use Rattle.cl_top.specs.declared.command.Command.TheVariants as command
 use Rattle.cl_top.specs.Command.{files_read}
 use Rattle.cl_top.specs.Commands.{meaning_of}
 use Rattle.cl_top.specs.Commands.Edit.{StopsSafely}
-use Rattle.cl_top.specs.Meaning.{promises_of_both}
+use Rattle.cl_top.specs.Meaning.{promises, promises_of_both}
 
 -- Files of these bytes hold something, this is promised of the text for that, and the text was written, and nothing else.
 pub record HasPrinted {K : Type 0} (sink : SinkCall K) (asked : Command) (contents : ℕ → List ℕ) (promise : Content → (text : List ℕ) → Type 0) : Type 0 where
@@ -29,6 +30,10 @@ HasPrintedSafe sink asked contents = HasPrinted sink asked contents (meaning_of 
 -- and with what `edit` promises where a line of its edits is refused
 abbrev pub HasStoppedSafely : {K : Type 0} → SinkCall K → (contents : ℕ → List ℕ) → Type 0
 HasStoppedSafely sink contents = HasPrinted sink command.Edit contents (promises_of_both StopsSafely)
+
+-- and with the decisions of `verify` where something isn't met
+abbrev pub HasDecided : {K : Type 0} → SinkCall K → (contents : ℕ → List ℕ) → Type 0
+HasDecided sink contents = HasPrinted sink command.Verify contents (promises IsVerifyTextOf)
 
 -- The model that the bytes mean is in time: in every legal run, of any length, every job whose deadline lies within the
 -- run has finished by then, and no complete chain of a requirement's chain and kind is longer than it says.

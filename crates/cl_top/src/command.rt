@@ -1,20 +1,21 @@
 //! The commands: the words of each, and the files that it needs.
-ghost use Rattle.std.specs.Prelude.{◌≡◌};
+ghost use Rattle.std.specs.Prelude.{◌≡◌, drop};
 ghost use Rattle.cl_gen.specs.declared.limits.TheConstants.{MOST_RUN_TICKS};
 ghost use Rattle.cl_picture.specs.declared.window.TheConstants.{MOST_WINDOW};
-ghost use Rattle.cl_top.specs.Command.{files_read, upto, some_tasks, any_seed, whole, with_two_numbers, command_of};
+ghost use Rattle.cl_top.specs.Command.{files_read, upto, some_tasks, any_seed, whole, with_two_numbers, with_subject, command_of};
 
+use crate::subject::{What, read_what};
 use cl_engine::{Bounds, FILE_LIMIT, Files, two_numbers};
 use cl_gen::MOST_RUN_TICKS;
 use cl_io::Words;
-use cl_model::MOST_TASKS;
+use cl_model::{MOST_TASKS, Name};
 use cl_picture::MOST_WINDOW;
 
 /// The most bytes that a trace file may have.
 pub const TRACE_LIMIT: u64 = 268_435_456;
 
-/// A command of the program, with the numbers that its words spell.
-#[derive(Clone, Copy, Debug, PartialEq, Eq)]
+/// A command of the program, with the numbers and names that its words spell.
+#[derive(Debug, PartialEq, Eq, Drop)]
 pub enum Command {
     /// `analyse MODEL`: writes the report of a model: responses, bounds, exact lengths and
     /// verdicts.
@@ -31,11 +32,14 @@ pub enum Command {
     /// `tighten MODEL`: writes the report of a model by tight bounds, which know how the arrivals
     /// of its tasks lie to each other.
     Tighten,
-    /// `verify MODEL`: says by the status whether every deadline and every requirement of a model
-    /// is shown to be kept.
+    /// `verify MODEL`: decides each deadline and each requirement of a model: met, broken or
+    /// unshown, and says by the status whether all are met.
     Verify,
     /// `explain MODEL`: writes what the responses and the bounds of a model are the sums of.
     Explain,
+    /// `witness MODEL WHAT NAME`: writes the trace of a run that comes near to the response of a
+    /// task, or to a bound of a chain or a requirement.
+    Witness { what: What, name: Name },
     /// `simulate MODEL TICKS SEED`: writes the trace of a run of so many ticks that the seed draws.
     Simulate { ticks: u64, seed: u64 },
     /// `replay MODEL TRACE`: measures every chain in the run of a trace.
@@ -62,8 +66,8 @@ pub enum Command {
 
 /// Returns the files that a command names: a model file with a valid model, but for the commands
 /// that are listed here.
-pub(crate) fn files_read(command: Command) -> Files
-    ensures { result ≡ files_read command }
+pub(crate) fn files_read(command: &Command) -> Files
+    ensures { result ≡ files_read command.now }
 {
     match command {
         Command::Check => Files::Content,
@@ -106,6 +110,7 @@ pub(crate) fn read_command(words: &Words) -> Option<Command>
         "tighten" => read_whole(words, Command::Tighten),
         "verify" => read_whole(words, Command::Verify),
         "explain" => read_whole(words, Command::Explain),
+        "witness" => read_witness(words),
         "simulate" => read_simulate(words),
         "replay" => read_whole(words, Command::Replay),
         "draw" => read_draw(words),
@@ -125,11 +130,23 @@ pub(crate) fn read_command(words: &Words) -> Option<Command>
 fn read_whole(words: &Words, asked: Command) -> Option<Command>
     ensures { result ≡ whole asked words.now }
 {
-    if words.len() == files_read(asked).count() + 1 {
+    if words.len() == files_read(&asked).count() + 1 {
         Some(asked)
     } else {
         None
     }
+}
+
+/// Reads `witness`: behind the file there are what a run is asked of, and its name.
+fn read_witness(words: &Words) -> Option<Command>
+    ensures { result ≡ with_subject Command.Witness (drop 2 words.now) }
+{
+    if words.len() != 4 {
+        return None;
+    }
+    let what = read_what(words.at(2)?)?;
+    let name = Name::of_text(words.at(3)?)?;
+    Some(Command::Witness { what, name })
 }
 
 /// Reads `simulate`: behind the file there are the number of ticks and the seed.

@@ -23,6 +23,7 @@ mod simulate;
 mod survey;
 mod tighten;
 mod verify;
+mod witness;
 
 use crate::Command;
 use crate::command::{files_read, read_command};
@@ -48,6 +49,7 @@ use std::sync::ledger::Ledger;
 use survey::surveyed;
 use tighten::tightened;
 use verify::verified;
+use witness::witnessed;
 
 impl cl_engine::Command for Command {
     ghost language = { commands };
@@ -56,7 +58,7 @@ impl cl_engine::Command for Command {
         read_command(words)
     }
 
-    fn files(self) -> Files {
+    fn files(&self) -> Files {
         files_read(self)
     }
 
@@ -92,6 +94,7 @@ fn answered<L: Ledger>(
         Command::Tighten => tightened(alloc, &given.model(), steps),
         Command::Verify => verified(alloc, &given.model(), steps),
         Command::Explain => explained(alloc, &given.model(), steps),
+        Command::Witness { what, name } => witnessed(alloc, &given.model(), what, &name, steps),
         Command::Simulate { ticks, seed } => simulated(alloc, &given.model(), ticks, seed),
         Command::Replay => {
             let (model, trace) = given.both();

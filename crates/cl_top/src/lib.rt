@@ -6,7 +6,9 @@ mod command;
 mod commands;
 pub mod laws;
 mod running;
+mod subject;
 
 pub use cl_engine::{FILE_LIMIT, FileShelf, OutSink, Outcome, status};
 pub use command::{Command, TRACE_LIMIT};
 pub use running::{run, start};
+pub use subject::What;

@@ -6,12 +6,12 @@ ghost use Rattle.cl_engine.specs.Files.{word};
 ghost use Rattle.cl_engine.specs.SoundCall.{IsSoundCall};
 ghost use Rattle.cl_engine.specs.Language.{files_of};
 ghost use Rattle.cl_engine.specs.Run.{ComesTo, Ends};
-ghost use Rattle.cl_engine.specs.declared.status.TheConstants.{DONE, EDITS_REFUSED};
+ghost use Rattle.cl_engine.specs.declared.status.TheConstants.{DONE, EDITS_REFUSED, NOT_VERIFIED};
 ghost use Rattle.cl_top.specs.declared.command.Command.{Command as AnyCommand};
 ghost use Rattle.cl_top.specs.Command.{command_of};
 ghost use Rattle.cl_top.specs.Commands.{commands};
 ghost use Rattle.cl_top.specs.Headline.{HasReported, HasReportedSome};
-ghost use Rattle.cl_top.specs.Printed.{HasPrintedSafe, HasStoppedSafely, ProvesInTime};
+ghost use Rattle.cl_top.specs.Printed.{HasPrintedSafe, HasStoppedSafely, HasDecided, ProvesInTime};
 
 use crate::Command;
 use cl_io::{Shelf, Sink, Words};
@@ -57,11 +57,20 @@ pub fn run<S: Shelf, K: Sink, L: Ledger>(
         → S.held shelf.old (word words.now 1) ≡ Content bytes
         → HasReported (sink_call K.written K.faults K.last_failed sink.old sink.new) bytes }
 
-    // It follows, where `verify` ends with status 0: the model is in time.
+    // It follows, where `verify` ends with status 0: the model is in time. What the text says then is
+    // in `safe`.
     ensures verified { result ≡ DONE → command_of words.now ≡ Some Command.Verify → (bytes : List ℕ)
         → S.held shelf.old (word words.now 1) ≡ Content bytes → ProvesInTime bytes }
 
-    // It follows, of files that the shelf tells: what is printed at status 0 is safe. Twelve commands
+    // It follows, where `verify` ends with status 13: the text says what is decided of the model, and
+    // what it calls met holds in every legal run, what it calls broken is so in some, and what it
+    // says is seen is so in some (`IsVerifyTextOf`).
+    ensures decided { result ≡ NOT_VERIFIED → command_of words.now ≡ Some Command.Verify
+        → (contents : ℕ → List ℕ)
+        → TellsFiles (files_of commands words.now) words.now (S.held shelf.old) contents
+        → HasDecided (sink_call K.written K.faults K.last_failed sink.old sink.new) contents }
+
+    // It follows, of files that the shelf tells: what is printed at status 0 is safe. Thirteen commands
     // promise something of their text, each named at `meaning_of` in specs/Commands.antt; the others
     // print no bound of a given model.
     ensures safe { result ≡ DONE → (asked : AnyCommand) → command_of words.now ≡ Some asked

@@ -1,5 +1,5 @@
 -- Which entries of a run are filled with what is scheduled.
-use Rattle.std.specs.Prelude.{◌≡◌, ◌≢◌, ℕ, Option, None, ◌<◌, List, length, slice_index_or, take}
+use Rattle.std.specs.Prelude.{◌≡◌, ◌≢◌, ℕ, Bool, true, false, Option, None, ◌<◌, List, length, replicate, slice_index_or, take}
 use Rattle.cl_runs.specs.TaskTiming.{System}
 use Rattle.cl_runs.specs.declared.job.JobTable.{JobTable}
 use Rattle.cl_runs.specs.Run.{Run, core_entries}
@@ -22,3 +22,15 @@ pub record HasFilled (system : System) (core : ℕ) (old new : Run) : Type 0 whe
   pub cores : length new.entries ≡ length old.entries
   pub others : (other : ℕ) → other ≢ core → core_entries new other ≡ core_entries old other
   pub filled : IsFilled system new core
+
+-- a core is filled where it is to be, and else it idles in each tick
+abbrev pub IsFilledIf : (fills : Bool) → System → Run → (core : ℕ) → Type 0
+IsFilledIf true system run core = IsFilled system run core
+IsFilledIf false system run core = core_entries run core ≡ replicate run.table.ticks None
+
+-- a core was filled where it was to be, and else idles, and the others are as they were
+pub record HasFilledIf (fills : Bool) (system : System) (core : ℕ) (old new : Run) : Type 0 where
+  pub table : new.table ≡ old.table
+  pub cores : length new.entries ≡ length old.entries
+  pub others : (other : ℕ) → other ≢ core → core_entries new other ≡ core_entries old other
+  pub filled : IsFilledIf fills system new core

@@ -12,21 +12,23 @@ use Rattle.cl_explain.specs.Explanation.{explanation}
 use Rattle.cl_explain.specs.Promises.{IsSafeExplanation}
 use Rattle.cl_explain.proofs.SafelyExplained.{safe_explanation}
 use Rattle.cl_report.specs.Report.{IsReportOf}
-use Rattle.cl_report.specs.Tight.{tight_text, verify_text}
+use Rattle.cl_report.specs.Tight.{tight_text}
 use Rattle.cl_report.proofs.OneReport.{one_report}
 use Rattle.cl_tight.proofs.TightLaws.{tight_findings_safe, tight_findings_as_tight, verified_in_time}
+use Rattle.cl_verify.specs.VerifyText.{verify_text}
+use Rattle.cl_verify.proofs.SomeDecisions.{some_decisions}
 use Rattle.cl_write.specs.Texts.{IsTextOf}
 use Rattle.cl_write.proofs.SomeTexts.{some_text}
 use Rattle.cl_engine.specs.declared.files.Files.TheVariants as files
 use Rattle.cl_engine.specs.Content.{Content, Model}
-use Rattle.cl_engine.specs.Done.{HasStatusAndText, IsDone}
+use Rattle.cl_engine.specs.Done.{IsDone}
 use Rattle.cl_engine.specs.Language.{IsOfContent}
 use Rattle.cl_top.specs.declared.command.Command.TheVariants as command
 use Rattle.cl_top.specs.Commands.{meaning_of}
 use Rattle.cl_top.specs.Headline.{IsSafeReportOf, AreSafeCuts, IsSafeTightReport}
-use Rattle.cl_top.specs.Meaning.{printing, no_step, any_steps, at_most, model_steps, task_steps, entry_steps, no_promise, promises, equal, WritesTheSame}
-use Rattle.cl_top.specs.Verified.{verify_status}
-use Rattle.cl_top.proofs.Meanings.{IsMeantWell, same_parts, done_some, done_once, model_well}
+use Rattle.cl_top.specs.Meaning.{printing, no_step, any_steps, at_most, model_steps, task_steps, entry_steps, no_promise, promises, equal, of_one_model, WritesTheSame}
+use Rattle.cl_top.specs.Verified.{verify_status, IsVerifiedAs, IsShownInTime}
+use Rattle.cl_top.proofs.Meanings.{IsMeantWell, done_some, done_once, model_well}
 use Rattle.cl_top.proofs.SafeReport.{some_report, safe_report_of}
 use Rattle.cl_top.proofs.VerifyStatus.{verify_content, verified_at_done}
 
@@ -85,9 +87,14 @@ explaining_well = writing_well explanation (at_most entry_steps) (promises IsSaf
 
 pub verifying_well : IsMeantWell files.Model (meaning_of command.Verify) (Unit {0})
 unfolding meaning_of
-verifying_well = model_well (at_most task_steps) _ equal (Unit {0}) (λ one other is. is)
-    (λ model. HasStatusAndText (verify_status model) (λ text. text ≡ verify_text model))
-    (λ model valid named few. (record { status = verify_status model; text = verify_text model }, record { status_is = refl; text_is = refl }))
-    (λ model valid one other h k. same_parts one other (h.status_is ∙ sym k.status_is) (h.text_is ∙ sym k.text_is))
+verifying_well = model_well (at_most task_steps) (promises IsShownInTime) (of_one_model IsVerifiedAs) (Unit {0}) (λ one other is. inl is) IsVerifiedAs
+    (λ model valid named few. let (decisions, decided) = some_decisions model valid in (
+      record { status = verify_status model; text = verify_text model decisions },
+      record { status_is = refl; text_is = record { decisions = decisions; decided = decided; printed = refl } },
+    ))
+    (λ model valid one other h k. inr (model, h, k))
     (λ model found is. subst IsOfContent (sym is.status_is) (verify_content model)) (λ model steps. omega arith)
-    (λ model valid found is done. verified_in_time model valid (verified_at_done model (sym is.status_is ∙ done)))
+    (λ model valid found is done. record {
+      in_time = verified_in_time model valid (verified_at_done model (sym is.status_is ∙ done));
+      decided = is.text_is;
+    })

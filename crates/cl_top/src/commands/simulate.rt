@@ -36,7 +36,11 @@ pub(super) fn simulated(
 }
 
 /// Simulates the legal run of a table and writes its trace.
-fn traced(alloc: Global, model: &ValidModel, table: JobTable) -> Result<Outcome, NoMemory>
+pub(super) fn traced(
+    alloc: Global,
+    model: &ValidModel,
+    table: JobTable,
+) -> Result<Outcome, NoMemory>
     requires { IsLawful (system_of model.now) table }
     ensures { IfOk result (IsTraceOfTable model.now table) }
 {
@@ -46,7 +50,7 @@ fn traced(alloc: Global, model: &ValidModel, table: JobTable) -> Result<Outcome,
 }
 
 /// Makes the outcome of a run for which too many executions of runnables are counted.
-fn refused(alloc: Global, count: u64) -> Result<Outcome, NoMemory>
+pub(super) fn refused(alloc: Global, count: u64) -> Result<Outcome, NoMemory>
     ensures { IfOk result (λ outcome. outcome ≡ simulation_refused count) }
 {
     let mut text = Text::new(alloc);

@@ -7,15 +7,14 @@ ghost use Rattle.cl_top.specs.Commands.{IsOutcomeOf, TakesStepsOf};
 use crate::Command;
 use cl_engine::{Outcome, status};
 use cl_model::ValidModel;
-use cl_report::verify_report;
 use cl_tight::{TightFindings, is_verified, tighten};
 use cl_time::{NoMemory, Steps};
+use cl_verify::{decide, verify_text};
 use std::alloc::Global;
 use std::sync::ledger::Ledger;
 
-/// Finds the outcome of `verify` for a valid model: the text names the tasks that are late and the
-/// verdicts, and the status says whether the model is verified. Counts at most one step for each
-/// task.
+/// Finds the outcome of `verify` for a valid model: the text says what is decided of each task and
+/// each requirement, and the status whether all are met. Counts at most one step for each task.
 #[tactic(auto, unfolding(crate::specs::Commands::meaning_of))]
 pub(super) fn verified<L: Ledger>(
     alloc: Global,
@@ -26,9 +25,10 @@ pub(super) fn verified<L: Ledger>(
     ensures steps { TakesStepsOf Command.Verify (Model model.now) steps.old steps.new }
 {
     let findings = tighten(alloc, model, steps)?;
+    let decisions = decide(alloc, model, &findings)?;
     Ok(Outcome {
         status: status_of(model, &findings),
-        text: verify_report(alloc, model, &findings)?,
+        text: verify_text(alloc, model, &decisions)?,
     })
 }
 

@@ -16,7 +16,6 @@ forward_over-requires c =
 
 pub returns : goal.returns
 returns c =
-    let some : 0 < length (groups_at c.args.model.now c.args.chain) = c.in_ok-groups.ensures.some in
     let tables : AreTables (system_of c.args.model.now) c.args.run.now (groups_at c.args.model.now c.args.chain) c.as_slice.result.now
     = rw c.as_slice.ensures c.in_ok-groups.ensures.tables in
-    IfOk-weaker c.forward_over.result _ _ (λ found. forward_answer c.args.model.now c.in_ok-groups.ensures.valid c.args.run.now c.requires.legal c.args.chain some c.as_slice.result.now tables c.args.job (option_of found)) c.forward_over.ensures
+    IfOk-weaker c.forward_over.result _ _ (λ found. forward_answer (system_of c.args.model.now) c.args.run.now (groups_at c.args.model.now c.args.chain) c.as_slice.result.now tables c.args.job (option_of found)) c.forward_over.ensures

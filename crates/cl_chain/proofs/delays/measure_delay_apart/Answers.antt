@@ -10,11 +10,11 @@ pub delay_over-requires : goal.delay_over-requires
 delay_over-requires c =
     let tables : AreEventTables (system_of c.args.model.now) c.args.run.now (groups_at c.args.model.now c.args.chain) c.as_slice.result.now
     = rw c.as_slice.ensures c.in_ok-groups.ensures.tables in
-    events_ordered c.args.model.now c.in_ok-groups.ensures.valid c.args.run.now c.requires.legal c.args.chain c.in_ok-groups.ensures.some c.as_slice.result.now tables
+    events_ordered c.args.model.now c.in_ok-groups.ensures.valid c.args.run.now c.requires.in_form c.args.chain c.requires.shows c.in_ok-groups.ensures.some c.as_slice.result.now tables
 
 pub returns : goal.returns
 returns c =
     let tables : AreEventTables (system_of c.args.model.now) c.args.run.now (groups_at c.args.model.now c.args.chain) c.as_slice.result.now
     = rw c.as_slice.ensures c.in_ok-groups.ensures.tables in
     IfOk-weaker c.delay_over.result _ _
-    (λ found. delay_answer c.args.model.now c.in_ok-groups.ensures.valid c.args.run.now c.requires.legal c.args.chain c.in_ok-groups.ensures.some c.as_slice.result.now tables (option_of found)) c.delay_over.ensures
+    (λ found. delay_answer (system_of c.args.model.now) c.args.run.now (groups_at c.args.model.now c.args.chain) c.as_slice.result.now tables (option_of found)) c.delay_over.ensures

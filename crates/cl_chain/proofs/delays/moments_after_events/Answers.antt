@@ -14,7 +14,7 @@ pub jobs_of-requires : goal.jobs_of-requires
 jobs_of-requires c = omega (
   arith,
   c.group-task.ensures.of_task.known,
-  c.requires.legal.in_form.tasks,
+  c.requires.in_form.tasks,
   count_is c.args.model.now,
   ap (λ (t : JobTable). length t.jobs) c.table.ensures,
 )

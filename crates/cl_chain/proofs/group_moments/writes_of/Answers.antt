@@ -10,7 +10,7 @@ pub jobs_of-requires : goal.jobs_of-requires
 jobs_of-requires c = omega (
   arith,
   c.requires.is_task,
-  c.requires.legal.in_form.tasks,
+  c.requires.in_form.tasks,
   count_is c.args.model.now,
   ap (λ (t : JobTable). length t.jobs) c.table-table.ensures,
 )

@@ -12,11 +12,10 @@ measured_over-requires c =
     let some : 0 < length (groups_at c.args.model.now c.args.chain) = c.in_ok-groups.ensures.some in
     let tables : AreTables (system_of c.args.model.now) c.args.run.now (groups_at c.args.model.now c.args.chain) c.as_slice.result.now
     = rw c.as_slice.ensures c.in_ok-groups.ensures.tables in
-    tables_ordered c.args.model.now c.in_ok-groups.ensures.valid c.args.run.now c.requires.legal c.args.chain some c.as_slice.result.now tables
+    tables_ordered c.args.model.now c.in_ok-groups.ensures.valid c.args.run.now c.args.chain c.requires.shows some c.as_slice.result.now tables
 
 pub returns : goal.returns
 returns c =
-    let some : 0 < length (groups_at c.args.model.now c.args.chain) = c.in_ok-groups.ensures.some in
     let tables : AreTables (system_of c.args.model.now) c.args.run.now (groups_at c.args.model.now c.args.chain) c.as_slice.result.now
     = rw c.as_slice.ensures c.in_ok-groups.ensures.tables in
-    IfOk-weaker c.measured_over.result _ _ (λ measured. measured_answer c.args.model.now c.in_ok-groups.ensures.valid c.args.run.now c.requires.legal c.args.chain some c.as_slice.result.now tables (measured_of measured)) c.measured_over.ensures
+    IfOk-weaker c.measured_over.result _ _ (λ measured. measured_answer (system_of c.args.model.now) c.args.run.now (groups_at c.args.model.now c.args.chain) c.as_slice.result.now tables (measured_of measured)) c.measured_over.ensures

@@ -72,3 +72,6 @@ returns-clause-course c =
           write ∙ ap (λ (list : List GroupTiming). (get_or list (length list - 1) none).write) are ∙ write_by timing groups c.requires.some none;
       ends_in_range = record { read = omega (arith, read, first.read); write = omega (arith, write, last.write) };
     }
+
+pub returns-clause-as_many : goal.returns-clause-as_many
+returns-clause-as_many c = omega (arith, c.loop-i.invariant.as_many, c.loop-i-test.false, c.loop-i.auto.i-end)

@@ -7,12 +7,12 @@ use Rattle.cl_sched.proofs.Standing.{none_before}
 use Rattle.cl_sched.proofs.core_progress.unbegun.Goals as goal
 
 pub jobs_of-requires : goal.jobs_of-requires
-jobs_of-requires c = in_table c.args.model.now c.args.table.now c.requires.lawful c.args.task c.requires.task
+jobs_of-requires c = in_table c.args.model.now c.args.table.now c.args.task c.requires.lawful c.requires.task
 
 pub before-requires-clause-take_time : goal.before-requires-clause-take_time
 before-requires-clause-take_time c =
     subst TakeTime (sym c.jobs_of.ensures)
-    (jobs_take_time c.args.model.now c.args.table.now c.requires.lawful c.args.task c.requires.task c.task.ensures.valid)
+    (jobs_take_time c.args.model.now c.args.table.now c.args.task c.requires.lawful c.requires.task c.task.ensures.valid)
 
 pub returns : goal.returns
 returns c = record {

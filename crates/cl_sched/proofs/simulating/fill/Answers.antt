@@ -4,11 +4,18 @@ use Rattle.cl_runs.specs.declared.job.JobTable.{JobTable}
 use Rattle.cl_runs.specs.SystemOf.{system_of}
 use Rattle.cl_runs.specs.Table.{IsLawful}
 use Rattle.cl_runs.proofs.ModelSystem.{cores_are, system_sound}
+use Rattle.cl_sched.specs.CoreProgress.{IsLawfulAt}
+use Rattle.cl_sched.proofs.LawfulTables.{lawful_at}
 use Rattle.cl_sched.proofs.FullCores.{legal_of_cores}
 use Rattle.cl_sched.proofs.simulating.fill.Goals as goal
 
 pub fill_core-requires-clause-sound : goal.fill_core-requires-clause-sound
 fill_core-requires-clause-sound c = system_sound c.args.model.now c.cores-core-end.ensures.valid
+
+pub fill_core-requires-clause-lawful : goal.fill_core-requires-clause-lawful
+fill_core-requires-clause-lawful c =
+    subst (λ (t : JobTable). IsLawfulAt (system_of c.args.model.now) c.loop-core.core t) (sym c.loop-core.invariant.table)
+    (lawful_at (system_of c.args.model.now) c.loop-core.core c.args.run.now.table c.requires.lawful)
 
 pub returns-clause-legal : goal.returns-clause-legal
 returns-clause-legal c =

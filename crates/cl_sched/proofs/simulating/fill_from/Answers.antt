@@ -2,8 +2,7 @@ use Rattle.std.proofs.Common.{◌≡◌, ◌-◌, ◌++◌, replicate, ap, sym, 
 use Rattle.cl_runs.specs.declared.job.JobTable.{JobTable}
 use Rattle.cl_runs.specs.Run.{Run, core_entries}
 use Rattle.cl_runs.specs.SystemOf.{system_of}
-use Rattle.cl_runs.specs.Table.{IsLawful}
-use Rattle.cl_sched.specs.CoreProgress.{IsReached}
+use Rattle.cl_sched.specs.CoreProgress.{IsLawfulAt, IsReached}
 use Rattle.cl_sched.proofs.Filled.{filled_further}
 use Rattle.cl_sched.proofs.simulating.fill_from.Goals as goal
 
@@ -12,8 +11,12 @@ next-next-requires-clause-underway c = record {
   system = system_of c.args.model.now;
   table = c.events.run.table;
   sound = c.requires.sound;
-  lawful = subst (λ (t : JobTable). IsLawful (system_of c.args.model.now) t) (sym c.events.invariant.filled.table) c.requires.lawful;
-  is = record { core = c.args.core; entries = core_entries c.events.run c.args.core; is = c.events.invariant.filled.reached_is };
+  is = record {
+    core = c.args.core;
+    entries = core_entries c.events.run c.args.core;
+    lawful = subst (λ (t : JobTable). IsLawfulAt (system_of c.args.model.now) c.args.core t) (sym c.events.invariant.filled.table) c.requires.lawful;
+    is = c.events.invariant.filled.reached_is;
+  };
 }
 
 pub events-preserved : goal.events-preserved
@@ -24,7 +27,8 @@ events-preserved c =
     let next = c.next-next.result in
     let n = next.until - c.events.reached.tick in
     let entries = core_entries run c.args.core in
-    let lawful : IsLawful system run.table = subst (λ (t : JobTable). IsLawful system t) (sym filled.table) c.requires.lawful in
+    let lawful : IsLawfulAt system c.args.core run.table
+    = subst (λ (t : JobTable). IsLawfulAt system c.args.core t) (sym filled.table) c.requires.lawful in
     let table : c.table-in-events.result.now ≡ run.table = c.table-in-events.ensures ∙ ap (λ (r : Run). r.table) c.in_ok-push.ensures.ok in
     let moved : IsReached system run.table c.args.core (entries ++ replicate n next.who) c.advance.new.self
     = subst (λ (t : JobTable). IsReached system t c.args.core (entries ++ replicate n next.who) c.advance.new.self) table

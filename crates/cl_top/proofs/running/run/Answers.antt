@@ -1,4 +1,4 @@
-use Rattle.cl_top.proofs.Answers.{printed_safe, stopped_safely, proves_in_time, reports_some, reports_told}
+use Rattle.cl_top.proofs.Answers.{printed_safe, stopped_safely, proves_in_time, decides, reports_some, reports_told}
 use Rattle.cl_top.proofs.running.run.Goals as goal
 
 pub returns-clause-ends : goal.returns-clause-ends
@@ -12,6 +12,9 @@ returns-clause-headline g c = λ done analyse bytes tells. reports_told _ _ _ _ 
 
 pub returns-clause-verified : goal.returns-clause-verified
 returns-clause-verified g c = λ done verify bytes tells. proves_in_time _ _ _ _ _ _ _ _ c.run.ensures done verify bytes tells
+
+pub returns-clause-decided : goal.returns-clause-decided
+returns-clause-decided g c = λ thirteen verify contents tells. decides _ _ _ _ _ _ _ _ c.run.ensures thirteen verify contents tells
 
 pub returns-clause-safe : goal.returns-clause-safe
 returns-clause-safe g c = λ done asked is contents tells. printed_safe _ _ _ _ _ _ _ _ c.run.ensures done asked is contents tells

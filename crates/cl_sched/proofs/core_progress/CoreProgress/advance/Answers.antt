@@ -1,9 +1,16 @@
 use Rattle.std.proofs.Common.{◌≡◌, ◌+◌, ◌-◌, None, sym, arith}
 use Rattle.cl_runs.specs.SystemOf.{system_of}
 use Rattle.cl_runs.proofs.ModelSystem.{count_is}
-use Rattle.cl_sched.proofs.Advanced.{is_within, task_within, standing_there, held_alone, runs, idles, reached_idle, reached_further, reached_along}
+use Rattle.cl_sched.proofs.LawfulTables.{lawful_there}
+use Rattle.cl_sched.proofs.Advanced.{is_within, task_within, task_on, standing_there, held_alone, runs, idles, reached_idle, reached_further, reached_along}
 use Rattle.cl_sched.proofs.core_progress.CoreProgress.advance.Goals as goal
 use Rattle.cl_sched.proofs.core_progress.CoreProgress.advance.Goals.{in-Some, in_default}
+
+pub execute-requires-clause-lawful : goal.execute-requires-clause-lawful
+execute-requires-clause-lawful c =
+    let at = c.requires.underway in
+    lawful_there _ _ _ c.args.table.now
+    (sym (task_on _ _ at.core at.entries c.args.self.now at.is c.args.next c.requires.next c.in-Some.index c.in-Some.is)) at.lawful
 
 pub execute-requires-clause-task : goal.execute-requires-clause-task
 execute-requires-clause-task c =

@@ -11,6 +11,7 @@ use Rattle.cl_sched.specs.declared.progress.Progress.{Progress}
 use Rattle.cl_sched.specs.Progress.{IsHolding}
 use Rattle.cl_sched.specs.Inner.TakingTime.{TakeTime}
 use Rattle.cl_sched.specs.CoreProgress.{progress_at}
+use Rattle.cl_sched.proofs.LawfulTables.{lawful_there}
 use Rattle.cl_sched.proofs.ModelJobs.{jobs_take_time, in_lists}
 use Rattle.cl_sched.proofs.Executing.{progress_read, has_executed, some_come}
 use Rattle.cl_sched.proofs.core_progress.CoreProgress.execute.Goals as goal
@@ -24,7 +25,8 @@ pub after-moved-requires-clause-take_time : goal.after-moved-requires-clause-tak
 after-moved-requires-clause-take_time c =
     let task_is = progress_read c.args.self.now.tasks.items c.args.index c.index-task.result.now c.requires.index c.index-task.ensures in
     subst TakeTime (sym c.jobs_of-jobs.ensures)
-    (jobs_take_time c.args.model.now c.args.table.now c.requires.lawful c.index-task.result.now.task
+    (jobs_take_time c.args.model.now c.args.table.now c.index-task.result.now.task
+    (lawful_there _ _ _ c.args.table.now (ap (λ (p : Progress). (timing_at (system_of c.args.model.now) p.task).core) (sym task_is)) c.requires.lawful)
     (omega (arith, ap (λ (p : Progress). p.task) task_is, c.requires.task)) c.task.ensures.valid)
 
 pub is_holding-requires : goal.is_holding-requires
@@ -39,7 +41,9 @@ is_holding-requires c =
     let within : moved.task < length model.tasks = omega (arith, same, ap (λ (p : Progress). p.task) task_is, c.requires.task) in
     let (done, come) = some_come table c.args.ticks (progress_at tasks c.args.index) task moved c.jobs_of-jobs.result.now task_is
     c.jobs_of-jobs.ensures same c.after-moved.ensures.further c.requires.left in
-    in_lists model table c.requires.lawful moved.task within c.task.ensures.valid c.as_slice-runnables.result.now c.jobs_of-jobs.result.now done moved
+    in_lists model table moved.task
+    (lawful_there _ _ _ table (sym (ap (λ i. (timing_at (system_of model) i).core) same
+    ∙ ap (λ (p : Progress). (timing_at (system_of model) p.task).core) task_is)) c.requires.lawful) within c.task.ensures.valid c.as_slice-runnables.result.now c.jobs_of-jobs.result.now done moved
     (c.as_slice-runnables.ensures ∙ ap (λ (t : TaskDef). t.runnables) c.task.ensures.task ∙ ap (λ i. (task_at model i).runnables) (sym same))
     (c.jobs_of-jobs.ensures ∙ ap (table_jobs table) (sym same)) come
 

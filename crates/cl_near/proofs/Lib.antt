@@ -1,0 +1,4 @@
+mod MarkedCores
+pub mod AllCores
+pub mod SeenChains
+pub mod SeenTasks

@@ -1,0 +1,4 @@
+-- What only private clauses cite.
+pub mod Cores
+pub mod LongestChains
+pub mod SeenJobs

@@ -1,0 +1,4 @@
+pub mod Seen
+pub mod Plans
+pub mod RunSizes
+pub mod Inner

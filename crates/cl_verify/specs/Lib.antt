@@ -1,0 +1,4 @@
+pub mod Decisions
+pub mod KnownLengths
+pub mod VerifyText
+pub mod Witnesses

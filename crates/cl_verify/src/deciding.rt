@@ -1,0 +1,228 @@
+//! Deciding a model, task by task and requirement by requirement. Times are in ticks.
+ghost use Rattle.std.specs.Prelude.{◌≡◌, ℕ, ◌<◌, length, IfOk, IfSome};
+ghost use Rattle.cl_model.specs.declared.model.SystemModel.{SystemModel};
+ghost use Rattle.cl_model.specs.Validity.{IsValid};
+ghost use Rattle.cl_runs.specs.Requirements.{required_chain, HasLength, IsBrokenBy};
+ghost use Rattle.cl_bound.specs.Answers.{answer_at};
+ghost use Rattle.cl_analyse.specs.declared.findings.Verdict.TheVariants.{Broken, Unshown};
+ghost use Rattle.cl_analyse.specs.Verdicts.{limited_bound};
+ghost use Rattle.cl_tight.specs.Promises.{AreSafeTightFindings};
+ghost use Rattle.cl_tight.specs.TightFindings.{tight_chain_answers_of, tight_verdict_of, tight_findings_of};
+ghost use Rattle.cl_near.specs.Seen.{IsSeenOfTask};
+ghost use Rattle.cl_verify.specs.Decisions.{IsDecisionOnLate, IsDecisionOnTask, IsDecisionByRuns, IsDecisionOn, tight_bound, AreTaskDecisions, AreRequirementDecisions, AreDecisionsOf};
+ghost use Rattle.cl_verify.specs.KnownLengths.{AreRunsOf};
+
+use crate::decision::{Decision, Decisions, TaskDecision};
+use crate::runs::Runs;
+use cl_analyse::{ChainAnswer, Verdict};
+use cl_bound::{Bounds, TaskAnswer};
+use cl_model::{LengthKind, List, RequirementDef, RequirementKind, ValidModel};
+use cl_near::SeenOfTask;
+use cl_tight::TightFindings;
+use cl_time::NoMemory;
+use std::alloc::Global;
+
+/// Decides each task and each requirement of a model, by its tight findings and by runs that come
+/// near to what is found.
+///
+/// A task is met exactly where it isn't late by phases, and a requirement exactly where its bound is
+/// at most what it requires. What is broken is so in a legal run, and what is seen is so in one. A
+/// requirement is always broken where its bound is exact and too great. Runs are made in file order,
+/// those of tasks first, and for one chain and kind once; all in all they have at most
+/// `cl_near::MOST_EXECUTIONS_OF_RUNS` executions of runnables.
+///
+/// `NoMemory` comes where there is no memory for the decisions or for a run; it leaves nothing.
+pub fn decide(
+    alloc: Global,
+    model: &ValidModel,
+    findings: &TightFindings,
+) -> Result<Decisions, NoMemory>
+    requires findings { findings.now ≡ tight_findings_of model.now }
+    requires safe { AreSafeTightFindings model.now findings.now }
+    ensures { IfOk result (AreDecisionsOf model.now) }
+{
+    let mut runs = Runs::new(alloc, model)?;
+    Ok(Decisions {
+        tasks: decide_tasks(alloc, model, findings, &mut runs)?,
+        requirements: decide_requirements(alloc, model, findings, &mut runs)?,
+    })
+}
+
+/// Decides all tasks, in file order.
+fn decide_tasks(
+    alloc: Global,
+    model: &ValidModel,
+    findings: &TightFindings,
+    runs: &mut Runs,
+) -> Result<List<TaskDecision>, NoMemory>
+    requires findings { findings.now ≡ tight_findings_of model.now }
+    requires runs { AreRunsOf model.now runs.old }
+    ensures tasks { IfOk result (AreTaskDecisions model.now) }
+    ensures runs { AreRunsOf model.now runs.new }
+{
+    let mut decisions = List::with_room(alloc, model.tasks() as usize)?;
+    for task in 0..model.tasks() {
+        decisions.push(decide_task(alloc, model, findings, runs, task)?)?;
+    }
+    Ok(decisions)
+}
+
+/// Decides a task.
+fn decide_task(
+    alloc: Global,
+    model: &ValidModel,
+    findings: &TightFindings,
+    runs: &mut Runs,
+    task: u32,
+) -> Result<TaskDecision, NoMemory>
+    requires findings { findings.now ≡ tight_findings_of model.now }
+    requires task { task < length model.now.tasks }
+    requires runs { AreRunsOf model.now runs.old }
+    ensures decision { IfOk result (IsDecisionOnTask model.now task (answer_at (tight_findings_of model.now).tasks task)) }
+    ensures runs { AreRunsOf model.now runs.new }
+{
+    match &findings.tasks.as_slice()[task as usize] {
+        TaskAnswer::Settled(settled) => Ok(TaskDecision::Met {
+            response: settled.response(),
+        }),
+        TaskAnswer::Late => Ok(decision_by(runs.see_task(alloc, model, task)?)),
+    }
+}
+
+/// Returns what is decided of a late task by what its run shows.
+fn decision_by(seen: SeenOfTask) -> TaskDecision
+    ensures { (model : SystemModel) (task : ℕ) → IsSeenOfTask model task seen
+        → IsDecisionOnLate model task result }
+{
+    match seen {
+        SeenOfTask::Missed => TaskDecision::Broken,
+        SeenOfTask::Response(response) => TaskDecision::Unshown {
+            seen: Some(response),
+        },
+        SeenOfTask::Nothing => TaskDecision::Unshown { seen: None },
+    }
+}
+
+/// Decides all requirements, in file order.
+fn decide_requirements(
+    alloc: Global,
+    model: &ValidModel,
+    findings: &TightFindings,
+    runs: &mut Runs,
+) -> Result<List<Decision>, NoMemory>
+    requires findings { findings.now ≡ tight_findings_of model.now }
+    requires safe { AreSafeTightFindings model.now findings.now }
+    requires runs { AreRunsOf model.now runs.old }
+    ensures { IfOk result (AreRequirementDecisions model.now) }
+{
+    let requirements = model.plain().requirements.as_slice();
+    let mut decisions = List::with_room(alloc, requirements.len())?;
+    for place in 0..requirements.len() {
+        let verdict = findings.verdicts.as_slice()[place];
+        decisions.push(decide_requirement(
+            alloc,
+            model,
+            findings,
+            runs,
+            &requirements[place],
+            verdict,
+        )?)?;
+    }
+    Ok(decisions)
+}
+
+/// Decides a requirement of the model by the verdict of its bound.
+fn decide_requirement(
+    alloc: Global,
+    model: &ValidModel,
+    findings: &TightFindings,
+    runs: &mut Runs,
+    requirement: &RequirementDef,
+    verdict: Verdict,
+) -> Result<Decision, NoMemory>
+    requires valid { IsValid model.now }
+    requires findings { findings.now ≡ tight_findings_of model.now }
+    requires chain { required_chain model.now requirement.now < length model.now.chains }
+    requires verdict { verdict ≡ tight_verdict_of model.now (tight_chain_answers_of model.now) requirement.now }
+    requires broken { (value : ℕ) → verdict ≡ Broken value → IsBrokenBy model.now requirement.now value }
+    requires runs { AreRunsOf model.now runs.old }
+    ensures decision { IfOk result (IsDecisionOn model.now requirement.now verdict) }
+    ensures runs { AreRunsOf model.now runs.new }
+{
+    match verdict {
+        Verdict::Met { value } => Ok(Decision::Met { bound: value }),
+        Verdict::Broken { value } => Ok(Decision::Broken {
+            bound: value,
+            seen: value,
+        }),
+        Verdict::Unshown { .. } => decide_by_runs(alloc, model, findings, runs, requirement),
+    }
+}
+
+/// Returns the bound on what a requirement of this kind limits.
+fn limited_bound(bounds: &Bounds, kind: RequirementKind) -> u64
+    ensures { result ≡ limited_bound kind bounds.now }
+{
+    match kind {
+        RequirementKind::Length(LengthKind::Reaction) => bounds.reaction(),
+        RequirementKind::Length(LengthKind::Age) => bounds.age(),
+        RequirementKind::Length(LengthKind::Reduced) => bounds.reduced(),
+        RequirementKind::Delay => bounds.delay(),
+    }
+}
+
+/// Returns what is decided of a requirement that isn't met by its bound, by the length that runs
+/// show, if they show one.
+fn decision_by_length(requirement: &RequirementDef, bound: u64, seen: Option<u64>) -> Decision
+    ensures { (model : SystemModel)
+        → IfSome seen (HasLength model (required_chain model requirement.now) requirement.now.kind)
+        → IsDecisionByRuns model requirement.now bound result }
+{
+    match seen {
+        Some(length) => {
+            if length > requirement.most {
+                Decision::Broken {
+                    bound,
+                    seen: length,
+                }
+            } else {
+                Decision::Unshown { bound, seen }
+            }
+        }
+        None => Decision::Unshown { bound, seen: None },
+    }
+}
+
+/// Decides a requirement whose bound shows nothing, by what runs show.
+fn decide_by_runs(
+    alloc: Global,
+    model: &ValidModel,
+    findings: &TightFindings,
+    runs: &mut Runs,
+    requirement: &RequirementDef,
+) -> Result<Decision, NoMemory>
+    requires valid { IsValid model.now }
+    requires findings { findings.now ≡ tight_findings_of model.now }
+    requires chain { required_chain model.now requirement.now < length model.now.chains }
+    requires runs { AreRunsOf model.now runs.old }
+    ensures decision { IfOk result (IsDecisionOn model.now requirement.now
+        (Unshown (tight_bound model.now requirement.now))) }
+    ensures runs { AreRunsOf model.now runs.new }
+{
+    let chain = model.chain_named(&requirement.chain).unwrap_or(0);
+    match &findings.chains.as_slice()[chain as usize] {
+        ChainAnswer::Late { task } => Ok(Decision::Late { task: *task }),
+        ChainAnswer::Bounds(bounds) => {
+            let bound = limited_bound(bounds, requirement.kind);
+            let seen = runs.see_chain(
+                alloc,
+                model,
+                &findings.tasks,
+                chain,
+                requirement.kind,
+                bound,
+            )?;
+            Ok(decision_by_length(requirement, bound, seen))
+        }
+    }
+}

@@ -1,0 +1,19 @@
+//! What is decided of each task and each requirement of a model: met, which holds in every legal
+//! run, broken, which a legal run shows, or unshown, with how far a run came. And the text of it.
+//!
+//! Times are in ticks.
+#![tactic(auto)]
+
+mod deciding;
+mod decision;
+mod known_lengths;
+pub mod laws;
+mod lines;
+mod runs;
+mod text;
+mod witness;
+
+pub use deciding::decide;
+pub use decision::{Decision, Decisions, TaskDecision};
+pub use text::verify_text;
+pub use witness::{Witness, witness_of_chain, witness_of_task};
