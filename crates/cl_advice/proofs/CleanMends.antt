@@ -26,7 +26,7 @@ use Rattle.cl_advice.specs.declared.want.Want.{Want}
 use Rattle.cl_advice.specs.declared.want.Want.TheVariants as want
 use Rattle.cl_advice.specs.Shown.{is_printed, shown}
 use Rattle.cl_advice.specs.Sites.{entry_in, runnable_around, value_in}
-use Rattle.cl_advice.specs.Keys.{is_among, unknown_key, refused_key, refused_value}
+use Rattle.cl_advice.specs.Keys.{is_listed, unknown_key, refused_key, refused_value}
 use Rattle.cl_advice.specs.Entry.{entry_line, runnable_line}
 use Rattle.cl_advice.specs.Found.{key_line, found_line}
 use Rattle.cl_advice.specs.Wanted.{want_at, wanted_line}
@@ -43,13 +43,13 @@ one_of_two = printed_chosen
 
 printed_part_key : (p : Part) (word : List ℕ) → Printed (part_key_mend p word)
 printed_part_key part.Top word = one_of_two (bytes_eq (key_text key.Runnable) word) _ _ refl refl
-printed_part_key part.Task word = one_of_two (is_among (keys_of runnable_fields) word) _ _ refl refl
+printed_part_key part.Task word = one_of_two (is_listed (keys_of runnable_fields) word) _ _ refl refl
 printed_part_key _ word = refl
 
 printed_unknown : (place : Place) (word : List ℕ) → Printed (unknown_mend place word)
 printed_unknown place word =
     printed_chosen (is_some place.sub) (runnable_key_mend word) (part_key_mend place.part word)
-    (one_of_two (is_among (keys_of task_fields) word) _ _ refl refl) (printed_part_key place.part word)
+    (one_of_two (is_listed (keys_of task_fields) word) _ _ refl refl) (printed_part_key place.part word)
 
 printed_section : (p : Part) → Printed (section_mend p)
 printed_section part.Top = refl

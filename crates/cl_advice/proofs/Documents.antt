@@ -11,11 +11,11 @@ use Rattle.toml.specs.declared.value.Value.{Value}
 use Rattle.toml.specs.View.{items_view, members_view}
 use Rattle.cl_model.specs.Reading.Checks.{members_of}
 use Rattle.cl_model.specs.declared.place.Key.{Key}
-use Rattle.cl_advice.specs.Keys.{is_among, unknown_among}
+use Rattle.cl_advice.specs.Keys.{is_listed, unknown_among}
 
 -- whether a word is none of the keys
 abbrev pub is_other : List Key → String Global → Bool
-is_other keys word = not (is_among keys (string_bytes word))
+is_other keys word = not (is_listed keys (string_bytes word))
 
 chosen : (b : Bool) (word : String Global) (rest : Option (List ℕ)) (found : Option (String Global)) → rest ≡ option_map string_bytes found
     → cond b rest (Some (string_bytes word)) ≡ option_map string_bytes (cond (not b) (Some word) found)
@@ -24,7 +24,7 @@ chosen false word rest found is = refl
 
 pub unknown_word : (keys : List Key) (es : List (String Global × Value)) → unknown_among keys (members_view es) ≡ option_map string_bytes (find (is_other keys) (map (λ e. e.0) es))
 unknown_word keys [] = refl
-unknown_word keys (e ∷ es) = chosen (is_among keys (string_bytes e.0)) e.0 (unknown_among keys (members_view es)) (find (is_other keys) (map (λ e. e.0) es)) (unknown_word keys es)
+unknown_word keys (e ∷ es) = chosen (is_listed keys (string_bytes e.0)) e.0 (unknown_among keys (members_view es)) (find (is_other keys) (map (λ e. e.0) es)) (unknown_word keys es)
 
 -- an array has as many members as it has items
 pub count_items : (vs : List Value) → length (members_of (items_view vs)) ≡ length vs

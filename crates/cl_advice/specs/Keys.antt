@@ -38,13 +38,13 @@ abbrev pub known_keys : (version : ℕ) → Place → Members → List Key
 known_keys version place ms = if is_some place.sub then keys_of runnable_fields else part_keys version place.part ms
 
 -- whether a word is one of the keys
-abbrev pub is_among : List Key → List ℕ → Bool
-is_among keys word = list_any (λ key. bytes_eq (key_text key) word) keys
+abbrev pub is_listed : List Key → List ℕ → Bool
+is_listed keys word = list_any (λ key. bytes_eq (key_text key) word) keys
 
 -- the first key of a table that is none of these
 abbrev pub unknown_among : List Key → Members → Option (List ℕ)
 unknown_among keys no_members = None
-unknown_among keys (member word d ms) = if is_among keys word then unknown_among keys ms else Some word
+unknown_among keys (member word d ms) = if is_listed keys word then unknown_among keys ms else Some word
 
 -- the first key of the table around a place that the reader doesn't know there
 abbrev pub unknown_key : Members → Place → Option (List ℕ)

@@ -19,7 +19,7 @@ use Rattle.cl_model.specs.Reading.Tables.{task_fields, runnable_fields}
 use Rattle.cl_advice.specs.declared.want.Want.{Want}
 use Rattle.cl_advice.specs.declared.want.Want.TheVariants as want
 use Rattle.cl_advice.specs.Sites.{value_in}
-use Rattle.cl_advice.specs.Keys.{is_among, unknown_key}
+use Rattle.cl_advice.specs.Keys.{is_listed, unknown_key}
 use Rattle.cl_advice.specs.Wanted.{want_at}
 
 -- ---- an unknown key
@@ -27,12 +27,12 @@ use Rattle.cl_advice.specs.Wanted.{want_at}
 -- of a runnable, where a task may have the key
 abbrev pub runnable_key_mend : List ℕ → List ℕ
 runnable_key_mend word =
-    if is_among (keys_of task_fields) word then codes "keys of a task stand before its [[task.runnable]]" else codes "take the key out, or write one of these"
+    if is_listed (keys_of task_fields) word then codes "keys of a task stand before its [[task.runnable]]" else codes "take the key out, or write one of these"
 
 -- of a task, where a runnable may have the key
 abbrev pub task_key_mend : List ℕ → List ℕ
 task_key_mend word =
-    if is_among (keys_of runnable_fields) word then codes "keys of a runnable stand in its [[task.runnable]]" else codes "take the key out, or write one of these"
+    if is_listed (keys_of runnable_fields) word then codes "keys of a runnable stand in its [[task.runnable]]" else codes "take the key out, or write one of these"
 
 -- at the top, where it is that of the runnables of a task
 abbrev pub top_key_mend : List ℕ → List ℕ

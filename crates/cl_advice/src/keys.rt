@@ -9,7 +9,7 @@ ghost use Rattle.cl_model.specs.Place.{key_text};
 ghost use Rattle.cl_model.specs.Reading.{top_keys, version_in};
 ghost use Rattle.cl_model.specs.Reading.Checks.{keys_of, meaning_of};
 ghost use Rattle.cl_model.specs.Reading.Tables.{stimulus_forms, task_fields, runnable_fields};
-ghost use Rattle.cl_advice.specs.Keys.{form_keys, part_keys, known_keys, is_among, unknown_among, unknown_key, unknown_value, refused_key, refused_value};
+ghost use Rattle.cl_advice.specs.Keys.{form_keys, part_keys, known_keys, is_listed, unknown_among, unknown_key, unknown_value, refused_key, refused_value};
 
 use crate::sites::{table_around, value_at, value_in};
 use cl_model::{Code, Key, Part, Place, Refusal};
@@ -126,8 +126,8 @@ pub(crate) fn known_keys(version: u64, place: Place, table: &Table) -> &'static 
 }
 
 /// Whether a word is one of the keys.
-pub(crate) fn is_among(keys: &[Key], word: &str) -> bool
-    ensures { result ≡ is_among keys.now word.now }
+pub(crate) fn is_listed(keys: &[Key], word: &str) -> bool
+    ensures { result ≡ is_listed keys.now word.now }
 {
     keys.iter().any(|key| key.word() == word)
 }
@@ -135,9 +135,9 @@ pub(crate) fn is_among(keys: &[Key], word: &str) -> bool
 /// Finds the first key of a table that is none of these, as the table has it.
 fn other_word<'a>(keys: &[Key], table: &'a Table) -> Option<&'a String>
     ensures { option_copied result
-        ≡ find (λ word. not (is_among keys.now (string_bytes word))) (words_in table.now) }
+        ≡ find (λ word. not (is_listed keys.now (string_bytes word))) (words_in table.now) }
 {
-    table.keys().find(|word| !is_among(keys, word.as_str()))
+    table.keys().find(|word| !is_listed(keys, word.as_str()))
 }
 
 /// Finds the first key of a table that is none of these.

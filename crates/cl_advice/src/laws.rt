@@ -15,7 +15,7 @@ ghost use Rattle.cl_model.specs.Reading.Tables.{core_fields, stimulus_fields, pe
 ghost use Rattle.cl_advice.specs.declared.shown.TheConstants.{MOST_SHOWN, MOST_QUOTED};
 ghost use Rattle.cl_advice.specs.declared.want.Want.TheVariants as want;
 ghost use Rattle.cl_advice.specs.Shown.{is_printable, is_printed, shown_byte, shown, quoted};
-ghost use Rattle.cl_advice.specs.Keys.{is_among, unknown_among};
+ghost use Rattle.cl_advice.specs.Keys.{is_listed, unknown_among};
 ghost use Rattle.cl_advice.specs.Wanted.{section_want};
 ghost use Rattle.cl_advice.specs.WantsOfFields.{AsksByCheck};
 ghost use Rattle.cl_advice.specs.With.{rival_of, writer_of};
@@ -53,7 +53,7 @@ pub fn advice_is_clean()
 pub fn unknown_keys_are_found()
     ensures { (keys : List Key) (ms : Members) → has_only keys ms ≡ false →
         IsSomeAnd (unknown_among keys ms)
-        (λ word. (is_among keys word ≡ false) × IsSome (get_member word ms)) }
+        (λ word. (is_listed keys word ≡ false) × IsSome (get_member word ms)) }
 {}
 
 /// Where M31 or M40 refuses, the task or the runnable that an advice names as the other one comes

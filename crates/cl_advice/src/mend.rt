@@ -6,7 +6,7 @@ ghost use Rattle.cl_model.specs.declared.refusal.Code.TheVariants.{M4};
 ghost use Rattle.cl_model.specs.Reading.{version_in};
 ghost use Rattle.cl_advice.specs.Sites.{value_in};
 
-use crate::keys::{is_among, runnable_keys, task_keys, unknown_key, version_in};
+use crate::keys::{is_listed, runnable_keys, task_keys, unknown_key, version_in};
 use crate::sites::value_in;
 use crate::want::Want;
 use cl_model::{Code, Key, Part, Place, Refusal};
@@ -18,7 +18,7 @@ use toml::{Table, Value};
 fn runnable_key(word: &str) -> &'static [u8]
     ensures { result.now ≡ runnable_key_mend word.now }
 {
-    if is_among(task_keys(), word) {
+    if is_listed(task_keys(), word) {
         b"keys of a task stand before its [[task.runnable]]"
     } else {
         b"take the key out, or write one of these"
@@ -29,7 +29,7 @@ fn runnable_key(word: &str) -> &'static [u8]
 fn task_key(word: &str) -> &'static [u8]
     ensures { result.now ≡ task_key_mend word.now }
 {
-    if is_among(runnable_keys(), word) {
+    if is_listed(runnable_keys(), word) {
         b"keys of a runnable stand in its [[task.runnable]]"
     } else {
         b"take the key out, or write one of these"

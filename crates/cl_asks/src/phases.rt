@@ -154,10 +154,6 @@ fn put_worst(
         (response_by_phase (system_of model.now) task) ≡ response }
 {
     put_task(text, model, task)?;
-    match worst_window(alloc, model, task, response)? {
-        Some(WorstWindow { arrival, start }) => {
-            text.put(format!(in alloc; " worst {arrival} from {start}\n")?.as_bytes())
-        }
-        None => text.put(b" worst none\n"),
-    }
+    let WorstWindow { arrival, start } = worst_window(alloc, model, task, response)?;
+    text.put(format!(in alloc; " worst {arrival} from {start}\n")?.as_bytes())
 }

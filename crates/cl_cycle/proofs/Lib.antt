@@ -10,3 +10,4 @@ pub mod CountedJobs
 pub mod CountedMost
 pub mod CountedTicks
 pub mod CountedTurns
+pub mod SameCycles

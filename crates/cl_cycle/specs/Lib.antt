@@ -1,3 +1,4 @@
+pub mod DifferingRunnables
 pub mod Counts
 pub mod Cycles
 pub mod Promises

@@ -6,6 +6,8 @@ use Rattle.std.proofs.lemmas.Bool.{eqb-true, eq-eqb, false≢true}
 use Rattle.std.proofs.lemmas.List.FromFn.{length-map-range_with_len, get_or-map-range_with_len}
 use Rattle.cl_model.specs.declared.model.SystemModel.{SystemModel}
 use Rattle.cl_model.specs.declared.chain.ChainDef.{ChainDef}
+use Rattle.cl_model.specs.declared.chain.LengthKind.TheVariants.{Reaction}
+use Rattle.cl_model.specs.declared.chain.RequirementKind.TheVariants.{Length}
 use Rattle.cl_model.specs.declared.group.Group.{Group}
 use Rattle.cl_model.specs.Groups.{groups_of, groups_at}
 use Rattle.cl_model.specs.ByNumber.{chain_at}
@@ -17,7 +19,7 @@ use Rattle.cl_phase.specs.declared.stop.Stop.{Stop}
 use Rattle.cl_phase.specs.Pace.{previous}
 use Rattle.cl_tight.specs.TightTimings.{tight_timing}
 use Rattle.cl_phase.specs.Walks.{pace_at, last_place, onward, back}
-use Rattle.cl_phase.specs.TightBounds.{stops_of, span_of, slowest, hyperperiod_in, starts, ticks_or_none, length_from, bounds_from, tight_bounds}
+use Rattle.cl_phase.specs.TightBounds.{stops_of, span_of, last_write, slowest, hyperperiod_in, starts, ticks_or_none, length_from, bounds_from, tight_bounds}
 use Rattle.cl_phase.specs.Walked.{start_among, walk_start, missed, taken, walked_of}
 use Rattle.cl_analyse.specs.declared.findings.ChainAnswer.TheVariants.{Bounds}
 use Rattle.cl_analyse.specs.ChainAnswers.{chain_answer}
@@ -55,10 +57,10 @@ long_as (negsuc n) r some is = absurd (omega (arith, some, is))
 
 -- ---- the walk
 
-module _ (stops : List Stop) (span : ℤ) (place reaction : ℕ) (some : 1 ≤ reaction)
+module _ (stops : List Stop) (span : ℤ) (write place reaction : ℕ) (some : 1 ≤ reaction)
     (is : greatest_by (λ arrival. ticks_or_none (length_from stops span place (pos arrival))) (starts (pace_at stops place) (hyperperiod_in stops)) ≡ reaction) where
   abbrev start : ℤ
-  start = pos (walk_start stops span place reaction)
+  start = pos (walk_start (Length Reaction) stops span write place reaction)
 
   start_lasts : length_from stops span place start ≡ pos reaction
   unfolding start_among
@@ -115,7 +117,7 @@ shown : (system : System) (groups : List Group) (reaction : ℕ) → (tight_boun
 unfolding tight_bounds bounds_from walked_of
 shown system groups reaction is some =
     let stops = stops_of system (tight_timing system) groups in
-    walk_lasts stops (span_of (tight_timing system) groups) (slowest stops) reaction some is
+    walk_lasts stops (span_of (tight_timing system) groups) (last_write (tight_timing system) groups) (slowest stops) reaction some is
 
 pub shows_walk : (model : SystemModel) → IsValid model → (chain : ℕ) (bounds : Lengths) → chain < length model.chains
     → tight_chain_answer_of model (chain_at model chain) ≡ Bounds bounds

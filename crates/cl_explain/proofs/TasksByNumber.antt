@@ -8,7 +8,7 @@ use Rattle.cl_model.specs.declared.stimulus.StimulusKind.{StimulusKind}
 use Rattle.cl_model.specs.ByNumber.{task_at, core_of, stimulus_of, time_of}
 use Rattle.cl_runs.specs.TaskTiming.{Timing, timing_at}
 use Rattle.cl_runs.specs.SystemOf.{timing_of, system_of}
-use Rattle.cl_runs.specs.Priorities.{is_above, may_block}
+use Rattle.cl_runs.specs.Priorities.{is_above, may_block, is_below}
 use Rattle.cl_runs.proofs.ModelSystem.{timing_is}
 use Rattle.cl_stim.specs.AnyStimulus.{kind_of, as_stimulus}
 use Rattle.cl_stim.specs.Releases.{most_releases}
@@ -37,6 +37,12 @@ module _ (model : SystemModel) (task other : ℕ) (h : task < length model.tasks
       ap (λ (t : Timing). may_block t (timing_at (system_of model) other)) (timing_is model task h)
       ∙ ap (may_block (timing_of model (task_at model task))) (timing_is model other k)
 
+  below_is : is_below (timing_at (system_of model) task) (timing_at (system_of model) other)
+      ≡ ((core_of model other == core_of model task) && nat_lt (task_at model other).priority (task_at model task).priority)
+  below_is =
+      ap (λ (t : Timing). is_below t (timing_at (system_of model) other)) (timing_is model task h)
+      ∙ ap (is_below (timing_of model (task_at model task))) (timing_is model other k)
+
   module _ (there here : ℕ) (at_there : there ≡ core_of model other) (at_here : here ≡ core_of model task) where
     -- on one core
     pub above_here : (own higher : TaskDef) → there ≡ here → own ≡ task_at model task → higher ≡ task_at model other
@@ -51,6 +57,12 @@ module _ (model : SystemModel) (task other : ℕ) (h : task < length model.tasks
         ap (λ (t : TaskDef). nat_le lower.priority t.priority) a ∙ ap (λ (t : TaskDef). nat_le t.priority (task_at model task).priority) b
         ∙ and_same (core_of model other) (core_of model task) _ (sym at_there ∙ same ∙ at_here) ∙ sym block_is
 
+    pub below_here : (own lower : TaskDef) → there ≡ here → own ≡ task_at model task → lower ≡ task_at model other
+        → nat_lt lower.priority own.priority ≡ is_below (timing_at (system_of model) task) (timing_at (system_of model) other)
+    below_here own lower same a b =
+        ap (λ (t : TaskDef). nat_lt lower.priority t.priority) a ∙ ap (λ (t : TaskDef). nat_lt t.priority (task_at model task).priority) b
+        ∙ and_same (core_of model other) (core_of model task) _ (sym at_there ∙ same ∙ at_here) ∙ sym below_is
+
     same_test : (there == here) ≡ (core_of model other == core_of model task)
     same_test = ap (λ n. n == here) at_there ∙ ap (λ n. core_of model other == n) at_here
 
@@ -63,6 +75,9 @@ module _ (model : SystemModel) (task other : ℕ) (h : task < length model.tasks
 
     pub block_apart : (there ≡ here → ⊥) → (there == here) ≡ may_block (timing_at (system_of model) task) (timing_at (system_of model) other)
     block_apart apart = same_test ∙ and_apart (core_of model other) (core_of model task) _ (apart_there apart) ∙ sym block_is
+
+    pub below_apart : (there ≡ here → ⊥) → (there == here) ≡ is_below (timing_at (system_of model) task) (timing_at (system_of model) other)
+    below_apart apart = same_test ∙ and_apart (core_of model other) (core_of model task) _ (apart_there apart) ∙ sym below_is
 
 module _ (model : SystemModel) (other : ℕ) (k : other < length model.tasks) where
   -- the most jobs of a task in a window

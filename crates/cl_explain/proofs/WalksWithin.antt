@@ -4,6 +4,8 @@ use Rattle.std.proofs.lemmas.List.{append_assoc}
 use Rattle.std.proofs.lemmas.List.FromFn.{length-map-range_with_len}
 use Rattle.cl_model.specs.declared.model.SystemModel.{SystemModel}
 use Rattle.cl_model.specs.declared.limits.TheConstants.{MOST_STEPS}
+use Rattle.cl_model.specs.declared.chain.LengthKind.TheVariants.{Reaction}
+use Rattle.cl_model.specs.declared.chain.RequirementKind.TheVariants.{Length}
 use Rattle.cl_model.specs.declared.group.Group.{Group}
 use Rattle.cl_bound.specs.declared.group_timing.GroupTiming.{GroupTiming}
 use Rattle.cl_model.specs.Groups.{groups_at}
@@ -14,7 +16,7 @@ use Rattle.cl_phase.specs.declared.walked.Walked.{Walked}
 use Rattle.cl_phase.specs.Pace.{previous}
 use Rattle.cl_tight.specs.TightTimings.{tight_timing}
 use Rattle.cl_phase.specs.Walks.{pace_at, last_place, onward, back}
-use Rattle.cl_phase.specs.TightBounds.{stops_of, span_of, slowest}
+use Rattle.cl_phase.specs.TightBounds.{stops_of, span_of, last_write, slowest}
 use Rattle.cl_phase.specs.Walked.{walk_start, missed, taken, walked_of}
 use Rattle.cl_explain.specs.Explanation.{arrival_lines, walk_lines}
 use Rattle.cl_phase.proofs.SlowestFacts.{slowest_within}
@@ -44,7 +46,7 @@ module _ (model : SystemModel) (valid : IsValid model) (chain : ℕ) (h : chain 
       let groups = groups_at model chain in
       let stops = stops_of system (tight_timing system) groups in
       let place = slowest stops in
-      let start = pos (walk_start stops (span_of (tight_timing system) groups) place reaction) in
+      let start = pos (walk_start (Length Reaction) stops (span_of (tight_timing system) groups) (last_write (tight_timing system) groups) place reaction) in
       let count : length stops ≡ length groups = length_stops system (tight_timing system) groups [] in
       let some = groups_at_some model valid chain h in
       let within : place < length stops = slowest_within stops (omega (arith, count, some)) in

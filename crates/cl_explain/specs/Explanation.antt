@@ -43,12 +43,15 @@ task_of_group model chain place = (task_at model (group_at (groups_at model chai
 abbrev pub timing_of_group : SystemModel → (chain place : ℕ) → GroupTiming
 timing_of_group model chain place = settled_timing (system_of model) (group_at (groups_at model chain) place)
 
--- the line of a group: its greatest distance between arrivals, its earliest read and its latest write after one
+-- what is known of a group: its greatest distance between arrivals, its earliest read and its latest write after one
+unfoldable pub group_words : SystemModel → (chain place : ℕ) → GroupTiming → List ℕ
+group_words model chain place timing =
+    codes "group " ++ (chain_at model chain).name ++ codes " " ++ task_of_group model chain place
+    ++ codes " distance " ++ decimal timing.distance ++ codes " read " ++ decimal timing.read ++ codes " write " ++ decimal timing.write
+
+-- the line of a group
 unfoldable pub group_line : SystemModel → (chain place : ℕ) → List ℕ
-group_line model chain place =
-    let timing = timing_of_group model chain place in
-    line (codes "group " ++ (chain_at model chain).name ++ codes " " ++ task_of_group model chain place
-    ++ codes " distance " ++ decimal timing.distance ++ codes " read " ++ decimal timing.read ++ codes " write " ++ decimal timing.write)
+group_line model chain place = line (group_words model chain place (timing_of_group model chain place))
 
 -- how a hop is bounded
 abbrev pub hop_word : (writer reader : GroupTiming) → List ℕ
@@ -57,17 +60,23 @@ hop_word writer reader =
     else if saves writer reader then codes "saves"
     else codes "plain"
 
--- what a line says of a hop
+-- from which group to which a hop is, and how it is bounded
+unfoldable pub hop_head : SystemModel → (chain place : ℕ) → (writer reader : GroupTiming) → List ℕ
+hop_head model chain place writer reader =
+    codes "hop " ++ (chain_at model chain).name ++ codes " " ++ task_of_group model chain place ++ codes " " ++ task_of_group model chain (place + 1)
+    ++ codes " " ++ hop_word writer reader
+
+-- what a line says of the bounds of a hop
 unfoldable pub hop_words : (writer reader : GroupTiming) → List ℕ
 hop_words writer reader =
-    codes " " ++ hop_word writer reader ++ codes " forward " ++ signed_decimal (forward_hop writer reader)
-    ++ codes " backward " ++ signed_decimal (backward_hop writer reader)
+    codes " forward " ++ signed_decimal (forward_hop writer reader) ++ codes " backward " ++ signed_decimal (backward_hop writer reader)
 
 -- the line of the hop from the group of a place to the next
 unfoldable pub hop_line : SystemModel → (chain place : ℕ) → List ℕ
 hop_line model chain place =
-    line (codes "hop " ++ (chain_at model chain).name ++ codes " " ++ task_of_group model chain place ++ codes " " ++ task_of_group model chain (place + 1)
-    ++ hop_words (timing_of_group model chain place) (timing_of_group model chain (place + 1)))
+    let writer = timing_of_group model chain place in
+    let reader = timing_of_group model chain (place + 1) in
+    line (hop_head model chain place writer reader ++ hop_words writer reader)
 
 -- the lines of the groups of a chain, with those of the hops between them
 unfoldable pub group_lines : SystemModel → (chain : ℕ) → List ℕ
@@ -82,10 +91,14 @@ lines_where_bounded model chain (Late task) = []
 
 -- ---- tight bounds
 
--- a line of a group and the arrival of one of its jobs
-unfoldable pub arrival_line : (word : List ℕ) → SystemModel → (chain place : ℕ) → ℤ → List ℕ
-arrival_line word model chain place arrival =
-    line (word ++ (chain_at model chain).name ++ codes " " ++ task_of_group model chain place ++ codes " arrival " ++ signed_decimal arrival)
+-- a group and the arrival of one of its jobs
+unfoldable pub arrival_words : (word : List ℕ) → SystemModel → (chain place : ℕ) → ℤ → List ℕ
+arrival_words word model chain place arrival =
+    word ++ (chain_at model chain).name ++ codes " " ++ task_of_group model chain place ++ codes " arrival " ++ signed_decimal arrival
+
+-- the line of such
+abbrev pub arrival_line : (word : List ℕ) → SystemModel → (chain place : ℕ) → ℤ → List ℕ
+arrival_line word model chain place arrival = line (arrival_words word model chain place arrival)
 
 -- the lines of arrivals of groups from a place on
 abbrev pub arrival_lines : (word : List ℕ) → SystemModel → (chain from : ℕ) → (arrivals : List ℤ) → List ℕ

@@ -8,8 +8,10 @@ use Rattle.cl_model.specs.Holds.{runnable_hold}
 use Rattle.cl_model.specs.ByNumber.{task_at}
 use Rattle.cl_runs.specs.TaskTiming.{Timing, timing_at}
 use Rattle.cl_runs.specs.SystemOf.{system_of}
-use Rattle.cl_runs.specs.Priorities.{is_above, may_block}
+use Rattle.cl_runs.specs.Priorities.{is_above, may_block, is_below}
 use Rattle.cl_stim.specs.Releases.{most_releases}
+use Rattle.cl_resp.specs.declared.question.Block.{Block}
+use Rattle.cl_resp.specs.declared.question.Block.TheVariants.{OfLower, WithOwn}
 use Rattle.cl_resp.specs.declared.question.Question.{Question}
 use Rattle.cl_resp.specs.Question.{greatest_execution, question_of}
 use Rattle.cl_resp.specs.Response.{demand}
@@ -33,19 +35,24 @@ time_above width other = jobs_above width other * greatest_execution other
 abbrev pub blocks_so_long : (block : ℕ) → RunnableDef → Bool
 blocks_so_long block runnable = runnable_hold runnable == block
 
-abbrev pub runnables_of_blocker : SystemModel → (task other : ℕ) → List RunnableDef
-runnables_of_blocker model task other =
-    cond (may_block (timing_at (system_of model) task) (timing_at (system_of model) other)) (task_at model other).runnables []
+-- whether the other task may block a task so: with its own runnables, or of lower tasks alone
+abbrev pub may_block_by : (blocking : Block) → Timing → (other : Timing) → Bool
+may_block_by OfLower task other = is_below task other
+may_block_by WithOwn task other = may_block task other
 
-abbrev pub all_blockers : SystemModel → (task : ℕ) → List RunnableDef
-all_blockers model task = flat_map (runnables_of_blocker model task) (range_with_len 0 (length model.tasks))
+abbrev pub runnables_of_blocker : (blocking : Block) → SystemModel → (task other : ℕ) → List RunnableDef
+runnables_of_blocker blocking model task other =
+    cond (may_block_by blocking (timing_at (system_of model) task) (timing_at (system_of model) other)) (task_at model other).runnables []
+
+abbrev pub all_blockers : (blocking : Block) → SystemModel → (task : ℕ) → List RunnableDef
+all_blockers blocking model task = flat_map (runnables_of_blocker blocking model task) (range_with_len 0 (length model.tasks))
 
 abbrev pub blocker_name : Option RunnableDef → List ℕ
 blocker_name None = []
 blocker_name (Some runnable) = runnable.name
 
-unfoldable pub blocker_of : SystemModel → (task block : ℕ) → List ℕ
-blocker_of model task block = blocker_name (find (blocks_so_long block) (all_blockers model task))
+unfoldable pub blocker_of : (blocking : Block) → SystemModel → (task block : ℕ) → List ℕ
+blocker_of blocking model task block = blocker_name (find (blocks_so_long block) (all_blockers blocking model task))
 
 -- ---- lines
 
@@ -62,7 +69,7 @@ jitter_part model task jitter = where_some jitter (part_line model task (codes "
 
 abbrev pub block_part : SystemModel → (task block : ℕ) → List ℕ
 block_part model task block =
-    where_some block (part_line model task (codes " block " ++ decimal block ++ codes " by " ++ blocker_of model task block))
+    where_some block (part_line model task (codes " block " ++ decimal block ++ codes " by " ++ blocker_of WithOwn model task block))
 
 abbrev pub own_part : SystemModel → (task time : ℕ) → List ℕ
 own_part model task time = where_some time (part_line model task (codes " own " ++ decimal time))

@@ -3,7 +3,7 @@ ghost use Rattle.std.specs.Prelude.{◌≡◌, ◌+◌, ◌<◌, ◌++◌, lengt
 ghost use Rattle.cl_model.specs.Groups.{groups_at};
 ghost use Rattle.cl_runs.specs.SystemOf.{system_of};
 ghost use Rattle.cl_bound.specs.Answers.{answers_of, NoneIsLate};
-ghost use Rattle.cl_explain.specs.Explanation.{task_of_group, timing_of_group, hop_word, hop_words, group_line, hop_line, group_lines};
+ghost use Rattle.cl_explain.specs.Explanation.{task_of_group, timing_of_group, hop_word, hop_words, hop_head, group_words, group_line, hop_line, group_lines};
 
 use crate::numbers::put_signed;
 use cl_bound::{GroupTiming, TaskAnswer, timing_of};
@@ -37,8 +37,32 @@ pub(crate) fn put_task_of_group(
     put_task_name(text, model, model.group(chain, place).task)
 }
 
-/// Puts the line of the group at a place of a chain: its greatest distance between arrivals, its
-/// earliest read and its latest write.
+/// Puts what is known of the group at a place of a chain: its greatest distance between arrivals,
+/// its earliest read and its latest write. After `NoMemory` the text ends with a prefix of it.
+pub fn put_group_words(
+    text: &mut Text,
+    model: &ValidModel,
+    chain: u32,
+    place: u32,
+    timing: &GroupTiming,
+) -> Result<(), NoMemory>
+    requires chain { chain < length model.now.chains }
+    requires place { place < length (groups_at model.now chain) }
+    ensures { OnOk result (text.new ≡ text.old ++ group_words model.now chain place timing.now) }
+{
+    text.put(b"group ")?;
+    put_chain_name(text, model, chain)?;
+    text.put(b" ")?;
+    put_task_of_group(text, model, chain, place)?;
+    text.put(b" distance ")?;
+    text.put_number(timing.distance())?;
+    text.put(b" read ")?;
+    text.put_number(timing.read())?;
+    text.put(b" write ")?;
+    text.put_number(timing.write())
+}
+
+/// Puts the line of the group at a place of a chain.
 fn put_group(
     text: &mut Text,
     model: &ValidModel,
@@ -53,16 +77,7 @@ fn put_group(
     ensures { OnOk result (text.new ≡ text.old ++ group_line model.now chain place) }
 {
     let timing = timing_at(model, chain, place, settled);
-    text.put(b"group ")?;
-    put_chain_name(text, model, chain)?;
-    text.put(b" ")?;
-    put_task_of_group(text, model, chain, place)?;
-    text.put(b" distance ")?;
-    text.put_number(timing.distance())?;
-    text.put(b" read ")?;
-    text.put_number(timing.read())?;
-    text.put(b" write ")?;
-    text.put_number(timing.write())?;
+    put_group_words(text, model, chain, place, &timing)?;
     text.put(b"\n")
 }
 
@@ -80,7 +95,33 @@ fn hop_word(writer: &GroupTiming, reader: &GroupTiming) -> &'static [u8]
     }
 }
 
-/// Puts the word of a hop, and the hop in the forward and in the backward direction, in ticks.
+/// Puts between which groups of a chain a hop is, and the word for how it is bounded. After
+/// `NoMemory` the text ends with a prefix of it.
+pub fn put_hop_head(
+    text: &mut Text,
+    model: &ValidModel,
+    chain: u32,
+    place: u32,
+    next: u32,
+    writer: &GroupTiming,
+    reader: &GroupTiming,
+) -> Result<(), NoMemory>
+    requires chain { chain < length model.now.chains }
+    requires place { next ≡ place + 1 }
+    requires next { next < length (groups_at model.now chain) }
+    ensures { OnOk result (text.new ≡ text.old ++ hop_head model.now chain place writer.now reader.now) }
+{
+    text.put(b"hop ")?;
+    put_chain_name(text, model, chain)?;
+    text.put(b" ")?;
+    put_task_of_group(text, model, chain, place)?;
+    text.put(b" ")?;
+    put_task_of_group(text, model, chain, next)?;
+    text.put(b" ")?;
+    text.put(hop_word(writer, reader))
+}
+
+/// Puts the hop in the forward and in the backward direction, in ticks.
 fn put_hop_bounds(
     text: &mut Text,
     writer: &GroupTiming,
@@ -88,8 +129,6 @@ fn put_hop_bounds(
 ) -> Result<(), NoMemory>
     ensures { OnOk result (text.new ≡ text.old ++ hop_words writer.now reader.now) }
 {
-    text.put(b" ")?;
-    text.put(hop_word(writer, reader))?;
     text.put(b" forward ")?;
     put_signed(text, writer.forward_hop(reader))?;
     text.put(b" backward ")?;
@@ -114,12 +153,7 @@ fn put_hop(
 {
     let writer = timing_at(model, chain, place, settled);
     let reader = timing_at(model, chain, next, settled);
-    text.put(b"hop ")?;
-    put_chain_name(text, model, chain)?;
-    text.put(b" ")?;
-    put_task_of_group(text, model, chain, place)?;
-    text.put(b" ")?;
-    put_task_of_group(text, model, chain, next)?;
+    put_hop_head(text, model, chain, place, next, &writer, &reader)?;
     put_hop_bounds(text, &writer, &reader)?;
     text.put(b"\n")
 }

@@ -16,3 +16,7 @@ mod tight;
 
 pub use accepting::accepted;
 pub use explaining::explain;
+pub use groups::{put_group_words, put_hop_head};
+pub use numbers::{put_signed, put_wide};
+pub use parts::{is_above, put_blocker};
+pub use tight::put_arrival_words;

@@ -4,17 +4,17 @@ ghost use Rattle.cl_model.specs.ByNumber.{task_at};
 ghost use Rattle.cl_model.specs.Validity.{IsValid};
 ghost use Rattle.cl_runs.specs.SystemOf.{system_of};
 ghost use Rattle.cl_runs.specs.TaskTiming.{timing_at};
-ghost use Rattle.cl_runs.specs.Priorities.{is_above, may_block};
+ghost use Rattle.cl_runs.specs.Priorities.{is_above, is_below, may_block};
 ghost use Rattle.cl_resp.specs.Question.{question_of, IsQuestionInRange};
 ghost use Rattle.cl_resp.specs.Response.{response_to};
 ghost use Rattle.cl_bound.specs.Answers.{answer_with};
-ghost use Rattle.cl_explain.specs.Parts.{window_counted, jobs_above, time_above, blocks_so_long, blocker_of, jitter_part, block_part, own_part, above_part, above_parts, over_part, part_lines, taken_part};
+ghost use Rattle.cl_explain.specs.Parts.{may_block_by, window_counted, jobs_above, time_above, blocks_so_long, blocker_of, jitter_part, block_part, own_part, above_part, above_parts, over_part, part_lines, taken_part};
 
 use crate::numbers::put_wide;
 use cl_bound::TaskAnswer;
 use cl_model::{TaskDef, ValidModel};
 use cl_report::{put_name, put_task_name};
-use cl_resp::{Question, demand};
+use cl_resp::{Block, Question, demand};
 use cl_stim::{AnyStimulus, Arrivals, MOST_WIDTH};
 use cl_text::Text;
 use cl_time::NoMemory;
@@ -57,8 +57,31 @@ fn put_jitter(text: &mut Text, model: &ValidModel, task: u32, jitter: u64) -> Re
 }
 
 /// Checks whether a runnable of the task `other` may hold the core of `task` while that waits:
-/// whether it is on the same core and has no higher priority.
-fn may_block(model: &ValidModel, task: u32, other: u32) -> bool
+/// whether it is on the same core and has a lower priority or, where the block counts a task's own
+/// runnables, is the task itself.
+fn may_block(model: &ValidModel, task: u32, other: u32, blocking: Block) -> bool
+    requires task { task < length model.now.tasks }
+    requires other { other < length model.now.tasks }
+    ensures { result ≡ may_block_by blocking (timing_at (system_of model.now) task) (timing_at (system_of model.now) other) }
+{
+    match blocking {
+        Block::OfLower => is_below(model, task, other),
+        Block::WithOwn => is_no_higher(model, task, other),
+    }
+}
+
+/// Checks whether the task `other` has a lower priority than `task`, on the same core.
+fn is_below(model: &ValidModel, task: u32, other: u32) -> bool
+    requires task { task < length model.now.tasks }
+    requires other { other < length model.now.tasks }
+    ensures { result ≡ is_below (timing_at (system_of model.now) task) (timing_at (system_of model.now) other) }
+{
+    model.core_of(other) == model.core_of(task)
+        && model.task(other).priority < model.task(task).priority
+}
+
+/// Checks whether the task `other` has no higher priority than `task`, on the same core.
+fn is_no_higher(model: &ValidModel, task: u32, other: u32) -> bool
     requires task { task < length model.now.tasks }
     requires other { other < length model.now.tasks }
     ensures { result ≡ may_block (timing_at (system_of model.now) task) (timing_at (system_of model.now) other) }
@@ -78,13 +101,19 @@ fn blocks_at(task: &TaskDef, block: u64) -> Option<usize>
 }
 
 /// Puts the name of the first runnable that may block a task for `block` ticks, in file order. Puts
-/// nothing where there is none.
-fn put_blocker(text: &mut Text, model: &ValidModel, task: u32, block: u64) -> Result<(), NoMemory>
+/// nothing where there is none. After `NoMemory` the text is as it was.
+pub fn put_blocker(
+    text: &mut Text,
+    model: &ValidModel,
+    task: u32,
+    block: u64,
+    blocking: Block,
+) -> Result<(), NoMemory>
     requires { task < length model.now.tasks }
-    ensures { OnOk result (text.new ≡ text.old ++ blocker_of model.now task block) }
+    ensures { OnOk result (text.new ≡ text.old ++ blocker_of blocking model.now task block) }
 {
     for other in 0..model.tasks() {
-        if may_block(model, task, other) {
+        if may_block(model, task, other, blocking) {
             let blocker = model.task(other);
             match blocks_at(blocker, block) {
                 Some(place) => return put_name(text, &blocker.runnables.as_slice()[place].name),
@@ -108,7 +137,7 @@ fn put_block(text: &mut Text, model: &ValidModel, task: u32, block: u64) -> Resu
     text.put(b" block ")?;
     text.put_number(block)?;
     text.put(b" by ")?;
-    put_blocker(text, model, task, block)?;
+    put_blocker(text, model, task, block, Block::WithOwn)?;
     text.put(b"\n")
 }
 
@@ -127,7 +156,7 @@ fn put_own(text: &mut Text, model: &ValidModel, task: u32, time: u64) -> Result<
 }
 
 /// Checks whether the task `other` has a higher priority than `task`, on the same core.
-fn is_above(model: &ValidModel, task: u32, other: u32) -> bool
+pub fn is_above(model: &ValidModel, task: u32, other: u32) -> bool
     requires task { task < length model.now.tasks }
     requires other { other < length model.now.tasks }
     ensures { result ≡ is_above (timing_at (system_of model.now) task) (timing_at (system_of model.now) other) }

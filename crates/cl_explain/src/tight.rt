@@ -14,7 +14,7 @@ ghost use Rattle.cl_phase.specs.TightBounds.{tight_bounds};
 ghost use Rattle.cl_analyse.specs.declared.findings.ChainAnswer.TheVariants as answers;
 ghost use Rattle.cl_tight.specs.TightFindings.{tight_chain_answer_of};
 ghost use Rattle.cl_tight.specs.Found.{AreWindowsOf};
-ghost use Rattle.cl_explain.specs.Explanation.{arrival_line, arrival_lines, walk_lines, tight_line, tight_lines};
+ghost use Rattle.cl_explain.specs.Explanation.{arrival_words, arrival_line, arrival_lines, walk_lines, tight_line, tight_lines};
 
 use crate::groups::put_task_of_group;
 use crate::numbers::put_signed;
@@ -27,6 +27,29 @@ use cl_text::Text;
 use cl_tight::AccessWindows;
 use cl_time::NoMemory;
 use std::alloc::Global;
+
+/// Puts an arrival of the group at a place of a chain. After `NoMemory` the text ends with a prefix
+/// of it.
+pub fn put_arrival_words(
+    text: &mut Text,
+    model: &ValidModel,
+    chain: u32,
+    word: &[u8],
+    place: u32,
+    arrival: &i64,
+) -> Result<(), NoMemory>
+    requires chain { chain < length model.now.chains }
+    requires place { place < length (groups_at model.now chain) }
+    ensures { OnOk result
+        (text.new ≡ text.old ++ arrival_words word.now model.now chain place arrival.now) }
+{
+    text.put(word)?;
+    put_chain_name(text, model, chain)?;
+    text.put(b" ")?;
+    put_task_of_group(text, model, chain, place)?;
+    text.put(b" arrival ")?;
+    put_signed(text, i128::from(*arrival))
+}
 
 /// Puts the line of an arrival of the group at a place of a chain.
 fn put_arrival(
@@ -42,12 +65,7 @@ fn put_arrival(
     ensures { OnOk result
         (text.new ≡ text.old ++ arrival_line word.now model.now chain place arrival.now) }
 {
-    text.put(word)?;
-    put_chain_name(text, model, chain)?;
-    text.put(b" ")?;
-    put_task_of_group(text, model, chain, place)?;
-    text.put(b" arrival ")?;
-    put_signed(text, i128::from(*arrival))?;
+    put_arrival_words(text, model, chain, word, place, arrival)?;
     text.put(b"\n")
 }
 

@@ -13,3 +13,4 @@ pub mod SureRaises
 pub mod SureLeads
 pub mod SureTasks
 pub mod SureAhead
+pub mod SameLeads

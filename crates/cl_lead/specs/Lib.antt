@@ -1,3 +1,4 @@
 pub mod Ahead
 pub mod Leads
+pub mod LeastTimes
 pub mod Inner

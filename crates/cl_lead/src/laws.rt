@@ -12,6 +12,7 @@ ghost use Rattle.cl_comm.specs.Windows.{spot_at};
 ghost use Rattle.cl_stim.specs.Phase.{IsPhase};
 ghost use Rattle.cl_lead.specs.Ahead.{Ahead, least_lead, IsLead};
 ghost use Rattle.cl_lead.specs.Leads.{before_read, lead_with, lead_at, IsCommonCycle};
+ghost use Rattle.cl_lead.specs.LeastTimes.{HaveSameLeastTimes};
 
 /// A runnable reads no earlier than its lead after the arrival of its job, whichever tasks are in
 /// phase, where all of these come round with the cycle.
@@ -50,4 +51,11 @@ pub fn leads_lie_between()
     ensures most { (system : System) (in_phase : ℕ → Bool) (cycle task place : ℕ)
         → (spot_at (timing_at system task) place).before ≤ (timing_at system task).deadline
         → lead_with system in_phase cycle task place ≤ (timing_at system task).deadline }
+{}
+
+/// The leads of runnables rest on no greatest times: they are the same in two systems whose tasks
+/// differ in no more than these, and in which runnables are whole.
+pub fn leads_rest_on_least_times()
+    ensures { (one other : System) → HaveSameLeastTimes one other
+        → (task place : ℕ) → lead_at one task place ≡ lead_at other task place }
 {}

@@ -20,7 +20,7 @@ use Rattle.cl_run_data.proofs.AlikeMoments.{jobs_alike, job_finishes_alike}
 use Rattle.cl_check.specs.declared.job_ends.End.TheVariants.{Finish}
 use Rattle.cl_check.specs.JobMoments.{IsMomentOf, AreEndsOfJobs}
 use Rattle.cl_near.specs.declared.task_seen.SeenOfTask.{SeenOfTask}
-use Rattle.cl_near.specs.Seen.{due_of, MissesDeadline, HasResponse, IsSeenOfTask}
+use Rattle.cl_near.specs.Seen.{time_due, MissesDeadline, TakesSoLong, IsSeenOfTask}
 use Rattle.cl_near.specs.Inner.SeenJobs.{IsMissed, IsSeenOfJobs}
 
 module _ (model : SystemModel) (valid : IsValid model) (task : ℕ) (is : task < length model.tasks) (run : Run)
@@ -42,7 +42,7 @@ module _ (model : SystemModel) (valid : IsValid model) (task : ℕ) (is : task <
       (alike_back (system_of model) (timing_at (system_of model) task).core run shows.whole shows.alike)
 
   due_same : (job deadline : ℕ) → deadline ≡ deadline_of model task
-      → due_of model shows.whole task job ≡ (job_at (jobs_of run task) job).arrival + deadline
+      → time_due model shows.whole task job ≡ (job_at (jobs_of run task) job).arrival + deadline
   due_same job deadline given = omega (arith, arrival_same job, given, ap (λ (t : Timing). t.deadline) (timing_is model task is))
 
   -- ---- a deadline that is missed
@@ -84,7 +84,7 @@ module _ (model : SystemModel) (valid : IsValid model) (task : ℕ) (is : task <
       )
 
   response_whole : (job finish ticks : ℕ) → JobFinishes (system_of model) run task job finish
-      → finish - (job_at (jobs_of run task) job).arrival ≡ ticks → HasResponse model task ticks
+      → finish - (job_at (jobs_of run task) job).arrival ≡ ticks → TakesSoLong model task ticks
   response_whole job finish ticks finishes taken =
       let in_whole = finish_of_whole job finish finishes in
       let same : finish ≡ (job_at (jobs_of shows.whole task) job).arrival + ticks

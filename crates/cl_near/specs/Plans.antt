@@ -1,11 +1,17 @@
--- What plans of runs keep: the cores that the runs are made on hold what they are to show.
-use Rattle.std.specs.Prelude.{◌≡◌, ℕ, ◌<◌, true, List, length}
+-- What plans of runs keep: the cores that the runs are made on hold what they are to show. And the window by which the run
+-- of a task is planned. Times are in ticks, and moments may lie before 0.
+use Rattle.std.specs.Prelude.{◌≡◌, ℕ, ◌*◌, ◌<◌, pos, ◌+ℤ◌, true, List, length}
 use Rattle.cl_model.specs.declared.group.Group.{Group}
+use Rattle.cl_model.specs.declared.limits.TheConstants.{MOST_TICKS}
 use Rattle.cl_model.specs.declared.model.SystemModel.{SystemModel}
 use Rattle.cl_model.specs.Groups.{group_at}
-use Rattle.cl_runs.specs.TaskTiming.{timing_at}
+use Rattle.cl_runs.specs.TaskTiming.{System, timing_at}
 use Rattle.cl_runs.specs.SystemOf.{system_of}
 use Rattle.cl_run_data.specs.Parts.{is_among}
+use Rattle.cl_stim.specs.Integers.{IsIntegerWithin}
+use Rattle.cl_cycle.specs.Cycles.{cycle_of}
+use Rattle.cl_resp.specs.declared.worst.WorstWindow.{WorstWindow}
+use Rattle.cl_resp.specs.Worst.{IsWorstWindowOf}
 use Rattle.cl_near.specs.declared.chain_plan.ChainPlan.{ChainPlan}
 use Rattle.cl_near.specs.declared.task_plan.TaskPlan.{TaskPlan}
 
@@ -19,3 +25,16 @@ pub record IsPlanOfTask (model : SystemModel) (task : ℕ) (plan : TaskPlan) : T
   pub is_task : task < length model.tasks
   pub of_task : plan.task ≡ task
   pub core : is_among plan.cores (timing_at (system_of model) task).core ≡ true
+
+-- the worst window of a task, moved by whole cycles
+pub record IsWindowOfRun (system : System) (task : ℕ) (window : WorstWindow) : Type 0 where
+  pub worst : WorstWindow
+  pub is_worst : IsWorstWindowOf system task worst
+  pub turns : ℕ
+  pub arrival : window.arrival ≡ worst.arrival +ℤ pos (turns * cycle_of system task)
+  pub start : window.start ≡ worst.start +ℤ pos (turns * cycle_of system task)
+
+-- its moments are so near to 0 that 64 signed bits hold all that is counted from them
+pub record IsWindowNear (window : WorstWindow) : Type 0 where
+  pub arrival : IsIntegerWithin (15000 * MOST_TICKS) window.arrival
+  pub start : IsIntegerWithin (15000 * MOST_TICKS) window.start

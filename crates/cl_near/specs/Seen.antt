@@ -11,8 +11,8 @@ use Rattle.cl_near.specs.declared.task_seen.SeenOfTask.{SeenOfTask}
 use Rattle.cl_near.specs.declared.task_seen.SeenOfTask.TheVariants.{Missed, Response}
 
 -- when a job of a run is to have finished
-abbrev pub due_of : SystemModel → Run → (task job : ℕ) → ℕ
-due_of model run task job = (job_at (jobs_of run task) job).arrival + (timing_at (system_of model) task).deadline
+abbrev pub time_due : SystemModel → Run → (task job : ℕ) → ℕ
+time_due model run task job = (job_at (jobs_of run task) job).arrival + (timing_at (system_of model) task).deadline
 
 -- in some legal run a job of a task hasn't finished by its deadline, and the run lasts until then
 pub record MissesDeadline (model : SystemModel) (task : ℕ) : Type 0 where
@@ -20,11 +20,11 @@ pub record MissesDeadline (model : SystemModel) (task : ℕ) : Type 0 where
   pub legal : IsLegal (system_of model) run
   pub job : ℕ
   pub in_table : job < length (jobs_of run task)
-  pub lasts : due_of model run task job ≤ run.table.ticks
-  pub unfinished : (finish : ℕ) → JobFinishes (system_of model) run task job finish → due_of model run task job < finish
+  pub lasts : time_due model run task job ≤ run.table.ticks
+  pub unfinished : (finish : ℕ) → JobFinishes (system_of model) run task job finish → time_due model run task job < finish
 
 -- in some legal run a job of a task finishes so many ticks after its arrival
-pub record HasResponse (model : SystemModel) (task ticks : ℕ) : Type 0 where
+pub record TakesSoLong (model : SystemModel) (task ticks : ℕ) : Type 0 where
   pub run : Run
   pub legal : IsLegal (system_of model) run
   pub job : ℕ
@@ -33,4 +33,4 @@ pub record HasResponse (model : SystemModel) (task ticks : ℕ) : Type 0 where
 -- what is seen of a task is so
 pub record IsSeenOfTask (model : SystemModel) (task : ℕ) (seen : SeenOfTask) : Type 0 where
   pub missed : seen ≡ Missed → MissesDeadline model task
-  pub response : (ticks : ℕ) → seen ≡ Response ticks → HasResponse model task ticks
+  pub response : (ticks : ℕ) → seen ≡ Response ticks → TakesSoLong model task ticks

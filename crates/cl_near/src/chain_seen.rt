@@ -101,6 +101,7 @@ fn length_under(
     requires short { plan.now.ticks ≤ MOST_RUN_TICKS }
     ensures { IfOk result (λ length. IfSome length (HasLength model.now chain kind)) }
 {
+    // So that it is known that the model is valid.
     let _valid = model.plain();
     let cores = plan.cores();
     let table = planned_table(alloc, model, plan, cores, load)?;

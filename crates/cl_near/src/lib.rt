@@ -26,6 +26,6 @@ pub use budget::{Budget, MOST_EXECUTIONS_OF_RUNS};
 pub use chain_plan::{ChainPlan, plan_chain};
 pub use chain_seen::seen_of_chain;
 pub use run_size::{RunSize, size_of_run};
-pub use task_plan::{TaskPlan, plan_task};
+pub use task_plan::{TaskPlan, plan_task, window_of_run};
 pub use task_seen::{SeenOfTask, seen_of_task};
 pub use witness::{size_of_whole_run, witness_of_chain, witness_of_task};

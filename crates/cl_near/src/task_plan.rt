@@ -2,10 +2,14 @@
 //! ticks.
 ghost use Rattle.std.specs.Prelude.{◌≡◌, ◌<◌, length, IfOk};
 ghost use Rattle.std.specs.Option.{option_map};
+ghost use Rattle.cl_model.specs.Validity.{IsValid};
+ghost use Rattle.cl_phase.specs.Whole.{LATEST_STEADY};
 ghost use Rattle.cl_runs.specs.SystemOf.{system_of};
+ghost use Rattle.cl_stim.specs.Integers.{IsIntegerWithin};
 ghost use Rattle.cl_resp.specs.ByPhase.{response_by_phase};
 ghost use Rattle.cl_resp.specs.Response.{Response};
-ghost use Rattle.cl_near.specs.Plans.{IsPlanOfTask};
+ghost use Rattle.cl_resp.specs.Worst.{IsWorstWindowOf};
+ghost use Rattle.cl_near.specs.Plans.{IsPlanOfTask, IsWindowOfRun, IsWindowNear};
 
 use crate::blocker::{Blocker, blocker_of};
 use crate::cores::core_alone;
@@ -21,12 +25,6 @@ use std::alloc::Global;
 /// How many of the greatest periods of its core a run lasts longer where a task is blocked, so that
 /// the block has time to come.
 const PERIODS_FOR_BLOCK: u64 = 16;
-
-/// The window of a job that arrives, and begins, at 0.
-const WINDOW_AT_ONCE: WorstWindow = WorstWindow {
-    arrival: 0,
-    start: 0,
-};
 
 /// What a run of a task is to be: how long it lasts, and what its jobs keep to.
 #[derive(Drop)]
@@ -58,8 +56,12 @@ pub(crate) fn is_above(model: &ValidModel, other: u32, task: u32) -> bool
 /// Finds from when on the arrivals of a task and of the tasks in phase above it are those of their
 /// phases.
 fn steady_together(model: &ValidModel, task: u32, cycle: &Cycle) -> i64
-    requires task { task < length model.now.tasks }
+    requires { task < length model.now.tasks }
+    ensures valid { IsValid model.now }
+    ensures near { IsIntegerWithin LATEST_STEADY result }
 {
+    // So that it is known that the model is valid.
+    let _ = model.plain();
     let mut steady = steady_from(model.stimulus_of(task));
     for other in model.tasks_of_core(model.core_of(task)) {
         if cycle.has(*other) {
@@ -69,19 +71,41 @@ fn steady_together(model: &ValidModel, task: u32, cycle: &Cycle) -> i64
     steady
 }
 
-/// Moves the worst window of a task by whole cycles to where the jobs of a run arrive by their
-/// phases.
+/// Moves a window of a task by whole cycles to where the jobs of a run arrive by their phases.
 fn moved(model: &ValidModel, task: u32, window: WorstWindow) -> WorstWindow
     requires task { task < length model.now.tasks }
+    requires worst { IsWorstWindowOf (system_of model.now) task window }
+    ensures window { IsWindowOfRun (system_of model.now) task result }
+    ensures near { IsWindowNear result }
 {
     let cycle = Cycle::of(model, task);
     let steady = steady_together(model, task, &cycle);
     let first = window.arrival.min(window.start);
     let ticks = turns_to_reach(first, steady, cycle.ticks());
     WorstWindow {
-        arrival: window.arrival.saturating_add(ticks),
-        start: window.start.saturating_add(ticks),
+        arrival: window.arrival + ticks,
+        start: window.start + ticks,
     }
+}
+
+/// Finds the worst window of a task, given by its number and its response by phases, moved by whole
+/// cycles to where the jobs of a run arrive by their phases. `None` stands for a late task.
+///
+/// `NoMemory` comes where there is no memory for a list of the tasks above; it leaves nothing.
+pub fn window_of_run(
+    alloc: Global,
+    model: &ValidModel,
+    task: u32,
+    response: Option<u64>,
+) -> Result<WorstWindow, NoMemory>
+    requires task { task < length model.now.tasks }
+    requires response { option_map (λ (settled : Response). settled.response)
+        (response_by_phase (system_of model.now) task) ≡ response }
+    ensures window { IfOk result (IsWindowOfRun (system_of model.now) task) }
+    ensures near { IfOk result IsWindowNear }
+{
+    let worst = worst_window(alloc, model, task, response)?;
+    Ok(moved(model, task, worst))
 }
 
 /// Returns the period of a stimulus whose arrivals are fixed, and 0 of another.
@@ -176,9 +200,9 @@ impl TaskPlan {
     }
 }
 
-/// Plans a run in which a job of a task, given by its number, arrives in its worst window. The
-/// response is that by phases; `None` stands for a late task. Where no worst window is found the run
-/// is that of a window at 0. There always is one, but that isn't proved.
+/// Plans a run of a task, given by its number, on its core alone. It aims at a job in the window that
+/// `window_of_run` finds; whether one comes so near is seen in the run itself. The response is that
+/// by phases; `None` stands for a late task.
 ///
 /// `NoMemory` comes where there is no memory for the plan; it leaves nothing.
 pub fn plan_task(
@@ -192,8 +216,7 @@ pub fn plan_task(
         (response_by_phase (system_of model.now) task) ≡ response }
     ensures { IfOk result (IsPlanOfTask model.now task) }
 {
-    let worst = worst_window(alloc, model, task, response)?;
-    let window = moved(model, task, worst.unwrap_or(WINDOW_AT_ONCE));
+    let window = window_of_run(alloc, model, task, response)?;
     let arrival = tick_of(window.arrival);
     let blocker = blocker_of(model, task);
     let cores = core_alone(alloc, model, task)?;

@@ -139,6 +139,7 @@ fn seen_in_run(
     requires shows { ShowsTask (system_of model.now) task run.now }
     ensures { IfOk result (IsSeenOfTask model.now task) }
 {
+    // So that it is known that the model is valid.
     let _valid = model.plain();
     let finishes = finishes(alloc, model, run, task)?;
     let table = run.table();
@@ -172,6 +173,7 @@ pub fn seen_of_task(
     if !take_run(model, plan, budget) {
         return Ok(SeenOfTask::Nothing);
     }
+    // So that it is known that the model is valid.
     let _valid = model.plain();
     let cores = plan.cores();
     let table = planned_table(alloc, model, plan, cores)?;

@@ -52,6 +52,7 @@ pub fn witness_of_chain(
     requires short { plan.now.ticks ≤ MOST_RUN_TICKS }
     ensures { IfOk result (IsLawful (system_of model.now)) }
 {
+    // So that it is known that the model is valid.
     let _valid = model.plain();
     let load = BothLengths::of(alloc, model, plan, chain, kind)?.longer();
     let cores = all_cores(alloc, model)?;
@@ -68,6 +69,7 @@ pub fn witness_of_task(
     requires { plan.now.ticks ≤ MOST_RUN_TICKS }
     ensures { IfOk result (IsLawful (system_of model.now)) }
 {
+    // So that it is known that the model is valid.
     let _valid = model.plain();
     let cores = all_cores(alloc, model)?;
     task_seen::planned_table(alloc, model, plan, cores.as_slice())

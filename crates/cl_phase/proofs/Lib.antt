@@ -26,6 +26,7 @@ pub mod StopFacts
 pub mod StopsOfGroups
 pub mod TightSafety
 pub mod WiderWalks
+pub mod SamePatterns
 pub mod WalkStarts
 pub mod WalkSums
 pub mod Walking
@@ -33,6 +34,8 @@ pub mod WalksBothWays
 pub mod WalksMove
 pub mod ShownStarts
 pub mod ShownWalks
+pub mod WholeWalks
+pub mod LongestStarts
 pub mod FirstPast
 pub mod JobsInTime
 pub mod ForwardExists

@@ -5,6 +5,9 @@ use Rattle.std.specs.Option.{option_or}
 use Rattle.std.proofs.lemmas.Bool.{eqb-true}
 use Rattle.std.proofs.lemmas.Int.{ints}
 use Rattle.std.proofs.lemmas.List.Folds.{find-append}
+use Rattle.cl_model.specs.declared.chain.LengthKind.TheVariants.{Reaction, Age, Reduced}
+use Rattle.cl_model.specs.declared.chain.RequirementKind.{RequirementKind}
+use Rattle.cl_model.specs.declared.chain.RequirementKind.TheVariants.{Length, Delay}
 use Rattle.cl_model.specs.declared.limits.TheConstants.{MOST_TICKS}
 use Rattle.cl_stim.specs.declared.phase.Phase.{Phase}
 use Rattle.cl_stim.specs.Phase.{IsPhase, IsArrivalOf, first_arrival, arrives_at}
@@ -12,35 +15,45 @@ use Rattle.cl_stim.proofs.PhaseSteps.{first_arrives, first_after}
 use Rattle.cl_phase.specs.declared.stop.Stop.{Stop}
 use Rattle.cl_phase.specs.declared.pace.Pace.{Pace}
 use Rattle.cl_phase.specs.declared.pace.Pace.TheVariants.{Kept, Free}
-use Rattle.cl_phase.specs.TightBounds.{ticks_or_none, length_from, starts}
-use Rattle.cl_phase.specs.Walked.{start_among}
+use Rattle.cl_phase.specs.declared.walk.Ends.{Ends}
+use Rattle.cl_phase.specs.TightBounds.{ticks_or_none, starts}
+use Rattle.cl_phase.specs.Walked.{lasts_from, start_among}
+use Rattle.cl_phase.specs.Inner.Longest.{span_between, lengths_at, length_of_kind}
 use Rattle.cl_stim.proofs.ArrivalTests.{test_from_arrival}
 use Rattle.cl_phase.proofs.ScannedStarts.{starts_at, starts_over}
 use Rattle.cl_phase.proofs.LongestWalks.{by_first, gap}
 
 -- whether the walks from an arrival last so long
-abbrev pub lasts : List Stop → (span : ℤ) → (place reaction : ℕ) → (arrival : ℕ) → Bool
-lasts stops span place reaction arrival = ticks_or_none (length_from stops span place (pos arrival)) == reaction
+abbrev pub lasts : RequirementKind → List Stop → (span : ℤ) → (write place bound : ℕ) → (arrival : ℕ) → Bool
+lasts kind stops span write place bound arrival = ticks_or_none (lasts_from kind stops span write place (pos arrival)) == bound
+
+-- how long they last, as code finds it
+pub lasts_as_found : (kind : RequirementKind) (stops : List Stop) (ends : Ends) (place : ℕ) (arrival : ℤ)
+    → length_of_kind kind (lengths_at stops ends place arrival) ≡ ticks_or_none (lasts_from kind stops (span_between ends) ends.write place arrival)
+lasts_as_found (Length Reaction) stops ends place arrival = refl
+lasts_as_found (Length Age) stops ends place arrival = refl
+lasts_as_found (Length Reduced) stops ends place arrival = refl
+lasts_as_found Delay stops ends place arrival = refl
 
 -- none of the walks from the arrivals before one do
-pub record IsSearchedTo (stops : List Stop) (span : ℤ) (place : ℕ) (phase : Phase) (ticks reaction : ℕ) (arrival : ℤ) : Type 0 where
+pub record IsSearchedTo (kind : RequirementKind) (stops : List Stop) (span : ℤ) (write place : ℕ) (phase : Phase) (ticks bound : ℕ) (arrival : ℤ) : Type 0 where
   pub moment : ℕ
   pub is : arrival ≡ pos moment
   pub found : arrives_at phase (pos moment) ≡ true
   pub near : moment ≤ ticks + MOST_TICKS
-  pub none : find (lasts stops span place reaction) (starts (Kept phase) (min moment ticks)) ≡ None
+  pub none : find (lasts kind stops span write place bound) (starts (Kept phase) (min moment ticks)) ≡ None
 
 pub fails_where : (n m : ℕ) → (n ≡ m → ⊥) → (n == m) ≡ false
 fails_where n m apart =
     elim (n == m) as (λ b. (b ≡ true → n ≡ m) → b ≡ false) [ true ↦ λ same. absurd (apart (same refl)) | false ↦ λ same. refl ] (eqb-true n m)
 
 -- a walk from anywhere, where no phase is kept, starts at 0
-pub free_start : (stops : List Stop) (span : ℤ) (place reaction ticks greatest : ℕ) (pace : Pace) → pace ≡ Free greatest
-    → pos 0 ≡ pos (start_among stops span place reaction (starts pace ticks))
+pub free_start : (kind : RequirementKind) (stops : List Stop) (span : ℤ) (write place bound ticks greatest : ℕ) (pace : Pace) → pace ≡ Free greatest
+    → pos 0 ≡ pos (start_among kind stops span write place bound (starts pace ticks))
 unfolding start_among
-free_start stops span place reaction ticks greatest pace is =
-    (elim (lasts stops span place reaction 0) as (λ b. pos 0 ≡ pos (unwrap_or (cond b (Some 0) None) 0)) [ true ↦ refl | false ↦ refl ])
-    ∙ sym (ap (λ p. pos (unwrap_or (find (lasts stops span place reaction) (starts p ticks)) 0)) is)
+free_start kind stops span write place bound ticks greatest pace is =
+    (elim (lasts kind stops span write place bound 0) as (λ b. pos 0 ≡ pos (unwrap_or (cond b (Some 0) None) 0)) [ true ↦ refl | false ↦ refl ])
+    ∙ sym (ap (λ p. pos (unwrap_or (find (lasts kind stops span write place bound) (starts p ticks)) 0)) is)
 
 -- the first of a list is that of a longer one
 first_stays : (test : ℕ → Bool) (xs ys : List ℕ) (x : ℕ) → find test xs ≡ Some x → find test (xs ++ ys) ≡ Some x
@@ -54,12 +67,12 @@ none_next : (test : ℕ → Bool) (xs : List ℕ) (x : ℕ) → find test xs ≡
 none_next test xs x none fails =
     find-append test xs (x ∷ []) ∙ ap (λ o. option_or o (find test (x ∷ []))) none ∙ ap (λ b. cond b (Some x) None) fails
 
-module _ (stops : List Stop) (span : ℤ) (place : ℕ) (phase : Phase) (is : IsPhase phase) (ticks reaction : ℕ) where
+module _ (kind : RequirementKind) (stops : List Stop) (span : ℤ) (write place : ℕ) (phase : Phase) (is : IsPhase phase) (ticks bound : ℕ) where
   abbrev searched : ℤ → Type 0
-  searched arrival = IsSearchedTo stops span place phase ticks reaction arrival
+  searched arrival = IsSearchedTo kind stops span write place phase ticks bound arrival
 
   abbrev test : ℕ → Bool
-  test = lasts stops span place reaction
+  test = lasts kind stops span write place bound
 
   -- the search before its first arrival
   pub search_begins : (arrival : ℤ) → arrival ≡ first_arrival phase (pos 0) → arrival ≤ℤ pos MOST_TICKS → searched arrival
@@ -114,7 +127,7 @@ module _ (stops : List Stop) (span : ℤ) (place : ℕ) (phase : Phase) (is : Is
 
   -- where it ends at an arrival
   pub search_finds : (arrival : ℤ) (so_far : searched arrival) → arrival <ℤ pos ticks → test so_far.moment ≡ true
-      → arrival ≡ pos (start_among stops span place reaction (starts (Kept phase) ticks))
+      → arrival ≡ pos (start_among kind stops span write place bound (starts (Kept phase) ticks))
   unfolding start_among
   search_finds arrival so_far below passes =
       let within : so_far.moment < ticks = omega (arith, ints, below, so_far.is) in
@@ -123,7 +136,7 @@ module _ (stops : List Stop) (span : ℤ) (place : ℕ) (phase : Phase) (is : Is
       so_far.is ∙ sym (ap (λ o. pos (unwrap_or o 0)) (ap (λ n. find test (starts (Kept phase) n)) (sym all) ∙ stays (so_far.moment + 1) (ticks - (so_far.moment + 1)) so_far.moment here))
 
   -- and where there is none
-  pub search_ends : (arrival : ℤ) → searched arrival → pos ticks ≤ℤ arrival → pos 0 ≡ pos (start_among stops span place reaction (starts (Kept phase) ticks))
+  pub search_ends : (arrival : ℤ) → searched arrival → pos ticks ≤ℤ arrival → pos 0 ≡ pos (start_among kind stops span write place bound (starts (Kept phase) ticks))
   unfolding start_among
   search_ends arrival so_far past =
       let all : min so_far.moment ticks ≡ ticks = omega (arith, ints, past, so_far.is) in

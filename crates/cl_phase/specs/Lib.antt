@@ -4,5 +4,6 @@ pub mod Walks
 pub mod TightBounds
 pub mod EarlyReads
 pub mod Walked
+pub mod Whole
 pub mod CompleteChains
 pub mod Inner

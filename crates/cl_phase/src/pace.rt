@@ -3,6 +3,7 @@ ghost use Rattle.std.specs.Prelude.{◌≡◌, pos, ◌+ℤ◌, ◌-ℤ◌, ◌�
 ghost use Rattle.cl_model.specs.declared.limits.TheConstants.{MOST_TICKS};
 ghost use Rattle.cl_stim.specs.Phase.{IsMoment};
 ghost use Rattle.cl_phase.specs.Pace.{first_from, last_by, previous, next};
+ghost use Rattle.cl_phase.specs.Whole.{is_kept};
 ghost use Rattle.cl_phase.specs.Inner.Ranges.{IsPaceInRange};
 
 use cl_stim::Phase;
@@ -20,6 +21,13 @@ pub enum Pace {
 }
 
 impl Pace {
+    /// Whether the group keeps its phase.
+    pub(crate) fn is_kept(&self) -> bool
+        ensures { result ≡ is_kept self.now }
+    {
+        matches!(self, Pace::Kept(_))
+    }
+
     /// Finds the first arrival at or after a moment; without a phase the latest moment at which it
     /// may come.
     #[tactic(auto, unfolding(crate::specs::Pace::first_from))]

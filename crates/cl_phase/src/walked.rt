@@ -12,14 +12,14 @@ ghost use Rattle.cl_phase.specs.TightBounds.{starts};
 ghost use Rattle.cl_phase.specs.Walks.{pace_at};
 ghost use Rattle.cl_phase.specs.Walked.{start_among, missed, taken, walked_of};
 ghost use Rattle.cl_phase.specs.Inner.Ranges.{FARTHEST_START, LONGEST_HYPERPERIOD, AreStopsInRange, AreEndsInRange};
-ghost use Rattle.cl_phase.specs.Inner.Longest.{span_between};
+ghost use Rattle.cl_phase.specs.Inner.Longest.{span_between, length_of_kind};
 
 use crate::course::course_of;
 use crate::pace::Pace;
 use crate::stop::Stop;
-use crate::walk::{Ends, arrival_back, arrival_onward, lengths_at};
+use crate::walk::{Ends, Longest, arrival_back, arrival_onward, lengths_at};
 use cl_bound::GroupTiming;
-use cl_model::{Group, List, MOST_STEPS, ValidModel};
+use cl_model::{Group, LengthKind, List, MOST_STEPS, RequirementKind, ValidModel};
 use cl_stim::Phase;
 use cl_time::NoMemory;
 use std::alloc::Global;
@@ -35,27 +35,39 @@ pub struct Walked {
     pub taken: List<i64>,
 }
 
-/// Finds the first arrival within `ticks` of the group at `place`, which keeps this phase, with a
-/// walk as long as `reaction`. It is 0 where there is none.
+/// Returns how long walks are of a kind.
+fn length_of(lengths: Longest, kind: RequirementKind) -> u64
+    ensures { result ≡ length_of_kind kind lengths }
+{
+    match kind {
+        RequirementKind::Length(LengthKind::Reaction | LengthKind::Age) => lengths.length,
+        RequirementKind::Length(LengthKind::Reduced) => lengths.reduced,
+        RequirementKind::Delay => lengths.delay,
+    }
+}
+
+/// Finds the first arrival within `ticks` of the group at `place`, which keeps this phase, whose
+/// walks are as long as `bound` of a kind. It is 0 where there is none.
 fn start_of_phase(
     stops: &[Stop],
     ends: Ends,
     place: usize,
     phase: &Phase,
     ticks: u64,
-    reaction: u64,
+    kind: RequirementKind,
+    bound: u64,
 ) -> i64
     requires stops { AreStopsInRange stops.now }
     requires ends { AreEndsInRange ends }
     requires place { place < length stops.now }
     requires phase { pace_at stops.now place ≡ Pace.Kept phase.now }
     requires few { ticks ≤ LONGEST_HYPERPERIOD }
-    ensures start { result ≡ pos (start_among stops.now (span_between ends) place reaction (starts (Pace.Kept phase.now) ticks)) }
+    ensures start { result ≡ pos (start_among kind stops.now (span_between ends) ends.write place bound (starts (Pace.Kept phase.now) ticks)) }
     ensures near { IsIntegerWithin FARTHEST_START result }
 {
     let mut arrival = phase.first_arrival(0);
     while arrival < ticks as i64 {
-        if lengths_at(stops, ends, place, arrival).length == reaction {
+        if length_of(lengths_at(stops, ends, place, arrival), kind) == bound {
             return arrival;
         }
         arrival = phase.first_arrival(arrival + 1);
@@ -63,17 +75,25 @@ fn start_of_phase(
     0
 }
 
-/// The first start within `ticks` whose walk is as long as `reaction`. It is 0 where there is none.
-fn start_of(stops: &[Stop], ends: Ends, place: usize, ticks: u64, reaction: u64) -> i64
+/// Finds the first start within `ticks` whose walks are as long as `bound` of a kind. It is 0 where
+/// there is none.
+pub(crate) fn start_of(
+    stops: &[Stop],
+    ends: Ends,
+    place: usize,
+    ticks: u64,
+    kind: RequirementKind,
+    bound: u64,
+) -> i64
     requires stops { AreStopsInRange stops.now }
     requires ends { AreEndsInRange ends }
     requires place { place < length stops.now }
     requires few { ticks ≤ LONGEST_HYPERPERIOD }
-    ensures start { result ≡ pos (start_among stops.now (span_between ends) place reaction (starts (pace_at stops.now place) ticks)) }
+    ensures start { result ≡ pos (start_among kind stops.now (span_between ends) ends.write place bound (starts (pace_at stops.now place) ticks)) }
     ensures near { IsIntegerWithin FARTHEST_START result }
 {
     match &stops[place].pace {
-        Pace::Kept(phase) => start_of_phase(stops, ends, place, phase, ticks, reaction),
+        Pace::Kept(phase) => start_of_phase(stops, ends, place, phase, ticks, kind, bound),
         Pace::Free { .. } => 0,
     }
 }
@@ -136,6 +156,7 @@ pub fn walk_lasting(
         course.ends,
         place,
         course.keeping.hyperperiod,
+        RequirementKind::Length(LengthKind::Reaction),
         reaction,
     );
     Ok(Walked {

@@ -1,21 +1,27 @@
 //! The whole walk of a chain that attains a bound: the job of each group that just misses, and the
 //! one that takes. Times are in ticks.
-ghost use Rattle.std.specs.Prelude.{◌≡◌, ◌<◌, ◌≤◌, length, All, IfOk};
+ghost use Rattle.std.specs.Prelude.{◌≡◌, ◌<◌, ◌≤◌, ◌^◌, ◌-◌, pos, ◌+ℤ◌, ◌-ℤ◌, ◌≤ℤ◌, length, map, All, IfOk};
+ghost use Rattle.std.specs.List.{range_with_len};
 ghost use Rattle.cl_bound.specs.Hops.{IsNear};
+ghost use Rattle.cl_bound.specs.declared.group_timing.GroupTiming.{GroupTiming};
+ghost use Rattle.cl_model.specs.declared.group.Group.{Group};
 ghost use Rattle.cl_model.specs.declared.limits.TheConstants.{MOST_STEPS};
 ghost use Rattle.cl_model.specs.Groups.{IsGroupOf};
+ghost use Rattle.cl_model.specs.Ranges.{IsKindInRange};
+ghost use Rattle.cl_model.specs.Timing.{IsKindOrdered};
+ghost use Rattle.cl_runs.specs.SystemOf.{system_of};
 ghost use Rattle.cl_stim.specs.Integers.{IsIntegerWithin};
-ghost use Rattle.cl_phase.specs.declared.pace.Pace.{Pace};
+ghost use Rattle.cl_stim.specs.Phase.{IsMoment};
 ghost use Rattle.cl_phase.specs.Walks.{pace_at};
-ghost use Rattle.cl_phase.specs.Inner.Ranges.{FARTHEST_START, LONGEST_HYPERPERIOD, AreStopsInRange, AreEndsInRange};
+ghost use Rattle.cl_phase.specs.Whole.{is_kept, missed_at, taken_at, takes_before, counted_at, LATEST_STEADY, IsLeastTurns, IsWholeWalkOf};
+ghost use Rattle.cl_phase.specs.Inner.Ranges.{FARTHEST_START, FARTHEST_JOB, FARTHEST_MOVE, AreStopsInRange};
 
-use crate::course::{Course, course_of};
-use crate::pace::Pace;
+use crate::course::course_of;
 use crate::stop::Stop;
-use crate::walk::{Longest, arrival_back, arrival_onward, lengths_at};
+use crate::walk::{arrival_back, arrival_onward};
+use crate::walked::start_of;
 use cl_bound::GroupTiming;
 use cl_model::{Group, LengthKind, List, RequirementKind, StimulusKind, ValidModel};
-use cl_stim::Phase;
 use cl_time::NoMemory;
 use std::alloc::Global;
 
@@ -25,6 +31,8 @@ use std::alloc::Global;
 /// Each job that just misses has a job before it, also at the groups whose arrivals are fixed.
 #[derive(Debug, PartialEq, Eq, Drop)]
 pub struct WholeWalk {
+    /// For each group, whether it keeps its phase.
+    pub kept: List<bool>,
     /// For each group, the arrival of its job that just misses.
     pub missed: List<i64>,
     /// For each group, the arrival of its job that takes. Of the reduced age it is at the last group
@@ -35,57 +43,6 @@ pub struct WholeWalk {
     pub until: i64,
 }
 
-/// Returns how long a walk is of a kind.
-fn length_of(lengths: Longest, kind: RequirementKind) -> u64 {
-    match kind {
-        RequirementKind::Length(LengthKind::Reaction | LengthKind::Age) => lengths.length,
-        RequirementKind::Length(LengthKind::Reduced) => lengths.reduced,
-        RequirementKind::Delay => lengths.delay,
-    }
-}
-
-/// Finds the first arrival in the hyperperiod of the group at `place`, which keeps this phase, whose
-/// walk is as long as `bound`. It is 0 where there is none.
-fn first_attaining(
-    course: &Course,
-    place: usize,
-    phase: &Phase,
-    kind: RequirementKind,
-    bound: u64,
-) -> i64
-    requires stops { AreStopsInRange course.now.stops.items }
-    requires ends { AreEndsInRange course.now.ends }
-    requires place { place < length course.now.stops.items }
-    requires phase { pace_at course.now.stops.items place ≡ Pace.Kept phase.now }
-    requires few { course.now.keeping.hyperperiod ≤ LONGEST_HYPERPERIOD }
-    ensures near { IsIntegerWithin FARTHEST_START result }
-{
-    let stops = course.stops.as_slice();
-    let mut arrival = phase.first_arrival(0);
-    while arrival < course.keeping.hyperperiod as i64 {
-        if length_of(lengths_at(stops, course.ends, place, arrival), kind) == bound {
-            return arrival;
-        }
-        arrival = phase.first_arrival(arrival + 1);
-    }
-    0
-}
-
-/// Finds the first arrival in the hyperperiod of the group at `place` whose walk is as long as
-/// `bound`. It is 0 where the group keeps no phase.
-fn start_attaining(course: &Course, place: usize, kind: RequirementKind, bound: u64) -> i64
-    requires stops { AreStopsInRange course.now.stops.items }
-    requires ends { AreEndsInRange course.now.ends }
-    requires place { place < length course.now.stops.items }
-    requires few { course.now.keeping.hyperperiod ≤ LONGEST_HYPERPERIOD }
-    ensures near { IsIntegerWithin FARTHEST_START result }
-{
-    match &course.stops.as_slice()[place].pace {
-        Pace::Kept(phase) => first_attaining(course, place, phase, kind, bound),
-        Pace::Free { .. } => 0,
-    }
-}
-
 /// Finds the arrival of the job that just misses at a group, on the walk from an arrival of the
 /// group at `place`.
 fn missed_at(stops: &[Stop], place: usize, start: i64, group: usize) -> i64
@@ -93,6 +50,8 @@ fn missed_at(stops: &[Stop], place: usize, start: i64, group: usize) -> i64
     requires place { place < length stops.now }
     requires start { IsIntegerWithin FARTHEST_START start }
     requires group { group < length stops.now }
+    ensures misses { result ≡ missed_at stops.now place start group }
+    ensures near { IsIntegerWithin FARTHEST_JOB result }
 {
     if group <= place {
         arrival_back(stops, place, start, group)
@@ -109,8 +68,10 @@ fn taken_at(stops: &[Stop], place: usize, start: i64, group: usize) -> i64
     requires place { place < length stops.now }
     requires start { IsIntegerWithin FARTHEST_START start }
     requires group { group < length stops.now }
+    ensures takes { result ≡ taken_at stops.now place start group }
+    ensures near { IsIntegerWithin FARTHEST_JOB result }
 {
-    if group >= place {
+    if place <= group {
         arrival_onward(stops, place, start, group)
     } else {
         let missed = arrival_back(stops, place, start, group);
@@ -118,14 +79,43 @@ fn taken_at(stops: &[Stop], place: usize, start: i64, group: usize) -> i64
     }
 }
 
+/// Returns whether lengths of a kind end at the job before the one that takes at the last group.
+fn takes_before(kind: RequirementKind) -> bool
+    ensures { result ≡ takes_before kind }
+{
+    matches!(kind, RequirementKind::Length(LengthKind::Reduced))
+}
+
+/// Finds the arrival of the job of a group up to which lengths of a kind go, on the walk from an
+/// arrival of the group at `place`: the one that takes, or at the last group the one before it.
+fn counted_at(stops: &[Stop], place: usize, start: i64, kind: RequirementKind, group: usize) -> i64
+    requires stops { AreStopsInRange stops.now }
+    requires place { place < length stops.now }
+    requires start { IsIntegerWithin FARTHEST_START start }
+    requires group { group < length stops.now }
+    ensures counts { result ≡ counted_at kind stops.now place start group }
+    ensures near { IsMoment result }
+{
+    let takes = taken_at(stops, place, start, group);
+    if takes_before(kind) && group == stops.len() - 1 {
+        stops[group].pace.previous(takes)
+    } else {
+        takes
+    }
+}
+
 /// Returns ticks as a signed number, and the greatest one where it doesn't hold them.
-fn signed_ticks(ticks: u64) -> i64 {
+fn signed_ticks(ticks: u64) -> i64
+    ensures { ticks ≤ 2 ^ 63 - 1 → result ≡ pos ticks }
+{
     ticks.min(i64::MAX as u64) as i64
 }
 
 /// Returns how many ticks after the beginning of a run a stimulus has had a job, and one before it,
 /// at the latest, where its arrivals are fixed: from then on they are those of its phase.
-pub fn steady_from(kind: StimulusKind) -> i64 {
+pub fn steady_from(kind: StimulusKind) -> i64
+    ensures near { IsKindInRange kind → IsKindOrdered kind → IsIntegerWithin LATEST_STEADY result }
+{
     let last = match kind {
         StimulusKind::Periodic { offset, .. } => offset,
         StimulusKind::Sporadic { .. } => return 0,
@@ -141,15 +131,26 @@ pub fn steady_from(kind: StimulusKind) -> i64 {
 
 /// Returns the least multiple of `turn`, 0 or more, by which a moment reaches another. Where 64 bits
 /// don't hold it, it is `i64::MAX`.
-pub fn turns_to_reach(moment: i64, goal: i64, turn: u64) -> i64 {
-    let missing = goal.saturating_sub(moment).max(0) as u64;
+pub fn turns_to_reach(moment: i64, goal: i64, turn: u64) -> i64
+    ensures least { 1 ≤ turn
+        → pos turn ≤ℤ pos (2 ^ 63 - 1)
+        → ((goal -ℤ moment) +ℤ pos turn) ≤ℤ pos (2 ^ 63 - 1)
+        → IsLeastTurns moment goal turn result }
+{
+    if goal <= moment {
+        return 0;
+    }
+    let missing = goal.abs_diff(moment);
     signed_ticks(missing.div_ceil(turn.max(1)).saturating_mul(turn))
 }
 
 /// Finds from when on the arrivals of all groups are those of their phases.
 fn all_steady_from(model: &ValidModel, groups: &[Group]) -> i64
     requires { All (IsGroupOf model.now) groups.now }
+    ensures near { IsIntegerWithin LATEST_STEADY result }
 {
+    // So that it is known that the model is valid.
+    let _ = model.plain();
     let mut steady = 0;
     for group in groups {
         steady = steady_from(model.stimulus_of(group.task)).max(steady);
@@ -157,78 +158,61 @@ fn all_steady_from(model: &ValidModel, groups: &[Group]) -> i64
     steady
 }
 
-/// Moves arrivals by so many ticks.
-fn move_all(arrivals: &mut List<i64>, ticks: i64)
-    ensures { length arrivals.new ≡ length arrivals.old }
+/// Finds the least arrival that has to have one before it, on the walk from an arrival of the group
+/// at `place`: of the jobs that just miss and, of a delay, of the job that takes at the first group
+/// in place of the one that misses there.
+fn least_arrival(stops: &[Stop], place: usize, start: i64, kind: RequirementKind) -> i64
+    requires stops { AreStopsInRange stops.now }
+    requires place { place < length stops.now }
+    requires start { IsIntegerWithin FARTHEST_START start }
+    ensures near { IsIntegerWithin FARTHEST_JOB result }
 {
-    for place in 0..arrivals.len() {
-        let arrival = arrivals.item_mut(place);
-        *arrival = arrival.saturating_add(ticks);
+    let mut least = taken_at(stops, place, start, 0);
+    for group in 0..stops.len() {
+        if group > 0 || !kind.is_delay() {
+            least = least.min(missed_at(stops, place, start, group));
+        }
     }
+    least
 }
 
 impl WholeWalk {
-    /// Lists the arrivals of a walk from an arrival of the group at `place`.
-    fn from(alloc: Global, stops: &[Stop], place: usize, start: i64) -> Result<WholeWalk, NoMemory>
+    /// Lists the arrivals of the walk of a kind from an arrival of the group at `place`, moved by so
+    /// many ticks.
+    fn from(
+        alloc: Global,
+        stops: &[Stop],
+        place: usize,
+        start: i64,
+        kind: RequirementKind,
+        ticks: i64,
+    ) -> Result<WholeWalk, NoMemory>
         requires stops { AreStopsInRange stops.now }
         requires place { place < length stops.now }
         requires start { IsIntegerWithin FARTHEST_START start }
-        ensures missed { IfOk result (λ walk. length walk.missed ≡ length stops.now) }
-        ensures taken { IfOk result (λ walk. length walk.taken ≡ length stops.now) }
+        requires ticks { IsIntegerWithin FARTHEST_MOVE ticks }
+        ensures kept { IfOk result (λ walk. walk.kept ≡ map (λ group. is_kept (pace_at stops.now group)) (range_with_len 0 (length stops.now))) }
+        ensures missed { IfOk result (λ walk. walk.missed
+            ≡ map (λ group. missed_at stops.now place start group +ℤ ticks) (range_with_len 0 (length stops.now))) }
+        ensures taken { IfOk result (λ walk. walk.taken
+            ≡ map (λ group. counted_at kind stops.now place start group +ℤ ticks) (range_with_len 0 (length stops.now))) }
     {
+        let mut kept = List::with_room(alloc, stops.len())?;
         let mut missed = List::with_room(alloc, stops.len())?;
         let mut taken = List::with_room(alloc, stops.len())?;
-        let mut until = start;
+        let mut until = start + ticks;
         for group in 0..stops.len() {
-            let takes = taken_at(stops, place, start, group);
-            missed.push(missed_at(stops, place, start, group))?;
-            taken.push(takes)?;
-            until = until.max(takes);
+            kept.push(stops[group].pace.is_kept())?;
+            missed.push(missed_at(stops, place, start, group) + ticks)?;
+            taken.push(counted_at(stops, place, start, kind, group) + ticks)?;
+            until = until.max(taken_at(stops, place, start, group) + ticks);
         }
         Ok(WholeWalk {
+            kept,
             missed,
             taken,
             until,
         })
-    }
-
-    /// Takes at the last group the job before the one that takes there, of a walk from an arrival of
-    /// the group at `place`.
-    fn take_job_before(&mut self, stops: &[Stop], place: usize, start: i64)
-        requires stops { AreStopsInRange stops.now }
-        requires place { place < length stops.now }
-        requires start { IsIntegerWithin FARTHEST_START start }
-        requires taken { length self.old.taken ≡ length stops.now }
-        ensures missed { length self.new.missed ≡ length self.old.missed }
-        ensures taken { length self.new.taken ≡ length self.old.taken }
-    {
-        let last = stops.len() - 1;
-        let takes = arrival_onward(stops, place, start, last);
-        *self.taken.item_mut(last) = stops[last].pace.previous(takes);
-    }
-
-    /// Finds the least arrival that has to have one before it: of the jobs that just miss and, of a
-    /// delay, of the job that takes at the first group in place of the one that misses there.
-    fn least_arrival(&self, kind: RequirementKind) -> i64
-        requires { 0 < length self.now.taken }
-    {
-        let mut least = self.taken.as_slice()[0];
-        for (group, arrival) in self.missed.as_slice().iter().enumerate() {
-            if group > 0 || !kind.is_delay() {
-                least = least.min(*arrival);
-            }
-        }
-        least
-    }
-
-    /// Moves the walk by so many ticks.
-    fn move_by(&mut self, ticks: i64)
-        ensures missed { length self.new.missed ≡ length self.old.missed }
-        ensures taken { length self.new.taken ≡ length self.old.taken }
-    {
-        move_all(&mut self.missed, ticks);
-        move_all(&mut self.taken, ticks);
-        self.until = self.until.saturating_add(ticks);
     }
 }
 
@@ -252,18 +236,19 @@ pub fn whole_walk(
     requires of_tasks { All (IsGroupOf model.now) groups.now }
     requires as_many { length timings.now ≡ length groups.now }
     requires near { All IsNear timings.now }
+    ensures walk { IfOk result (λ walk. (timing : Group → GroupTiming)
+        → timings.now ≡ map timing groups.now
+        → IsWholeWalkOf (system_of model.now) timing groups.now kind bound walk) }
+    ensures kept { IfOk result (λ walk. length walk.kept ≡ length groups.now) }
     ensures missed { IfOk result (λ walk. length walk.missed ≡ length groups.now) }
     ensures taken { IfOk result (λ walk. length walk.taken ≡ length groups.now) }
 {
     let course = course_of(model, groups, timings);
     let stops = course.stops.as_slice();
     let place = course.keeping.slowest(stops);
-    let start = start_attaining(&course, place, kind, bound);
-    let mut walk = WholeWalk::from(alloc, stops, place, start)?;
-    if kind == RequirementKind::Length(LengthKind::Reduced) {
-        walk.take_job_before(stops, place, start);
-    }
+    let ticks = course.keeping.hyperperiod;
+    let start = start_of(stops, course.ends, place, ticks, kind, bound);
     let steady = all_steady_from(model, groups);
-    walk.move_by(turns_to_reach(walk.least_arrival(kind), steady, course.keeping.hyperperiod));
-    Ok(walk)
+    let moved = turns_to_reach(least_arrival(stops, place, start, kind), steady, ticks);
+    WholeWalk::from(alloc, stops, place, start, kind, moved)
 }

@@ -80,7 +80,7 @@ module _ (asked : Asked) (latest : ℕ) (some : 1 ≤ latest) (within : latest �
 -- ---- by phases
 
 -- a task with a least response is settled by it
-settled_by_phase : (system : System) (task by_phase : ℕ) → task < length system.tasks
+pub settled_by_phase : (system : System) (task by_phase : ℕ) → task < length system.tasks
     → least_response (asked_by_phase system task (greatest_execution (timing_at system task))) ≡ Some by_phase → IsSettledByPhase system task by_phase
 unfolding response_by_phase
 settled_by_phase system task by_phase known found =

@@ -181,7 +181,7 @@ module _ (asked : Asked) (comes : ComesRound asked) where
       }
 
   -- where none is found, none up to the deadline answers all
-  none_answers : {P : Type 0} → least_response asked ≡ None → (response : ℕ) → 1 ≤ response → response ≤ asked.deadline → AnswersWithin asked response → P
+  pub none_answers : {P : Type 0} → least_response asked ≡ None → (response : ℕ) → 1 ≤ response → response ≤ asked.deadline → AnswersWithin asked response → P
   unfolding least_response
   none_answers none response some within answers =
       let inside : response - 1 < asked.deadline = omega (arith, some, within) in

@@ -71,7 +71,7 @@ module _ (asked : Asked) (phase : IsPhase asked.arrivals) (ticks : ℕ) (comes :
     demand_then : (width : ℕ) → asked.demand later width ≡ asked.demand start width
     demand_then width = ap (λ z. asked.demand z width) at ∙ comes.demand start width
 
-    ends_later : EndsBy asked start latest → EndsBy asked later then
+    pub ends_later : EndsBy asked start latest → EndsBy asked later then
     ends_later ends = record {
       width = ends.width;
       some = ends.some;
@@ -79,7 +79,7 @@ module _ (asked : Asked) (phase : IsPhase asked.arrivals) (ticks : ℕ) (comes :
       enough = subst (λ n. n ≤ ends.width) (sym (demand_then ends.width)) ends.enough;
     }
 
-    ends_earlier : EndsBy asked later then → EndsBy asked start latest
+    pub ends_earlier : EndsBy asked later then → EndsBy asked start latest
     ends_earlier ends = record {
       width = ends.width;
       some = ends.some;

@@ -35,6 +35,7 @@ pub mod PhasedReleases
 pub mod PhasedWindows
 pub mod PhasedAnswers
 pub mod LeastBehind
+pub mod AskedLess
 pub mod PartAnswers
 pub mod CountedWindows
 pub mod CountedSearches
@@ -49,3 +50,5 @@ pub mod WorstBeginnings
 pub mod WorstPlaces
 pub mod WorstTasks
 pub mod WorstCandidates
+pub mod WorstWithin
+pub mod WorstMoments

@@ -57,7 +57,7 @@ same_asked system task own question is = λ i. record {
 -- ---- a window of the tight question
 
 -- a sum that is at most another, item by item
-sums_ordered_on : {X : Type 0} (f g : X → ℕ) (xs : List X) → All (λ x. f x ≤ g x) xs → sum_by f xs ≤ sum_by g xs
+pub sums_ordered_on : {X : Type 0} (f g : X → ℕ) (xs : List X) → All (λ x. f x ≤ g x) xs → sum_by f xs ≤ sum_by g xs
 sums_ordered_on f g [] all = omega arith
 sums_ordered_on f g (x ∷ xs) all =
     omega (arith, sum_by-cons f x xs, sum_by-cons g x xs, All-head (λ y. f y ≤ g y) x xs all, sums_ordered_on f g xs (All-tail (λ y. f y ≤ g y) x xs all))

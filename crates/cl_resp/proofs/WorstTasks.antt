@@ -1,7 +1,7 @@
 -- From the worst window of a question to that of a task, and that a task has one worst window.
-use Rattle.std.proofs.Common.{◌≡◌, ℕ, zero, suc, ◌+◌, ◌-◌, ◌<◌, ◌≤◌, Bool, true, false, cond, ℤ, pos, negsuc, ◌+ℤ◌, ◌-ℤ◌, ◌≤ℤ◌, ◌<ℤ◌, refl, sym, ap, ◌∙◌, subst, arith}
+use Rattle.std.proofs.Common.{◌≡◌, ℕ, zero, suc, ◌+◌, ◌-◌, ◌<◌, ◌≤◌, Bool, true, false, cond, ℤ, pos, ◌-ℤ◌, ◌≤ℤ◌, ◌<ℤ◌, refl, sym, ap, ◌∙◌, subst, arith}
 use mathlib.Core.Path.{fun_ext}
-use Rattle.std.specs.Prelude.{Option, Some, None, is_some, find, filter, MatchOption}
+use Rattle.std.specs.Prelude.{Option, Some, None, is_some, find, filter}
 use Rattle.std.specs.List.{range_with_len}
 use Rattle.std.specs.Option.{option_map}
 use Rattle.std.proofs.lemmas.Bool.{true≢false}
@@ -19,14 +19,10 @@ use Rattle.cl_resp.specs.Asked.{Asked, suffices, least_response}
 use Rattle.cl_resp.specs.ByPhase.{asked_by_phase, response_by_phase}
 use Rattle.cl_resp.specs.Question.{greatest_execution}
 use Rattle.cl_resp.specs.Response.{Response}
-use Rattle.cl_resp.specs.Worst.{less_than, within_of, IsUnanswered, IsFirstUnanswered, IsLeastUnanswered, PassesOrZero, is_released_in, IsCandidate, IsWorstBy, IsWorstWindowOf, HasNoWorstWindow}
+use Rattle.cl_resp.specs.Worst.{less_than, within_of, IsUnanswered, IsFirstUnanswered, IsLeastUnanswered, PassesOrZero, is_released_in, IsCandidate, IsWorstBy, IsWorstWindowOf}
 use Rattle.cl_resp.specs.Inner.Counted.{by_phase_of, in_phase_with}
 use Rattle.cl_resp.specs.Inner.Phased.{asked_of, IsPhasedQuestionOf}
-use Rattle.cl_resp.specs.Inner.Worst.{IsCandidateOf, AreCandidatesAnswered, IsLeastAfter}
-use Rattle.cl_stim.specs.Phase.{IsPhase}
-use Rattle.cl_stim.proofs.ArrivalTests.{test_from_arrival}
-use Rattle.cl_resp.proofs.SearchedStarts.{unanswered, fails_at}
-use Rattle.cl_resp.proofs.WorstBeginnings.{never_both}
+use Rattle.cl_resp.specs.Inner.Worst.{IsCandidateOf, IsLeastAfter}
 use Rattle.cl_resp.proofs.WorstCandidates.{passes_mapped}
 
 -- ---- there is one
@@ -173,52 +169,3 @@ module _ (system : System) (task : ℕ) (question : PhasedQuestion)
         (same_asked system task (greatest_execution (timing_at system task)) question is_question)
         (least_is system task (within_of system task) question start list follows least));
   }
-
-  -- where all are answered there is none
-  none_fixed : IsPhase asked.arrivals → (within : ℕ) → suffices asked within ≡ true → (arrival start : ℤ) → IsUnanswered asked within arrival start → ⊥
-  none_fixed phase within enough (pos moment) start lacks =
-      true≢false (sym enough ∙ fails_at asked within moment (below moment asked.cycle lacks.in_cycle) (test_from_arrival asked.arrivals phase (pos moment) lacks.arrives)
-      (unanswered asked phase (pos moment) within start lacks.may_begin (never_both asked start (pos moment +ℤ pos within) lacks.none)))
-    where
-      below : (moment cycle : ℕ) → pos moment <ℤ pos cycle → moment < cycle
-      below moment cycle less = omega (arith, ints, less)
-  none_fixed phase within enough (negsuc before) start lacks = absurd (no before lacks.not_before)
-    where
-      no : (n : ℕ) → pos 0 ≤ℤ negsuc n → ⊥
-      no n after = omega (arith, ints, after)
-
-  -- ---- what the search finds
-
-  pub found_fixed : (phase : Phase) → phase_of (timing_at system task).pattern ≡ Some phase → IsPhase question.arrivals → (within : ℕ) → within ≡ within_of system task
-      → (found : Option WorstWindow) → MatchOption found (suffices (asked_of question) within ≡ true) (IsFirstUnanswered (asked_of question) within)
-      → MatchOption found (HasNoWorstWindow system task) (IsWorstWindowOf system task)
-  found_fixed phase fixed well within same None is = λ window worst.
-      let here = same_asked system task (greatest_execution (timing_at system task)) question is_question in
-      let first = subst (λ f. IsWorstBy f asked (IsCandidate system task asked.cycle) (within_of system task) window) fixed worst.worst in
-      none_fixed (subst IsPhase (ap (λ (a : Asked). a.arrivals) here) well) (within_of system task)
-      (subst (λ n. suffices asked n ≡ true) same (subst (λ a. suffices a within ≡ true) here is))
-      window.arrival window.start first.unanswered
-  found_fixed phase fixed well within same (Some window) is = worst_fixed phase fixed window (subst (λ n. IsFirstUnanswered (asked_of question) n window) same is)
-
-  none_other : phase_of (timing_at system task).pattern ≡ None → question.in_phase ≡ in_phase_with system (in_phase_above system task) task
-      → ((moment : ℤ) → IsCandidateOf question moment → (pos 0 -ℤ pos 1) <ℤ moment)
-      → AreCandidatesAnswered question (within_of system task) (pos 0 -ℤ pos 1) → HasNoWorstWindow system task
-  none_other fixed list follows answered window worst =
-      let here = same_asked system task (greatest_execution (timing_at system task)) question is_question in
-      let least = subst (λ f. IsWorstBy f asked (IsCandidate system task asked.cycle) (within_of system task) window) fixed worst.worst in
-      let there = subst (λ a. IsLeastUnanswered a (IsCandidate system task a.cycle) (within_of system task) window) (sym here) least in
-      let candidate = cast (IsCandidate system task question.cycle window.start) (IsCandidateOf question window.start)
-      (sym (same_candidates system task question window.start list)) there.is_candidate in
-      never_both (asked_of question) window.start (window.start +ℤ pos (within_of system task)) there.none
-      (answered window.start (follows window.start candidate) candidate)
-
-  pub found_other : phase_of (timing_at system task).pattern ≡ None → question.in_phase ≡ in_phase_with system (in_phase_above system task) task
-      → ((moment : ℤ) → IsCandidateOf question moment → (pos 0 -ℤ pos 1) <ℤ moment) → (within : ℕ) → within ≡ within_of system task
-      → (found : Option ℤ) → MatchOption found (AreCandidatesAnswered question within (pos 0 -ℤ pos 1)) (IsLeastAfter question within (pos 0 -ℤ pos 1))
-      → MatchOption (option_map (λ (start : ℤ). record { arrival = start; start = start }) found) (HasNoWorstWindow system task) (IsWorstWindowOf system task)
-  found_other fixed list follows within same None is =
-      none_other fixed list follows (subst (λ n. AreCandidatesAnswered question n (pos 0 -ℤ pos 1)) same is)
-  found_other fixed list follows within same (Some start) is =
-      worst_other fixed start list follows (subst (λ n. IsLeastAfter question n (pos 0 -ℤ pos 1) start) same is)
-
--- ---- what a question has in phase

@@ -3,6 +3,7 @@ pub mod Response
 pub mod Clear
 pub mod Asked
 pub mod ByPhase
+pub mod LesserTimes
 pub mod Reached
 pub mod Worst
 pub mod Promises

@@ -87,7 +87,3 @@ pub record IsWorstWindowOf (system : System) (task : ℕ) (window : WorstWindow)
   pub worst : IsWorstBy (phase_of (timing_at system task).pattern) (asked_by_phase system task (greatest_execution (timing_at system task)))
       (IsCandidate system task (asked_by_phase system task (greatest_execution (timing_at system task))).cycle)
       (within_of system task) window
-
--- it has none
-abbrev pub HasNoWorstWindow : System → (task : ℕ) → Type 0
-HasNoWorstWindow system task = (window : WorstWindow) → IsWorstWindowOf system task window → ⊥

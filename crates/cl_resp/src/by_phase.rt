@@ -8,6 +8,7 @@ ghost use Rattle.cl_runs.specs.SystemOf.{system_of};
 ghost use Rattle.cl_runs.specs.TaskTiming.{timing_at};
 ghost use Rattle.cl_stim.specs.Integers.{IsIntegerWithin};
 ghost use Rattle.cl_stim.specs.Phase.{arrives_at};
+ghost use Rattle.cl_cycle.specs.Promises.{IsCycleOf};
 ghost use Rattle.cl_resp.specs.Asked.{is_answered, suffices, least_response};
 ghost use Rattle.cl_resp.specs.ByPhase.{response_by_phase, response_through, IsSettledByPhase};
 ghost use Rattle.cl_resp.specs.Clear.{greatest_behind};
@@ -19,9 +20,10 @@ ghost use Rattle.cl_resp.specs.Inner.Searching.{IsSearchOf, IsReached, NoneSuffi
 
 use crate::answering::settle;
 use crate::asking::ask_tight;
-use crate::phased::{PhasedQuestion, ask_by_phase};
+use crate::phased::{PhasedQuestion, ask_by_phase, ask_in_cycle};
 use crate::question::Question;
 use crate::settled::{Late, Settled};
+use cl_cycle::Cycle;
 use cl_model::ValidModel;
 use cl_time::NoMemory;
 use std::alloc::Global;
@@ -229,7 +231,30 @@ pub fn respond_by_phase(
     ensures finishing { IfOk result (λ answer. IfOk answer (λ settled.
         AlwaysFinishesWithin (system_of model.now) task settled.response)) }
 {
-    let question = ask_by_phase(alloc, model, task)?;
+    let cycle = Cycle::of(model, task);
+    respond_in_cycle(alloc, model, task, &cycle, widest)
+}
+
+/// Finds the response of a task as `respond_by_phase` does, where its cycle is known: which tasks
+/// are in phase, and when they come round. No execution time is part of that.
+pub fn respond_in_cycle(
+    alloc: Global,
+    model: &ValidModel,
+    task: u32,
+    cycle: &Cycle,
+    widest: Option<u64>,
+) -> Result<Result<Settled, Late>, NoMemory>
+    requires task { task < length model.now.tasks }
+    requires cycle { IsCycleOf (system_of model.now) task cycle.now }
+    requires widest { widest
+        ≡ busy_window (tight_question_of (system_of model.now) (timing_at (system_of model.now) task)) }
+    ensures response { IfOk result (λ answer. MatchResult answer
+        (λ settled. response_by_phase (system_of model.now) task ≡ Some settled)
+        (λ _. response_by_phase (system_of model.now) task ≡ None)) }
+    ensures finishing { IfOk result (λ answer. IfOk answer (λ settled.
+        AlwaysFinishesWithin (system_of model.now) task settled.response)) }
+{
+    let question = ask_in_cycle(alloc, model, task, cycle)?;
     let least = least_window(&question, widest);
     let most = response_in_window(&question, widest);
     match longest_answer(&question, least, widest, most) {

@@ -16,7 +16,7 @@ mod worst;
 
 pub use answering::{demand, respond, respond_from, settle};
 pub use asking::{ask, ask_either, ask_tight};
-pub use by_phase::{respond_by_phase, respond_through, widest_window};
+pub use by_phase::{respond_by_phase, respond_in_cycle, respond_through, widest_window};
 pub use question::{Above, Block, Question};
 pub use reached::{Reached, from_the_top, respond_below};
 pub use settled::{Late, Settled};

@@ -5,6 +5,7 @@ ghost use Rattle.cl_model.specs.Validity.{IsValid};
 ghost use Rattle.cl_runs.specs.SystemOf.{system_of};
 ghost use Rattle.cl_runs.specs.TaskTiming.{timing_at};
 ghost use Rattle.cl_cycle.specs.Cycles.{in_phase_above};
+ghost use Rattle.cl_cycle.specs.Promises.{IsCycleOf};
 ghost use Rattle.cl_resp.specs.Question.{greatest_execution, tight_question_of};
 ghost use Rattle.cl_resp.specs.Inner.Phased.{IsPhasedInRange, IsPhasedQuestionOf};
 ghost use Rattle.cl_resp.specs.Inner.Counted.{counts, in_phase_with, beside_with};
@@ -60,18 +61,41 @@ pub(crate) fn ask_by_phase(
     ensures in_range { IfOk result IsPhasedInRange }
     ensures valid { IsValid model.now }
 {
-    let priority = model.task(task).priority;
     let cycle = Cycle::of(model, task);
+    ask_in_cycle(alloc, model, task, &cycle)
+}
+
+/// Puts together the question of a task by phases, whose cycle is this one.
+pub(crate) fn ask_in_cycle(
+    alloc: Global,
+    model: &ValidModel,
+    task: u32,
+    cycle: &Cycle,
+) -> Result<PhasedQuestion, NoMemory>
+    requires task { task < length model.now.tasks }
+    requires cycle { IsCycleOf (system_of model.now) task cycle.now }
+    ensures question { IfOk result
+        (IsPhasedQuestionOf (system_of model.now) task (greatest_execution (timing_at (system_of model.now) task))) }
+    ensures time { IfOk result (λ question. question.beside.time
+        ≡ greatest_execution (timing_at (system_of model.now) task)) }
+    ensures in_phase { IfOk result (λ question. question.in_phase
+        ≡ in_phase_with (system_of model.now) (in_phase_above (system_of model.now) task) task) }
+    ensures alone { IfOk result (λ question. question.in_phase ≡ [] → question.beside
+        ≡ tight_question_of (system_of model.now) (timing_at (system_of model.now) task)) }
+    ensures in_range { IfOk result IsPhasedInRange }
+    ensures valid { IsValid model.now }
+{
+    let priority = model.task(task).priority;
     Ok(PhasedQuestion {
         arrivals: arrivals_of(model.stimulus_of(task)),
         cycle: cycle.ticks(),
-        in_phase: all_in_phase(alloc, model, task, &cycle)?,
+        in_phase: all_in_phase(alloc, model, task, cycle)?,
         beside: Question {
             time: model.time_of(task),
             block: block_of(model, task, priority, Block::OfLower),
             jitter: model.jitter_of(task),
             deadline: model.deadline_of(task),
-            above: all_beside(alloc, model, task, &cycle)?,
+            above: all_beside(alloc, model, task, cycle)?,
         },
     })
 }

@@ -11,7 +11,7 @@ ghost use Rattle.cl_resp.specs.declared.phased.InPhase.{InPhase};
 ghost use Rattle.cl_resp.specs.Asked.{EndsBy, suffices};
 ghost use Rattle.cl_resp.specs.ByPhase.{response_by_phase};
 ghost use Rattle.cl_resp.specs.Response.{Response};
-ghost use Rattle.cl_resp.specs.Worst.{less_than, NoneEndsBy, IsFirstUnanswered, is_released_in, IsWorstWindowOf, HasNoWorstWindow};
+ghost use Rattle.cl_resp.specs.Worst.{less_than, NoneEndsBy, IsFirstUnanswered, is_released_in, IsWorstWindowOf};
 ghost use Rattle.cl_resp.specs.Inner.Phased.{asked_of, IsPhasedInRange};
 ghost use Rattle.cl_resp.specs.Inner.Worst.{IsAllAnswered, IsLatestUnanswered, AreAnsweredBefore, IsCandidateOf, AreCandidatesAnswered, IsLeastAfter};
 
@@ -215,19 +215,6 @@ fn is_fixed(kind: StimulusKind) -> bool
     }
 }
 
-/// Returns the window of an arrival that begins with it.
-fn window_at(start: Option<i64>) -> Option<WorstWindow>
-    ensures { result ≡ option_map (λ start. record { arrival = start; start = start }) start }
-{
-    match start {
-        Some(start) => Some(WorstWindow {
-            arrival: start,
-            start,
-        }),
-        None => None,
-    }
-}
-
 /// Finds the worst window of a task, given by its number and its response by phases; `None` stands
 /// for a late task.
 ///
@@ -236,26 +223,33 @@ fn window_at(start: Option<i64>) -> Option<WorstWindow>
 /// it is the one that begins first, of those that begin where a job of a task in phase is released
 /// at the latest.
 ///
-/// `None` comes exactly where it has no worst window. `NoMemory` comes where there is no memory for
-/// a list of the tasks above; it leaves nothing.
+/// Each task has one. `NoMemory` comes where there is no memory for a list of the tasks above; it
+/// leaves nothing.
 pub fn worst_window(
     alloc: Global,
     model: &ValidModel,
     task: u32,
     response: Option<u64>,
-) -> Result<Option<WorstWindow>, NoMemory>
+) -> Result<WorstWindow, NoMemory>
     requires task { task < length model.now.tasks }
     requires response { option_map (λ (settled : Response). settled.response)
         (response_by_phase (system_of model.now) task) ≡ response }
-    ensures { IfOk result (λ worst. MatchOption worst
-        (HasNoWorstWindow (system_of model.now) task)
-        (IsWorstWindowOf (system_of model.now) task)) }
+    ensures { IfOk result (IsWorstWindowOf (system_of model.now) task) }
 {
     let question = ask_by_phase(alloc, model, task)?;
     let within = less_than(response, question.beside.deadline);
     if is_fixed(model.stimulus_of(task)) {
-        Ok(first_unanswered(&question, within))
+        match first_unanswered(&question, within) {
+            Some(window) => Ok(window),
+            None => unreachable!(),
+        }
     } else {
-        Ok(window_at(least_unanswered(&question, within)))
+        match least_unanswered(&question, within) {
+            Some(start) => Ok(WorstWindow {
+                arrival: start,
+                start,
+            }),
+            None => unreachable!(),
+        }
     }
 }

@@ -6,9 +6,11 @@ pub mod EarliestReads
 pub mod PhasedTimings
 pub mod NearTimings
 pub mod TimedTimings
+pub mod LongerTimes
 pub mod TightChains
 pub mod ExactDelays
 pub mod TightRequirements
+pub mod LongerFindings
 pub mod TightLaws
 pub mod TightLists
 pub mod Verified

@@ -110,7 +110,7 @@ module _ (model : SystemModel) (valid : IsValid model) where
     abbrev groups : List Group
     groups = groups_at model chain
 
-    of_tasks : All (IsGroupOfTask system) groups
+    pub of_tasks : All (IsGroupOfTask system) groups
     of_tasks = All-weaker (IsGroupOf model) (IsGroupOfTask system) (group_of_system model) groups (groups_at_are model valid chain)
 
     -- the tight bounds of the chain
@@ -130,7 +130,7 @@ module _ (model : SystemModel) (valid : IsValid model) where
           (settled_groups answers model (chain_at model chain) none, own)
 
       -- and they are given where none is
-      tight_where : NoneIsLate answers groups → chain_answer_at (tight_chain_answers_of model) chain ≡ Bounds own_bounds
+      pub tight_where : NoneIsLate answers groups → chain_answer_at (tight_chain_answers_of model) chain ≡ Bounds own_bounds
       unfolding tight_chain_answer_of
       tight_where timely =
           tight_answer ∙ ap (λ (first : Option ℕ). chain_answer first own_bounds) (none_late answers model (chain_at model chain) timely)

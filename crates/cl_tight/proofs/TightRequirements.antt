@@ -85,7 +85,7 @@ module _ (model : SystemModel) (valid : IsValid model) where
   system = system_of model
 
   -- a chain that has tight bounds is a chain of the model
-  bounded_chain : (chain : ℕ) (bounds : Lengths) → chain_answer_at (tight_chain_answers_of model) chain ≡ Bounds bounds → chain < length model.chains
+  pub bounded_chain : (chain : ℕ) (bounds : Lengths) → chain_answer_at (tight_chain_answers_of model) chain ≡ Bounds bounds → chain < length model.chains
   bounded_chain chain bounds is =
       lt_of_not-le (λ past. not_late (sym (get_or_past (tight_chain_answers_of model) chain (Late 0) (omega (arith, past, length-map model.chains (tight_chain_answer_of model)))) ∙ is))
     where

@@ -36,7 +36,11 @@ module _ (system : System) (task : ℕ) (is : task < length system.tasks) where
       let found = answered (response_by_phase system task) (answer_at (tight_answers_of system) task) phased_answer timely in
       record { is_task = is; window = found.0; answered = found.1 }
 
-  -- and so has a settled task, no later
+  -- and one that has isn't late
+  pub timely_by_phase : (response : ℕ) → IsSettledByPhase system task response → is_late (answer_at (tight_answers_of system) task) ≡ false
+  timely_by_phase response settled = ap is_late (phased_answer ∙ ap answer_with settled.answered)
+
+  -- a settled task has one, no later
   pub tight_of_settled : IsSound system → (response : ℕ) → IsSettled system task response
       → IsSettledByPhase system task (tight_response system task) × (tight_response system task ≤ response)
   tight_of_settled sound response settled =

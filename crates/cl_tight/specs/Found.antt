@@ -1,5 +1,5 @@
 -- Numbers of the runnables of a model that have been found so far.
-use Rattle.std.specs.Prelude.{◌≡◌, ℕ, List, [], Option, Some, None, slice_index_or}
+use Rattle.std.specs.Prelude.{◌≡◌, ℕ, [], Option, Some, None, slice_index_or}
 use Rattle.cl_runs.specs.TaskTiming.{System}
 use Rattle.cl_lead.specs.Leads.{lead_at}
 use Rattle.cl_tight.specs.TightTimings.{part_response}

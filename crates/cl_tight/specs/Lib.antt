@@ -1,5 +1,6 @@
 pub mod TightAnswers
 pub mod TightTimings
+pub mod LongerTimes
 pub mod Found
 pub mod TightFindings
 pub mod ExactBounds

@@ -1,6 +1,6 @@
 //! How early the groups of a model read, and how late they have written, by the phases of their
 //! cores. Times are in ticks.
-ghost use Rattle.std.specs.Prelude.{◌≡◌, ◌<◌, ◌≤◌, false, length, map, All, IfOk};
+ghost use Rattle.std.specs.Prelude.{◌≡◌, ◌≢◌, ℕ, ◌<◌, ◌≤◌, None, false, length, map, All, IfOk};
 ghost use Rattle.cl_model.specs.declared.limits.TheConstants.{MOST_STEPS};
 ghost use Rattle.cl_model.specs.ByNumber.{task_at};
 ghost use Rattle.cl_model.specs.Groups.{IsGroupOf};
@@ -12,7 +12,7 @@ ghost use Rattle.cl_bound.specs.Answers.{answer_at, is_late, response_in, NoneIs
 ghost use Rattle.cl_bound.specs.Hops.{IsNear};
 ghost use Rattle.cl_tight.specs.TightAnswers.{tight_answers_of, tight_response};
 ghost use Rattle.cl_tight.specs.TightTimings.{earliest_read, part_response, latest_write, tight_timing};
-ghost use Rattle.cl_tight.specs.Found.{AreWindowsOf};
+ghost use Rattle.cl_tight.specs.Found.{number_found, AreWindowsOf};
 
 use crate::found::FoundNumbers;
 use arrayvec::ArrayVec;
@@ -147,9 +147,39 @@ impl AccessWindows {
         ensures found { AreWindowsOf (system_of model.now) self.new }
     {
         let response = response_in(&settled.as_slice()[group.task as usize]);
+        self.timing_within(alloc, model, group, response)
+    }
+
+    /// Puts together what tight bounds know of a group, whose task has this response by phases.
+    pub fn timing_within(
+        &mut self,
+        alloc: Global,
+        model: &ValidModel,
+        group: Group,
+        response: u64,
+    ) -> Result<GroupTiming, NoMemory>
+        requires group { IsGroupOf model.now group }
+        requires response { response ≡ tight_response (system_of model.now) group.task }
+        requires settled { IsSettledByPhase (system_of model.now) group.task response }
+        requires found { AreWindowsOf (system_of model.now) self.old }
+        ensures timing { IfOk result (λ timing. timing ≡ tight_timing (system_of model.now) group) }
+        ensures near { IfOk result IsNear }
+        ensures found { AreWindowsOf (system_of model.now) self.new }
+    {
         let read = self.read(model, group);
         let write = self.write(alloc, model, group, response)?;
         Ok(GroupTiming::in_window(model, group, read, write))
+    }
+
+    /// Forgets the responses of the runnables of a task up to each, as its times or those on its core
+    /// change. Leads stay: they depend on least times alone.
+    pub fn forget_parts(&mut self, task: u32)
+        ensures leads { self.new.leads ≡ self.old.leads }
+        ensures parts { (place : ℕ) → number_found self.new.parts task place ≡ None }
+        ensures others { (other place : ℕ) → other ≢ task
+            → number_found self.new.parts other place ≡ number_found self.old.parts other place }
+    {
+        self.parts.forget(task);
     }
 
     /// Puts together what tight bounds know of groups of a valid model, from the answers by phases

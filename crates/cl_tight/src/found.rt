@@ -1,6 +1,6 @@
 //! Numbers of the runnables of a model, as far as they have been found.
-ghost use Rattle.std.specs.Prelude.{◌≡◌, ℕ, None, IfOk, IfSome, All};
-ghost use Rattle.cl_tight.specs.Found.{AreFoundNumbersOf};
+ghost use Rattle.std.specs.Prelude.{◌≡◌, ◌≢◌, ℕ, None, IfOk, IfSome, All};
+ghost use Rattle.cl_tight.specs.Found.{number_found, AreFoundNumbersOf};
 
 use cl_model::{List, ValidModel};
 use cl_time::NoMemory;
@@ -22,6 +22,15 @@ fn room_of_task(alloc: Global, runnables: usize) -> Result<List<Option<u64>>, No
         room.push(None)?;
     }
     Ok(room)
+}
+
+/// Forgets all numbers of a task.
+fn forget_all(numbers: &mut List<Option<u64>>)
+    ensures { All (λ number. number ≡ None) numbers.new }
+{
+    for place in 0..numbers.len() {
+        *numbers.item_mut(place) = None;
+    }
 }
 
 impl FoundNumbers {
@@ -57,6 +66,18 @@ impl FoundNumbers {
             if place < numbers.len() {
                 *numbers.item_mut(place) = Some(number);
             }
+        }
+    }
+
+    /// Forgets the numbers of the runnables of a task.
+    pub(crate) fn forget(&mut self, task: u32)
+        ensures none { (place : ℕ) → number_found self.new task place ≡ None }
+        ensures others { (other place : ℕ) → other ≢ task
+            → number_found self.new other place ≡ number_found self.old other place }
+    {
+        let task = task as usize;
+        if task < self.by_task.len() {
+            forget_all(self.by_task.item_mut(task));
         }
     }
 }

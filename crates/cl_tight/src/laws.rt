@@ -11,6 +11,7 @@ ghost use Rattle.cl_tight.specs.Promises.{AreSafeTightFindings, AreAsTight};
 
 pub mod complete;
 pub mod exact;
+pub mod longer;
 pub mod timings;
 
 /// In every legal run of a valid model, of any length, each job of a settled task finishes within

@@ -3,12 +3,13 @@ pub mod Alone
 pub mod OnModels
 pub mod Simulate
 pub mod Witness
+pub mod Why
 pub mod Replay
 pub mod Draw
 pub mod Edit
 pub mod Apply
 pub mod Check
-use Rattle.std.proofs.Common.{◌≡◌, ℕ, ◌+◌, ◌<◌, ◌≤◌, List, [], ◌∷◌, drop, length, Option, Some, None, subst, arith}
+use Rattle.std.proofs.Common.{◌≡◌, ℕ, ◌+◌, ◌<◌, ◌≤◌, List, [], ◌∷◌, length, Option, Some, None, subst, arith}
 use Rattle.std.proofs.lemmas.Bool.{cond_both}
 use Rattle.std.specs.Prelude.{codes}
 use Rattle.std.specs.Str.{bytes_eq}
@@ -34,6 +35,7 @@ use Rattle.cl_top.proofs.WellMeant.Edit.{editing_well}
 use Rattle.cl_top.proofs.WellMeant.OnModels.{analysing_well, migrating_well, cutting_well, ordering_well, headroom_well, tightening_well, verifying_well, explaining_well}
 use Rattle.cl_top.proofs.WellMeant.Replay.{replaying_well, replayed_once}
 use Rattle.cl_top.proofs.WellMeant.Simulate.{simulating_well}
+use Rattle.cl_top.proofs.WellMeant.Why.{reasoning_well}
 use Rattle.cl_top.proofs.WellMeant.Witness.{witnessing_well}
 use Rattle.cl_top.proofs.Meanings.{IsMeantWell}
 use Rattle.cl_top.proofs.Words.{IsFew, IsGood, whole_good, numbered_good, subject_good}
@@ -49,6 +51,7 @@ meant_well command.Tighten = tightening_well
 meant_well command.Verify = verifying_well
 meant_well command.Explain = explaining_well
 meant_well (command.Witness what name) = witnessing_well what name (AsksForFew (command.Witness what name))
+meant_well (command.Why what name) = reasoning_well what name (AsksForFew (command.Why what name))
 meant_well (command.Simulate ticks seed) = simulating_well ticks seed (AsksForFew (command.Simulate ticks seed))
 meant_well command.Replay = replaying_well
 meant_well (command.Draw from to) = drawing_well from to (AsksForFew (command.Draw from to))
@@ -71,7 +74,7 @@ of_run_same asked model valid run legal one other h k = absurd h
 
 -- what holds of each command behind a verb, and of none, holds of the words
 module _ (P : Option Command → Type 0) (words : List (List ℕ)) (of_whole : (asked : Command) → AsksForFew asked → P (whole asked words))
-    (witness : P (with_subject command.Witness (drop 2 words)))
+    (witness : P (with_subject command.Witness words)) (why : P (with_subject command.Why words))
     (simulate : P (with_two_numbers command.Simulate 2 (upto MOST_RUN_TICKS) any_seed words)) (draw : P (with_two_numbers command.Draw 3 (upto MOST_WINDOW) (upto MOST_WINDOW) words))
     (generate : P (with_two_numbers command.Generate 1 any_seed some_tasks words)) (survey : P (with_two_numbers command.Survey 1 any_seed some_tasks words)) (none : P None) where
   each_verb : (verb : List ℕ) → P (by_verb verb words)
@@ -86,6 +89,7 @@ module _ (P : Option Command → Type 0) (words : List (List ℕ)) (of_whole : (
       cond_both (bytes_eq verb (codes "verify")) _ _ P (λ _. of_whole command.Verify tt) (λ _.
       cond_both (bytes_eq verb (codes "explain")) _ _ P (λ _. of_whole command.Explain tt) (λ _.
       cond_both (bytes_eq verb (codes "witness")) _ _ P (λ _. witness) (λ _.
+      cond_both (bytes_eq verb (codes "why")) _ _ P (λ _. why) (λ _.
       cond_both (bytes_eq verb (codes "simulate")) _ _ P (λ _. simulate) (λ _.
       cond_both (bytes_eq verb (codes "replay")) _ _ P (λ _. of_whole command.Replay tt) (λ _.
       cond_both (bytes_eq verb (codes "draw")) _ _ P (λ _. draw) (λ _.
@@ -95,7 +99,7 @@ module _ (P : Option Command → Type 0) (words : List (List ℕ)) (of_whole : (
       cond_both (bytes_eq verb (codes "survey")) _ _ P (λ _. survey) (λ _.
       cond_both (bytes_eq verb (codes "check")) _ _ P (λ _. of_whole command.Check tt) (λ _.
       cond_both (asks_help verb) _ _ P (λ _. of_whole command.Help tt) (λ _.
-      cond_both (asks_version verb) _ _ P (λ _. of_whole command.Version tt) (λ _. none)))))))))))))))))))
+      cond_both (asks_version verb) _ _ P (λ _. of_whole command.Version tt) (λ _. none))))))))))))))))))))
 
 by_words : (words : List (List ℕ)) → IsGood AsksForFew words (command_of words)
 unfolding command_of AsksForFew
@@ -104,6 +108,7 @@ by_words (verb ∷ rest) =
     let words = verb ∷ rest in
     each_verb (IsGood AsksForFew words) words (λ asked few. whole_good AsksForFew asked few words)
     (subject_good AsksForFew command.Witness (λ what name. (tt, omega arith)) words)
+    (subject_good AsksForFew command.Why (λ what name. (tt, omega arith)) words)
     (numbered_good AsksForFew command.Simulate (upto MOST_RUN_TICKS) any_seed 2 (λ n m small low high. (small, omega arith)) words)
     (numbered_good AsksForFew command.Draw (upto MOST_WINDOW) (upto MOST_WINDOW) 3 (λ n m small low high. (high, omega arith)) words)
     (numbered_good AsksForFew command.Generate any_seed some_tasks 1 (λ n m small low high. ((low, high), omega arith)) words)

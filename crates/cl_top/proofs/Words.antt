@@ -14,7 +14,7 @@ use Rattle.cl_top.specs.declared.command.Command.{Command}
 use Rattle.cl_model.specs.Name.{is_name}
 use Rattle.cl_top.specs.declared.subject.What.{What}
 use Rattle.cl_top.specs.Subject.{what_of}
-use Rattle.cl_top.specs.Command.{files_read, whole, with_two_numbers, named_by, with_subject}
+use Rattle.cl_top.specs.Command.{files_read, whole, with_two_numbers, named_by, subject_of, with_subject}
 
 -- few tasks, and some
 abbrev pub IsFew : (tasks : ℕ) → Type 0
@@ -74,19 +74,23 @@ module _ (Few : Command → Type 0) (asked : ℕ → ℕ → Command) (one other
   pub numbered_good : (words : List (List ℕ)) → IsGood Few words (with_two_numbers asked place one other words)
   numbered_good words = of_left words (drop place words) refl
 
--- what a run is asked of and its name, behind a verb and a file
+-- what is asked of and its name, behind a verb and a file
 module _ (Few : Command → Type 0) (asked : What → List ℕ → Command)
     (each : (what : What) (name : List ℕ) → Few (asked what name) × (file_count (files_read (asked what name)) < 4)) (words : List (List ℕ)) where
-  named_good : 4 ≤ length words → (what : Option What) (name : List ℕ) → IsGood Few words (named_by asked what name)
-  named_good long None name = cond_both (is_name name) _ _ (IsGood Few words) (λ _. tt) (λ _. tt)
-  named_good long (Some what) name =
-      cond_both (is_name name) _ _ (IsGood Few words) (λ _. ((each what name).0, omega (arith, (each what name).1, long))) (λ _. tt)
+  -- the command on a subject, where there is one, is good
+  abbrev IsGoodOf : Option (What × List ℕ) → Type 0
+  IsGoodOf found = IsGood Few words (option_map (λ subject. asked subject.0 subject.1) found)
 
-  subject_left : (left : List (List ℕ)) → drop 2 words ≡ left → IsGood Few words (with_subject asked left)
+  named_good : 4 ≤ length words → (what : Option What) (name : List ℕ) → IsGoodOf (named_by what name)
+  named_good long None name = cond_both (is_name name) None None IsGoodOf (λ _. tt) (λ _. tt)
+  named_good long (Some what) name =
+      cond_both (is_name name) (Some (what, name)) None IsGoodOf (λ _. ((each what name).0, omega (arith, (each what name).1, long))) (λ _. tt)
+
+  subject_left : (left : List (List ℕ)) → drop 2 words ≡ left → IsGoodOf (subject_of left)
   subject_left [] is = tt
   subject_left (a ∷ []) is = tt
   subject_left (a ∷ b ∷ []) is = named_good (omega (arith, long_enough 2 words a (b ∷ []) is)) (what_of a) b
   subject_left (a ∷ b ∷ c ∷ left) is = tt
 
-  pub subject_good : IsGood Few words (with_subject asked (drop 2 words))
+  pub subject_good : IsGood Few words (with_subject asked words)
   subject_good = subject_left (drop 2 words) refl

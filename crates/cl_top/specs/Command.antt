@@ -55,13 +55,18 @@ whole asked words = if length words == file_count (files_read asked) + 1 then So
 abbrev pub with_two_numbers : (asked : ℕ → ℕ → Command) → (place : ℕ) → (one other : Bounds) → List (List ℕ) → Option Command
 with_two_numbers asked place one other words = option_map (λ numbers. asked numbers.0 numbers.1) (two_numbers one other (drop place words))
 
--- behind these words what a run is asked of and its name, and nothing behind them
-abbrev pub named_by : (asked : What → List ℕ → Command) → Option What → (name : List ℕ) → Option Command
-named_by asked what name = if is_name name then option_map (λ of. asked of name) what else None
+-- what is asked of, where it is a name
+abbrev pub named_by : Option What → (name : List ℕ) → Option (What × List ℕ)
+named_by what name = if is_name name then option_map (λ of. (of, name)) what else None
 
+-- the words are what is asked of and its name
+abbrev pub subject_of : List (List ℕ) → Option (What × List ℕ)
+subject_of (what ∷ name ∷ []) = named_by (what_of what) name
+subject_of words = None
+
+-- the words behind a verb and a file are what is asked of and its name
 abbrev pub with_subject : (asked : What → List ℕ → Command) → List (List ℕ) → Option Command
-with_subject asked (what ∷ name ∷ []) = named_by asked (what_of what) name
-with_subject asked words = None
+with_subject asked words = option_map (λ subject. asked subject.0 subject.1) (subject_of (drop 2 words))
 
 -- the words that ask for help, and for the version
 abbrev pub asks_help : List ℕ → Bool
@@ -81,7 +86,8 @@ by_verb verb words =
     else if bytes_eq verb (codes "tighten") then whole command.Tighten words
     else if bytes_eq verb (codes "verify") then whole command.Verify words
     else if bytes_eq verb (codes "explain") then whole command.Explain words
-    else if bytes_eq verb (codes "witness") then with_subject command.Witness (drop 2 words)
+    else if bytes_eq verb (codes "witness") then with_subject command.Witness words
+    else if bytes_eq verb (codes "why") then with_subject command.Why words
     else if bytes_eq verb (codes "simulate") then with_two_numbers command.Simulate 2 (upto MOST_RUN_TICKS) any_seed words
     else if bytes_eq verb (codes "replay") then whole command.Replay words
     else if bytes_eq verb (codes "draw") then with_two_numbers command.Draw 3 (upto MOST_WINDOW) (upto MOST_WINDOW) words

@@ -1,6 +1,7 @@
 -- What each command comes to, the steps that it takes, and what is promised of its text.
 pub mod Simulate
 pub mod Witness
+pub mod Why
 pub mod Replay
 pub mod Draw
 pub mod Edit
@@ -33,6 +34,7 @@ use Rattle.cl_top.specs.Commands.Draw.{drawing, IsDrawn}
 use Rattle.cl_top.specs.Commands.Edit.{editing}
 use Rattle.cl_top.specs.Commands.Replay.{replaying, IsReplayed}
 use Rattle.cl_top.specs.Commands.Simulate.{simulating}
+use Rattle.cl_top.specs.Commands.Why.{reasoning}
 use Rattle.cl_top.specs.Commands.Witness.{witnessing}
 use Rattle.cl_top.specs.Headline.{IsSafeReportOf, AreSafeCuts, IsSafeTightReport}
 use Rattle.cl_top.specs.Meaning.{Meaning, printing, on_nothing, on_model, no_step, any_steps, at_most, model_steps, task_steps, entry_steps, no_promise, promises, equal, of_one_model, WritesTheSame}
@@ -47,9 +49,10 @@ saying text = record {
   same = equal;
 }
 
--- What each command comes to, its steps, what it promises of its text, and when two outcomes of it say the same. Thirteen
+-- What each command comes to, its steps, what it promises of its text, and when two outcomes of it say the same. Fourteen
 -- promise something of every legal run, or of the model or the run that they print: `analyse`, `cut`, `order`, `headroom`,
--- `tighten`, `verify`, `explain`, `witness`, `check`, `replay`, `draw`, `edit` and `apply`. The others print no bound of a given model.
+-- `tighten`, `verify`, `explain`, `witness`, `why`, `check`, `replay`, `draw`, `edit` and `apply`. The others print no bound of
+-- a given model.
 unfoldable pub meaning_of : Command → Meaning
 meaning_of command.Analyse = printing IsReportOf (at_most model_steps) (promises IsSafeReportOf)
 meaning_of command.Migrate = record { comes_to = on_model (λ model. IsDone (IsTextOf model)); takes = no_step; safe = no_promise; same = WritesTheSame }
@@ -65,6 +68,7 @@ meaning_of command.Verify = record {
 }
 meaning_of command.Explain = printing (λ model text. text ≡ explanation model) (at_most entry_steps) (promises IsSafeExplanation)
 meaning_of (command.Witness what name) = witnessing what name
+meaning_of (command.Why what name) = reasoning what name
 meaning_of (command.Simulate ticks seed) = simulating ticks seed
 meaning_of command.Replay = replaying
 meaning_of (command.Draw from to) = drawing from to

@@ -1,4 +1,4 @@
--- What a run is asked of, and by which word.
+-- What is asked of, and by which word.
 use Rattle.std.specs.Prelude.{ℕ, List, codes, Option, Some, None, if◌then◌else◌}
 use Rattle.std.specs.Str.{bytes_eq}
 use Rattle.cl_model.specs.declared.model.SystemModel.{SystemModel}

@@ -2,7 +2,7 @@
 ghost use Rattle.std.specs.Prelude.{◌≡◌, drop};
 ghost use Rattle.cl_gen.specs.declared.limits.TheConstants.{MOST_RUN_TICKS};
 ghost use Rattle.cl_picture.specs.declared.window.TheConstants.{MOST_WINDOW};
-ghost use Rattle.cl_top.specs.Command.{files_read, upto, some_tasks, any_seed, whole, with_two_numbers, with_subject, command_of};
+ghost use Rattle.cl_top.specs.Command.{files_read, upto, some_tasks, any_seed, whole, with_two_numbers, subject_of, with_subject, command_of};
 
 use crate::subject::{What, read_what};
 use cl_engine::{Bounds, FILE_LIMIT, Files, two_numbers};
@@ -40,6 +40,9 @@ pub enum Command {
     /// `witness MODEL WHAT NAME`: writes the trace of a run that comes near to the response of a
     /// task, or to a bound of a chain or a requirement.
     Witness { what: What, name: Name },
+    /// `why MODEL WHAT NAME`: writes why a task is answered, or a chain or a requirement bounded, as
+    /// `verify` says.
+    Why { what: What, name: Name },
     /// `simulate MODEL TICKS SEED`: writes the trace of a run of so many ticks that the seed draws.
     Simulate { ticks: u64, seed: u64 },
     /// `replay MODEL TRACE`: measures every chain in the run of a trace.
@@ -111,6 +114,7 @@ pub(crate) fn read_command(words: &Words) -> Option<Command>
         "verify" => read_whole(words, Command::Verify),
         "explain" => read_whole(words, Command::Explain),
         "witness" => read_witness(words),
+        "why" => read_why(words),
         "simulate" => read_simulate(words),
         "replay" => read_whole(words, Command::Replay),
         "draw" => read_draw(words),
@@ -137,16 +141,32 @@ fn read_whole(words: &Words, asked: Command) -> Option<Command>
     }
 }
 
-/// Reads `witness`: behind the file there are what a run is asked of, and its name.
-fn read_witness(words: &Words) -> Option<Command>
-    ensures { result ≡ with_subject Command.Witness (drop 2 words.now) }
+/// Reads what stands behind the file of a command on one subject: what is asked of, and its name.
+fn read_subject(words: &Words) -> Option<(What, Name)>
+    ensures { result ≡ subject_of (drop 2 words.now) }
 {
     if words.len() != 4 {
         return None;
     }
     let what = read_what(words.at(2)?)?;
     let name = Name::of_text(words.at(3)?)?;
+    Some((what, name))
+}
+
+/// Reads `witness`.
+fn read_witness(words: &Words) -> Option<Command>
+    ensures { result ≡ with_subject Command.Witness words.now }
+{
+    let (what, name) = read_subject(words)?;
     Some(Command::Witness { what, name })
+}
+
+/// Reads `why`.
+fn read_why(words: &Words) -> Option<Command>
+    ensures { result ≡ with_subject Command.Why words.now }
+{
+    let (what, name) = read_subject(words)?;
+    Some(Command::Why { what, name })
 }
 
 /// Reads `simulate`: behind the file there are the number of ticks and the seed.

@@ -23,6 +23,7 @@ mod simulate;
 mod survey;
 mod tighten;
 mod verify;
+mod why;
 mod witness;
 
 use crate::Command;
@@ -49,6 +50,7 @@ use std::sync::ledger::Ledger;
 use survey::surveyed;
 use tighten::tightened;
 use verify::verified;
+use why::reasoned;
 use witness::witnessed;
 
 impl cl_engine::Command for Command {
@@ -95,6 +97,7 @@ fn answered<L: Ledger>(
         Command::Verify => verified(alloc, &given.model(), steps),
         Command::Explain => explained(alloc, &given.model(), steps),
         Command::Witness { what, name } => witnessed(alloc, &given.model(), what, &name, steps),
+        Command::Why { what, name } => reasoned(alloc, &given.model(), what, &name, steps),
         Command::Simulate { ticks, seed } => simulated(alloc, &given.model(), ticks, seed),
         Command::Replay => {
             let (model, trace) = given.both();

@@ -1,11 +1,11 @@
-//! What a run is asked of: the response of a task, a bound of a chain, or a requirement.
+//! What is asked of: the response of a task, a bound of a chain, or a requirement.
 ghost use Rattle.std.specs.Prelude.{◌≡◌};
 ghost use Rattle.cl_model.specs.Named.{index_of, requirement_names};
 ghost use Rattle.cl_top.specs.Subject.{what_of, names_asked};
 
 use cl_model::{LengthKind, Name, RequirementKind, ValidModel};
 
-/// What a run is asked of. A name says of which.
+/// What is asked of. A name says of which.
 #[derive(Clone, Copy, Debug, PartialEq, Eq)]
 pub enum What {
     /// `response`: a task.

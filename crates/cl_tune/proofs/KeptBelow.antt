@@ -1,6 +1,6 @@
 -- What a percentage keeps, each smaller one keeps: no task is later, no bound greater, and exact lengths are the same.
-use Rattle.std.proofs.Common.{◌≡◌, ℕ, ◌+◌, ◌-◌, ◌<◌, ◌≤◌, inl, inr, Bool, true, false, cond, ◌&&◌, nat_lt, nat_le, Some, None, List, [], ◌∷◌, length, get_or, map, refl, sym, ap, ◌∙◌, subst, arith}
-use Rattle.std.specs.Prelude.{All, unwrap_or}
+use Rattle.std.proofs.Common.{◌≡◌, ℕ, ◌<◌, ◌≤◌, inl, inr, Bool, true, false, cond, ◌&&◌, nat_le, Some, None, List, [], ◌∷◌, length, get_or, map, refl, sym, ap, ◌∙◌, subst, arith}
+use Rattle.std.specs.Prelude.{All}
 use Rattle.std.specs.List.{list_all}
 use Rattle.std.proofs.lemmas.Bool.{true≢false, false≢true, cases_lt, leb-true, le-leb}
 use Rattle.std.proofs.lemmas.List.{length-map, get_or_past}
@@ -10,14 +10,11 @@ use Rattle.cl_model.specs.declared.chain.RequirementKind.{RequirementKind}
 use Rattle.cl_model.specs.declared.chain.RequirementKind.TheVariants.{Length, Delay}
 use Rattle.cl_model.specs.declared.chain.RequirementDef.{RequirementDef}
 use Rattle.cl_model.specs.declared.group.Group.{Group}
-use Rattle.cl_model.specs.declared.group.Step.{Step}
 use Rattle.cl_model.specs.declared.model.SystemModel.{SystemModel}
 use Rattle.cl_model.specs.declared.stimulus.StimulusKind.{StimulusKind}
 use Rattle.cl_model.specs.declared.task.AccessKind.{AccessKind}
-use Rattle.cl_model.specs.declared.task.TaskDef.{TaskDef}
 use Rattle.cl_model.specs.ByNumber.{chain_at}
-use Rattle.cl_model.specs.Groups.{step_from, step_named, steps_of, groups, groups_of, groups_at}
-use Rattle.cl_model.specs.Named.{index_of, runnable_names, all_runnables}
+use Rattle.cl_model.specs.Groups.{steps_of, groups_at}
 use Rattle.cl_model.specs.Ranges.{IsInRange}
 use Rattle.cl_model.specs.Validity.{IsValid}
 use Rattle.cl_model.proofs.GroupFacts.{groups_at_are}
@@ -26,7 +23,6 @@ use Rattle.cl_runs.specs.SystemOf.{system_of}
 use Rattle.cl_runs.specs.TaskTiming.{timing_at}
 use Rattle.cl_runs.proofs.ModelSystem.{count_is, system_sound}
 use Rattle.cl_runs.specs.Requirements.{required_chain}
-use Rattle.cl_model.proofs.ListFacts.{maps_agree}
 use Rattle.cl_bound.specs.declared.answer.TaskAnswer.{TaskAnswer}
 use Rattle.cl_bound.specs.declared.answer.TaskAnswer.TheVariants as answers
 use Rattle.cl_bound.specs.Answers.{answer_to, answers_of, is_late, NoneIsLate}
@@ -53,29 +49,16 @@ use Rattle.cl_analyse.proofs.FirstLate.{none_late}
 use Rattle.cl_analyse.proofs.SafeFindings.{answer_of_chain, chain_settled}
 use Rattle.cl_analyse.proofs.SomeFindings.{some_findings}
 use Rattle.cl_tune.specs.Headroom.{Keeps}
-use Rattle.cl_tune.specs.Scaled.{scaled_runnable, scaled_task, scaled}
-use Rattle.cl_tune.proofs.ScaledValid.{names_of_runnables, scaled_valid}
+use Rattle.cl_tune.specs.Scaled.{scaled}
+use Rattle.cl_tune.proofs.BareChains.{groups_alike}
+use Rattle.cl_tune.proofs.ScaledValid.{scaled_alike, scaled_valid}
 use Rattle.cl_tune.proofs.ScaledAnswers.{all_in_time, range_stays}
 use Rattle.cl_tune.proofs.ScaledBounds.{patterns_same, deadlines_same, accesses_same, bounds_sooner}
 
 -- ---- groups
 
-step_kept : (percent i : ℕ) (tasks : List TaskDef) (n : ℕ) → step_from i (map (scaled_task percent) tasks) n ≡ step_from i tasks n
-step_kept percent i [] n = refl
-step_kept percent i (task ∷ tasks) n =
-    let here : Step = record { task = i; place = n } in
-    ap (λ (count : ℕ). cond (nat_lt n count) here (step_from (i + 1) (map (scaled_task percent) tasks) (n - count))) (length-map task.runnables (scaled_runnable percent))
-    ∙ ap (λ (step : Step). cond (nat_lt n (length task.runnables)) here step) (step_kept percent (i + 1) tasks (n - length task.runnables))
-
-named_kept : (model : SystemModel) (percent : ℕ) (name : List ℕ) → step_named (scaled model percent) name ≡ step_named model name
-unfolding scaled
-named_kept model percent name =
-    ap (λ names. step_from 0 (map (scaled_task percent) model.tasks) (unwrap_or (index_of name names) 0)) (names_of_runnables model percent)
-    ∙ step_kept percent 0 model.tasks (unwrap_or (index_of name (runnable_names (all_runnables model.tasks))) 0)
-
 groups_kept : (model : SystemModel) (percent c : ℕ) → groups_at (scaled model percent) c ≡ groups_at model c
-unfolding groups_of scaled
-groups_kept model percent c = ap groups (maps_agree (step_named (scaled model percent)) (step_named model) (named_kept model percent) (chain_at model c).runnables)
+groups_kept model percent = groups_alike model (scaled model percent) (scaled_alike model percent)
 
 -- ---- verdicts
 

@@ -37,7 +37,7 @@ use Rattle.cl_tune.specs.Priorities.{task_with, with_priorities}
 use Rattle.cl_tune.proofs.Members.{has_place}
 use Rattle.cl_tune.proofs.NewPriorities.{count_made, task_made}
 use Rattle.cl_tune.proofs.ReorderedPriorities.{distinct, in_range, spans_few}
-use Rattle.cl_tune.proofs.ScaledValid.{each_mapped, names_checked}
+use Rattle.cl_tune.proofs.BareModels.{each_mapped, names_checked}
 use Rattle.cl_tune.proofs.UnderOrders.{range_below}
 
 -- ---- lists of checks

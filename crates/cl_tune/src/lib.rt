@@ -17,3 +17,4 @@ pub use answer::OrderAnswer;
 pub use ordering::order;
 pub use percent::MOST_PERCENT;
 pub use room::headroom;
+pub use scaling::scaled_time;

@@ -9,7 +9,7 @@ use cl_time::NoMemory;
 use std::alloc::Global;
 
 /// Scales a greatest time by a percentage, rounded down, but to no less than the least time.
-pub(crate) fn scaled_time(percent: u64, least: u64, greatest: u64) -> u64
+pub fn scaled_time(percent: u64, least: u64, greatest: u64) -> u64
     requires percent { percent ≤ MOST_PERCENT }
     requires greatest { greatest ≤ MOST_TICKS }
     ensures { result ≡ scaled_time percent least greatest }

@@ -1,11 +1,11 @@
 -- What is decided, by what was found and by what runs show.
 use Rattle.std.proofs.Common.{◌≡◌, ℕ, ◌<◌, Bool, true, false, Option, Some, None, List, length, get_or, refl, sym, ap, ◌∙◌, subst, nat_le, arith}
-use Rattle.std.specs.Prelude.{if◌then◌else◌}
+use Rattle.std.specs.Prelude.{Result, IfOk, if◌then◌else◌}
 use Rattle.std.specs.Option.{option_map}
 use Rattle.std.proofs.lemmas.List.{get_or-map}
 use Rattle.cl_model.specs.declared.model.SystemModel.{SystemModel}
 use Rattle.cl_model.specs.declared.chain.RequirementDef.{RequirementDef}
-use Rattle.cl_runs.specs.Requirements.{no_requirement, requirement_at, required_chain}
+use Rattle.cl_runs.specs.Requirements.{no_requirement, requirement_at, required_chain, IsBrokenBy}
 use Rattle.cl_runs.specs.SystemOf.{system_of}
 use Rattle.cl_runs.proofs.ModelSystem.{count_is}
 use Rattle.cl_resp.specs.ByPhase.{response_by_phase}
@@ -140,10 +140,23 @@ module _ (model : SystemModel) (required : RequirementDef) (found : ChainAnswer)
   decided_by_runs bounds decision named decided =
       subst (λ (bound : Option ℕ). IsDecisionOn model required (verdict.Unshown bound) decision) (ap (required_bound required.kind) (sym named ∙ is)) decided
 
--- the decision on the requirement of a number, as it is found in the lists
-pub decided_at : (model : SystemModel) (i : ℕ) (required : RequirementDef) (found : Verdict) (decision : Decision) → required ≡ requirement_at model i
-    → found ≡ verdict_at (tight_findings_of model).verdicts i → IsDecisionOn model required found decision
-    → IsDecisionOn model (requirement_at model i) (verdict_at (tight_findings_of model).verdicts i) decision
-decided_at model i required found decision asked judged decided =
-    subst (λ (r : RequirementDef). IsDecisionOn model r (verdict_at (tight_findings_of model).verdicts i) decision) asked
-    (subst (λ (v : Verdict). IsDecisionOn model required v decision) judged decided)
+-- the decision on the requirement of a number, by its verdict as it is found in the list
+module _ (model : SystemModel) (i : ℕ) (found : Verdict) (judged : found ≡ verdict_at (tight_findings_of model).verdicts i) where
+  abbrev is_decision : Decision → Type 0
+  is_decision decision = IsDecisionOn model (requirement_at model i) (verdict_at (tight_findings_of model).verdicts i) decision
+
+  pub met_decided : (bound : ℕ) → found ≡ verdict.Met bound → is_decision (requirement.Met bound)
+  met_decided bound is = subst (λ (v : Verdict). IsDecisionOn model (requirement_at model i) v (requirement.Met bound)) (sym is ∙ judged) refl
+
+  pub broken_decided : (bound : ℕ) → found ≡ verdict.Broken bound → IsBrokenBy model (requirement_at model i) bound → is_decision (requirement.Broken bound bound)
+  broken_decided bound is broken =
+      subst (λ (v : Verdict). IsDecisionOn model (requirement_at model i) v (requirement.Broken bound bound)) (sym is ∙ judged) (refl, broken)
+
+  pub unshown_decided : (value : Option ℕ) → found ≡ verdict.Unshown value → i < length model.requirements → (required : RequirementDef)
+      → required ≡ requirement_at model i → {E : Type 0} (result : Result Decision E)
+      → IfOk result (IsDecisionOn model required (verdict.Unshown (tight_bound model required))) → IfOk result is_decision
+  unshown_decided value is within required asked result decided =
+      let bound = unshown_is model (requirement_at model i) value (sym is ∙ judged ∙ verdict_found_is model i within) in
+      subst (λ (v : Verdict). IfOk result (IsDecisionOn model (requirement_at model i) v))
+      (ap (λ (b : Option ℕ). verdict.Unshown b) (sym bound) ∙ sym is ∙ judged)
+      (subst (λ (r : RequirementDef). IfOk result (IsDecisionOn model r (verdict.Unshown (tight_bound model r)))) asked decided)

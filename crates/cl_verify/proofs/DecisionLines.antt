@@ -61,7 +61,7 @@ decision_found decisions slice i d within same =
     ap (λ (list : List Decision). get_or list i d) same ∙ get_or_default decisions i d (requirement.Late 0) within
 
 -- a decision that names a late task follows from the answer for its chain
-late_answered : (model : SystemModel) (required : RequirementDef) (found : Verdict) (decision : Decision) (late : ℕ) → IsDecisionOn model required found decision
+pub late_answered : (model : SystemModel) (required : RequirementDef) (found : Verdict) (decision : Decision) (late : ℕ) → IsDecisionOn model required found decision
     → decision ≡ requirement.Late late → chain_answer_at (tight_findings_of model).chains (required_chain model required) ≡ chain.Late late
 late_answered model required (verdict.Met own) decision late is named = let same : requirement.Met own ≡ requirement.Late late = sym is ∙ named in absurd cc
 late_answered model required (verdict.Broken own) decision late is named =

@@ -13,7 +13,7 @@ use Rattle.cl_analyse.specs.declared.findings.Verdict.TheVariants as verdict
 use Rattle.cl_analyse.specs.ChainAnswers.{chain_answer_at}
 use Rattle.cl_analyse.specs.Verdicts.{required_bound, verdict_at}
 use Rattle.cl_tight.specs.TightFindings.{tight_chain_answers_of, tight_findings_of}
-use Rattle.cl_near.specs.Seen.{MissesDeadline, HasResponse}
+use Rattle.cl_near.specs.Seen.{MissesDeadline, TakesSoLong}
 use Rattle.cl_verify.specs.declared.decision.TaskDecision.{TaskDecision}
 use Rattle.cl_verify.specs.declared.decision.TaskDecision.TheVariants as task
 use Rattle.cl_verify.specs.declared.decision.Decision.{Decision}
@@ -27,7 +27,7 @@ use Rattle.cl_verify.specs.declared.decision.Decisions.{Decisions}
 abbrev pub IsDecisionOnLate : SystemModel → (i : ℕ) → TaskDecision → Type 0
 IsDecisionOnLate model i (task.Met response) = ⊥
 IsDecisionOnLate model i task.Broken = MissesDeadline model i
-IsDecisionOnLate model i (task.Unshown seen) = IfSome seen (HasResponse model i)
+IsDecisionOnLate model i (task.Unshown seen) = IfSome seen (TakesSoLong model i)
 
 -- what may be decided of a task with this answer by phases: met, with its response, exactly where it isn't late
 abbrev pub IsDecisionOnTask : SystemModel → (i : ℕ) → TaskAnswer → TaskDecision → Type 0

@@ -2,12 +2,12 @@
 ghost use Rattle.std.specs.Prelude.{◌≡◌, ℕ, ◌<◌, length, IfOk, IfSome};
 ghost use Rattle.cl_model.specs.declared.model.SystemModel.{SystemModel};
 ghost use Rattle.cl_model.specs.Validity.{IsValid};
-ghost use Rattle.cl_runs.specs.Requirements.{required_chain, HasLength, IsBrokenBy};
+ghost use Rattle.cl_runs.specs.Requirements.{requirement_at, required_chain, HasLength};
 ghost use Rattle.cl_bound.specs.Answers.{answer_at};
-ghost use Rattle.cl_analyse.specs.declared.findings.Verdict.TheVariants.{Broken, Unshown};
-ghost use Rattle.cl_analyse.specs.Verdicts.{limited_bound};
+ghost use Rattle.cl_analyse.specs.declared.findings.Verdict.TheVariants.{Unshown};
+ghost use Rattle.cl_analyse.specs.Verdicts.{limited_bound, verdict_at};
 ghost use Rattle.cl_tight.specs.Promises.{AreSafeTightFindings};
-ghost use Rattle.cl_tight.specs.TightFindings.{tight_chain_answers_of, tight_verdict_of, tight_findings_of};
+ghost use Rattle.cl_tight.specs.TightFindings.{tight_findings_of};
 ghost use Rattle.cl_near.specs.Seen.{IsSeenOfTask};
 ghost use Rattle.cl_verify.specs.Decisions.{IsDecisionOnLate, IsDecisionOnTask, IsDecisionByRuns, IsDecisionOn, tight_bound, AreTaskDecisions, AreRequirementDecisions, AreDecisionsOf};
 ghost use Rattle.cl_verify.specs.KnownLengths.{AreRunsOf};
@@ -67,8 +67,11 @@ fn decide_tasks(
     Ok(decisions)
 }
 
-/// Decides a task.
-fn decide_task(
+/// Decides a task, given by its number, by its answer and by a run that comes near to it. The
+/// findings are those of the model.
+///
+/// `NoMemory` comes where there is no memory for the run; it leaves nothing.
+pub fn decide_task(
     alloc: Global,
     model: &ValidModel,
     findings: &TightFindings,
@@ -115,52 +118,46 @@ fn decide_requirements(
     requires runs { AreRunsOf model.now runs.old }
     ensures { IfOk result (AreRequirementDecisions model.now) }
 {
-    let requirements = model.plain().requirements.as_slice();
-    let mut decisions = List::with_room(alloc, requirements.len())?;
-    for place in 0..requirements.len() {
-        let verdict = findings.verdicts.as_slice()[place];
-        decisions.push(decide_requirement(
-            alloc,
-            model,
-            findings,
-            runs,
-            &requirements[place],
-            verdict,
-        )?)?;
+    let requirements = model.plain().requirements.len();
+    let mut decisions = List::with_room(alloc, requirements)?;
+    for place in 0..requirements {
+        decisions.push(decide_requirement(alloc, model, findings, runs, place)?)?;
     }
     Ok(decisions)
 }
 
-/// Decides a requirement of the model by the verdict of its bound.
-fn decide_requirement(
+/// Decides the requirement at a place in file order, by the verdict of its bound and by runs that
+/// come near to that. The findings are those of the model.
+///
+/// `NoMemory` comes where there is no memory for the runs; it leaves nothing.
+pub fn decide_requirement(
     alloc: Global,
     model: &ValidModel,
     findings: &TightFindings,
     runs: &mut Runs,
-    requirement: &RequirementDef,
-    verdict: Verdict,
+    place: usize,
 ) -> Result<Decision, NoMemory>
-    requires valid { IsValid model.now }
     requires findings { findings.now ≡ tight_findings_of model.now }
-    requires chain { required_chain model.now requirement.now < length model.now.chains }
-    requires verdict { verdict ≡ tight_verdict_of model.now (tight_chain_answers_of model.now) requirement.now }
-    requires broken { (value : ℕ) → verdict ≡ Broken value → IsBrokenBy model.now requirement.now value }
+    requires safe { AreSafeTightFindings model.now findings.now }
+    requires place { place < length model.now.requirements }
     requires runs { AreRunsOf model.now runs.old }
-    ensures decision { IfOk result (IsDecisionOn model.now requirement.now verdict) }
+    ensures decision { IfOk result (IsDecisionOn model.now (requirement_at model.now place) (verdict_at (tight_findings_of model.now).verdicts place)) }
     ensures runs { AreRunsOf model.now runs.new }
 {
+    let requirement = &model.plain().requirements.as_slice()[place];
+    let verdict = &findings.verdicts.as_slice()[place];
     match verdict {
-        Verdict::Met { value } => Ok(Decision::Met { bound: value }),
+        Verdict::Met { value } => Ok(Decision::Met { bound: *value }),
         Verdict::Broken { value } => Ok(Decision::Broken {
-            bound: value,
-            seen: value,
+            bound: *value,
+            seen: *value,
         }),
         Verdict::Unshown { .. } => decide_by_runs(alloc, model, findings, runs, requirement),
     }
 }
 
 /// Returns the bound on what a requirement of this kind limits.
-fn limited_bound(bounds: &Bounds, kind: RequirementKind) -> u64
+pub fn limited_bound(bounds: &Bounds, kind: RequirementKind) -> u64
     ensures { result ≡ limited_bound kind bounds.now }
 {
     match kind {

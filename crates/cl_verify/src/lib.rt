@@ -13,7 +13,9 @@ mod runs;
 mod text;
 mod witness;
 
-pub use deciding::decide;
+pub use deciding::{decide, decide_requirement, decide_task, limited_bound};
 pub use decision::{Decision, Decisions, TaskDecision};
+pub use lines::{put_requirement, put_seen, put_task};
+pub use runs::Runs;
 pub use text::verify_text;
-pub use witness::{Witness, witness_of_chain, witness_of_task};
+pub use witness::{Witness, response_of, witness_of_chain, witness_of_task};

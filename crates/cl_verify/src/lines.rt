@@ -9,8 +9,8 @@ use cl_report::{kind_word, put_name, put_task_name};
 use cl_text::Text;
 use cl_time::NoMemory;
 
-/// Puts what a run shows, if it shows anything.
-fn put_seen(text: &mut Text, seen: Option<u64>) -> Result<(), NoMemory>
+/// Puts what a run shows, if it shows anything. After `NoMemory` the text ends with a prefix of it.
+pub fn put_seen(text: &mut Text, seen: Option<u64>) -> Result<(), NoMemory>
     ensures { OnOk result (text.new ≡ text.old ++ seen_words seen) }
 {
     match seen {
@@ -60,8 +60,8 @@ fn put_task_words(text: &mut Text, deadline: u64, decision: TaskDecision) -> Res
     }
 }
 
-/// Puts the line of a task.
-pub(crate) fn put_task(
+/// Puts the line of a task. After `NoMemory` the text ends with a prefix of it.
+pub fn put_task(
     text: &mut Text,
     model: &ValidModel,
     task: u32,
@@ -112,7 +112,8 @@ fn put_words(
 }
 
 /// Puts the line of a requirement of the model. A late task that the decision names is a task of it.
-pub(crate) fn put_requirement(
+/// After `NoMemory` the text ends with a prefix of the line.
+pub fn put_requirement(
     text: &mut Text,
     model: &ValidModel,
     requirement: &RequirementDef,

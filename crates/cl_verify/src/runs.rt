@@ -19,15 +19,15 @@ use std::alloc::Global;
 
 /// What the runs that were made so far have shown, and how many executions are left for others.
 #[derive(Drop)]
-pub(crate) struct Runs {
+pub struct Runs {
     budget: Budget,
-    pub(crate) windows: AccessWindows,
+    pub windows: AccessWindows,
     pub(crate) lengths: KnownLengths,
 }
 
 impl Runs {
     /// Starts with no run made. `NoMemory` comes where there is no memory for it.
-    pub(crate) fn new(alloc: Global, model: &ValidModel) -> Result<Runs, NoMemory>
+    pub fn new(alloc: Global, model: &ValidModel) -> Result<Runs, NoMemory>
         ensures { IfOk result (AreRunsOf model.now) }
     {
         Ok(Runs {
@@ -80,7 +80,9 @@ impl Runs {
 
     /// Finds the length of a kind that the runs of a chain show which come near to its bound. For a
     /// chain and a kind they are made once. None of the chain's tasks is late.
-    pub(crate) fn see_chain(
+    ///
+    /// `NoMemory` comes where there is no memory for the runs; it leaves nothing.
+    pub fn see_chain(
         &mut self,
         alloc: Global,
         model: &ValidModel,

@@ -7,9 +7,10 @@ ghost use Rattle.cl_bound.specs.Answers.{NoneIsLate};
 ghost use Rattle.cl_tight.specs.TightAnswers.{tight_answers_of};
 ghost use Rattle.cl_verify.specs.Witnesses.{settled_response, IsWitness};
 
+use crate::deciding::limited_bound;
 use cl_analyse::first_late;
-use cl_bound::{Bounds, TaskAnswer};
-use cl_model::{LengthKind, List, RequirementKind, ValidModel};
+use cl_bound::TaskAnswer;
+use cl_model::{List, RequirementKind, ValidModel};
 use cl_near::{RunSize, plan_chain, plan_task, size_of_whole_run};
 use cl_phase::tight_bounds;
 use cl_runs::JobTable;
@@ -57,8 +58,8 @@ pub fn witness_of_task(
     }
 }
 
-/// Returns the response of a task, or `None` where it is late.
-fn response_of(answer: &TaskAnswer) -> Option<u64>
+/// Returns the response of a task by its answer, or `None` where it is late.
+pub fn response_of(answer: &TaskAnswer) -> Option<u64>
     ensures { result ≡ settled_response answer.now }
 {
     match answer {
@@ -82,6 +83,7 @@ pub fn witness_of_chain(
     requires answers { answers.now ≡ tight_answers_of (system_of model.now) }
     ensures { IfOk result (IsWitness model.now) }
 {
+    // So that it is known that the model is valid.
     let _valid = model.plain();
     match first_late(model, chain, answers) {
         Some(task) => witness_of_task(alloc, model, answers, task),
@@ -104,7 +106,7 @@ fn witness_of_bounded(
 {
     let groups = model.groups(chain);
     let timings = AccessWindows::new(alloc, model)?.timings(alloc, model, groups, answers)?;
-    let bound = bound_of(&tight_bounds(model, groups, timings.as_slice()), kind);
+    let bound = limited_bound(&tight_bounds(model, groups, timings.as_slice()), kind);
     let plan = plan_chain(alloc, model, groups, timings.as_slice(), kind, bound)?;
     match size_of_whole_run(alloc, model, plan.ticks())? {
         RunSize::TooLong => Ok(Witness::TooLong {
@@ -114,15 +116,5 @@ fn witness_of_bounded(
         RunSize::Fits { .. } => Ok(Witness::Table(cl_near::witness_of_chain(
             alloc, model, &plan, chain, kind,
         )?)),
-    }
-}
-
-/// Returns the bound of a kind.
-fn bound_of(bounds: &Bounds, kind: RequirementKind) -> u64 {
-    match kind {
-        RequirementKind::Length(LengthKind::Reaction) => bounds.reaction(),
-        RequirementKind::Length(LengthKind::Age) => bounds.age(),
-        RequirementKind::Length(LengthKind::Reduced) => bounds.reduced(),
-        RequirementKind::Delay => bounds.delay(),
     }
 }

@@ -4,11 +4,13 @@ ghost use Rattle.std.specs.Int.{◌∣◌};
 ghost use Rattle.cl_model.specs.declared.limits.TheConstants.{MOST_TICKS};
 ghost use Rattle.cl_model.specs.declared.model.SystemModel.{SystemModel};
 ghost use Rattle.cl_model.specs.Validity.{IsValid};
+ghost use Rattle.cl_runs.specs.Priorities.{tasks_above};
 ghost use Rattle.cl_runs.specs.SystemOf.{system_of};
 ghost use Rattle.cl_runs.specs.TaskTiming.{System, IsSound, timing_at};
 ghost use Rattle.cl_cycle.specs.declared.cycle.TheConstants.{MOST_IN_CYCLE};
 ghost use Rattle.cl_cycle.specs.Counts.{arrivals_of};
 ghost use Rattle.cl_cycle.specs.Cycles.{is_one_of, in_phase_above, cycle_of};
+ghost use Rattle.cl_cycle.specs.DifferingRunnables.{DifferInRunnables};
 ghost use Rattle.cl_cycle.specs.Promises.{ComesRound};
 
 /// The cycle of a task of a sound system has a tick or more. It is a multiple of the period of the
@@ -27,4 +29,15 @@ pub fn cycles_come_round()
 pub fn cycles_are_short()
     ensures { (model : SystemModel) → IsValid model → (task : ℕ) → task < length model.tasks
         → cycle_of (system_of model) task ≤ MOST_IN_CYCLE * MOST_TICKS }
+{}
+
+/// Which tasks stand above a task, which of these are in phase, and its cycle depend on the
+/// runnables of no task.
+pub fn runnables_change_no_cycle()
+    ensures above { (one other : System) → DifferInRunnables one other
+        → (task : ℕ) → tasks_above one task ≡ tasks_above other task }
+    ensures in_phase { (one other : System) → DifferInRunnables one other
+        → (task : ℕ) → in_phase_above one task ≡ in_phase_above other task }
+    ensures ticks { (one other : System) → DifferInRunnables one other
+        → (task : ℕ) → cycle_of one task ≡ cycle_of other task }
 {}

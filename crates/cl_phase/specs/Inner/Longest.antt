@@ -1,6 +1,9 @@
 -- The longest walks from arrivals of a group. Times are in ticks.
 use Rattle.std.specs.Prelude.{ℕ, ℤ, pos, ◌-ℤ◌, max, List}
 use Rattle.cl_model.specs.Holds.{greatest_by}
+use Rattle.cl_model.specs.declared.chain.LengthKind.TheVariants.{Reaction, Age, Reduced}
+use Rattle.cl_model.specs.declared.chain.RequirementKind.{RequirementKind}
+use Rattle.cl_model.specs.declared.chain.RequirementKind.TheVariants as kind
 use Rattle.cl_bound.specs.Bounds.{Lengths}
 use Rattle.cl_phase.specs.declared.stop.Stop.{Stop}
 use Rattle.cl_phase.specs.declared.walk.Ends.{Ends}
@@ -18,6 +21,13 @@ lengths_at stops ends place arrival = record {
   reduced = ticks_or_none (reduced_from stops (span_between ends) place arrival);
   delay = ticks_or_none (delay_from stops ends.write place arrival);
 }
+
+-- those of a kind
+abbrev pub length_of_kind : RequirementKind → Longest → ℕ
+length_of_kind (kind.Length Reaction) lengths = lengths.length
+length_of_kind (kind.Length Age) lengths = lengths.length
+length_of_kind (kind.Length Reduced) lengths = lengths.reduced
+length_of_kind kind.Delay lengths = lengths.delay
 
 -- the longer ones of two
 abbrev pub longer_of : Longest → Longest → Longest

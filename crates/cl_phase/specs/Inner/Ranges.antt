@@ -18,6 +18,14 @@ FARTHEST_START = 2000000000000000000
 abbrev pub FARTHEST_WALKED : ℕ
 FARTHEST_WALKED = 2500000000000000000
 
+-- and the jobs beside those
+abbrev pub FARTHEST_JOB : ℕ
+FARTHEST_JOB = 2600000000000000000
+
+-- walks are moved by at most so many ticks
+abbrev pub FARTHEST_MOVE : ℕ
+FARTHEST_MOVE = 4000000000000000000
+
 -- the longest hyperperiod of phases that are kept
 abbrev pub LONGEST_HYPERPERIOD : ℕ
 LONGEST_HYPERPERIOD = MOST_ARRIVALS * MOST_TICKS

@@ -1,8 +1,8 @@
-//! Tight bounds, compared with the sums of hops that are the bounds of a chain, and with those over
-//! wider windows.
-ghost use Rattle.std.specs.Prelude.{◌<◌, List, length, map, All};
+//! Tight bounds, compared with the sums of hops that are the bounds of a chain, with those over
+//! wider windows, and with those of other systems.
+ghost use Rattle.std.specs.Prelude.{◌≡◌, ℕ, ◌<◌, List, length, map, All};
 ghost use Rattle.cl_model.specs.declared.group.Group.{Group};
-ghost use Rattle.cl_runs.specs.TaskTiming.{System, IsSound};
+ghost use Rattle.cl_runs.specs.TaskTiming.{System, timing_at, IsSound};
 ghost use Rattle.cl_bound.specs.Bounds.{Lengths, AreBoundsOf};
 ghost use Rattle.cl_bound.specs.NoGreater.{StaysWithin, AreNoGreater};
 ghost use Rattle.cl_bound.specs.SettledChains.{IsGroupOfTask};
@@ -27,4 +27,13 @@ pub fn tight_bounds_are_no_greater()
         → All (IsGroupOfTask system) groups
         → All (λ (group : Group). StaysWithin (timing group) (other group)) groups
         → AreNoGreater (tight_bounds system timing groups) (tight_bounds system other groups) }
+{}
+
+/// Tight bounds rest on no more of a system than the arrival patterns of its tasks: over the same
+/// timings they are the same in two systems whose tasks, number by number, have the same patterns.
+pub fn tight_bounds_rest_on_patterns()
+    ensures { (one other : System)
+        → ((task : ℕ) → (timing_at one task).pattern ≡ (timing_at other task).pattern)
+        → (timing : Group → GroupTiming) (groups : List Group)
+        → tight_bounds one timing groups ≡ tight_bounds other timing groups }
 {}

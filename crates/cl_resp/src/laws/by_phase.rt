@@ -1,12 +1,13 @@
 //! Responses by phases: what they are in words, that they hold in every legal run, and that they
 //! are no later than responses that know no phases.
-ghost use Rattle.std.specs.Prelude.{◌≡◌, ℕ, ◌+◌, ◌<◌, ◌≤◌, Bool, false, Some, length};
+ghost use Rattle.std.specs.Prelude.{◌≡◌, ℕ, ◌+◌, ◌<◌, ◌≤◌, Bool, false, Some, None, length};
 ghost use Rattle.cl_model.specs.Timing.{greatest_jitter};
 ghost use Rattle.cl_runs.specs.TaskTiming.{System, timing_at, IsSound};
 ghost use Rattle.cl_runs.specs.Responses.{AlwaysFinishesWithin, IsTimely};
 ghost use Rattle.cl_resp.specs.Asked.{Asked, least_response, AnswersWithin, IsLeastResponse, ComesRound};
-ghost use Rattle.cl_resp.specs.ByPhase.{asked_with, asked_by_phase, response_through, IsSettledByPhase};
+ghost use Rattle.cl_resp.specs.ByPhase.{asked_with, asked_by_phase, response_by_phase, response_through, IsSettledByPhase};
 ghost use Rattle.cl_resp.specs.Clear.{greatest_through, greatest_behind};
+ghost use Rattle.cl_resp.specs.LesserTimes.{TakesNoMore};
 ghost use Rattle.cl_resp.specs.Promises.{AlwaysFinishesThrough};
 ghost use Rattle.cl_resp.specs.Question.{greatest_execution};
 ghost use Rattle.cl_resp.specs.Response.{IsSettled, IsTightlySettled};
@@ -85,4 +86,22 @@ pub fn responses_by_phase_lie_between()
         → (place : ℕ) → place < length (timing_at system task).ranges
         → (through : ℕ) × (response_through system task place ≡ Some through)
         × (through + greatest_behind (timing_at system task) place ≤ response) }
+{}
+
+/// Longer times are answered no sooner: where a task has a response by phases, it has one that is no
+/// later in each system where it and what it waits for take no longer. If it is late there, it is
+/// late here. What is said of its response holds of those of its runnables up to a place, too.
+pub fn longer_times_are_answered_no_sooner()
+    ensures whole { (less more : System) → IsSound less → IsSound more
+        → (task : ℕ) → TakesNoMore less more task
+        → (response : ℕ) → IsSettledByPhase more task response
+        → (sooner : ℕ) × IsSettledByPhase less task sooner × (sooner ≤ response) }
+    ensures late { (less more : System) → IsSound less → IsSound more
+        → (task : ℕ) → TakesNoMore less more task → task < length more.tasks
+        → response_by_phase less task ≡ None → response_by_phase more task ≡ None }
+    ensures through { (less more : System) → IsSound less → IsSound more
+        → (task : ℕ) → TakesNoMore less more task → task < length more.tasks → (place : ℕ)
+        → greatest_through (timing_at less task) place ≤ greatest_through (timing_at more task) place
+        → (response : ℕ) → response_through more task place ≡ Some response
+        → (sooner : ℕ) × (response_through less task place ≡ Some sooner) × (sooner ≤ response) }
 {}

@@ -40,6 +40,7 @@ tighten MODEL               responses, bounds and delays that know the phases of
 verify MODEL                each deadline and requirement: met (proved), broken (a run shows it) or unshown\n\
 explain MODEL               what the responses and the bounds are the sums of\n\
 witness MODEL WHAT NAME     the trace of a run near to a bound of what is named\n\
+why MODEL WHAT NAME         why what is named is answered or bounded as `verify` says\n\
 check MODEL                 what to mend in a model, or what to know of it\n\
 cut MODEL                   the best cuts of the chains\n\
 order MODEL                 on every core the first priorities, in dictionary order, with which no task is late\n\

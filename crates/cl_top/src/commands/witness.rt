@@ -106,7 +106,7 @@ fn too_long(alloc: Global, ticks: u64) -> Result<Outcome, NoMemory>
 }
 
 /// Makes the outcome of a name that the model has nothing of.
-fn unknown(alloc: Global, what: What, name: &Name) -> Result<Outcome, NoMemory>
+pub(super) fn unknown(alloc: Global, what: What, name: &Name) -> Result<Outcome, NoMemory>
     ensures { IfOk result (λ outcome. outcome ≡ name_unknown what name.now) }
 {
     let mut text = Text::new(alloc);

@@ -13,7 +13,7 @@ pub returns-in-Some : goal.returns-in-Some
 returns-in-Some c =
     let runnable = c.index-as_slice-place.result in
     let known : c.loop-other.other < length c.args.model.now.tasks = omega (arith, c.loop-other-test.true, c.tasks-other-end.ensures.count) in
-    let named = is_named c.args.model.now c.args.task c.args.block c.loop-other.other c.in-Some.place known c.loop-other.invariant.1
+    let named = is_named c.args.blocking c.args.model.now c.args.task c.args.block c.loop-other.other c.in-Some.place known c.loop-other.invariant.1
     (sym c.may_block.ensures ∙ c.if-may_block.true)
     (ap (λ (t : TaskDef). position (blocks_so_long c.args.block) t.runnables) (sym c.task-blocker.ensures.task) ∙ sym c.blocks_at.ensures ∙ c.in-Some.is)
     runnable
@@ -27,9 +27,9 @@ loop-other-preserved c =
     let next : c.loop-other.other + 1 ≡ c.loop-other.other + 1 = refl in (
       c.loop-other.invariant.0,
       elim c.if-may_block.branch [
-        | then-may_block+in-None w ↦ none_of_task c.args.model.now c.args.task c.args.block c.loop-other.other (c.loop-other.other + 1) next c.loop-other.invariant.1
+        | then-may_block+in-None w ↦ none_of_task c.args.blocking c.args.model.now c.args.task c.args.block c.loop-other.other (c.loop-other.other + 1) next c.loop-other.invariant.1
             (ap (λ (t : TaskDef). position (blocks_so_long c.args.block) t.runnables) (sym w.task-blocker.ensures.task) ∙ sym w.blocks_at.ensures ∙ w.in-None.is)
-        | else-may_block w ↦ none_apart c.args.model.now c.args.task c.args.block c.loop-other.other (c.loop-other.other + 1) next c.loop-other.invariant.1
+        | else-may_block w ↦ none_apart c.args.blocking c.args.model.now c.args.task c.args.block c.loop-other.other (c.loop-other.other + 1) next c.loop-other.invariant.1
             (sym c.may_block.ensures ∙ w.if-may_block.false)
       ],
     )
@@ -38,5 +38,5 @@ pub returns : goal.returns
 returns c =
     let model = c.args.model.now in
     let all : c.loop-other.other ≡ length model.tasks = omega (arith, c.loop-other-test.false, c.loop-other.auto.other-end, c.tasks-other-end.ensures.count) in
-    let none = none_named model c.args.task c.args.block (ap (blocker_below model c.args.task c.args.block) (sym all) ∙ c.loop-other.invariant.1) in
+    let none = none_named c.args.blocking model c.args.task c.args.block (ap (blocker_below c.args.blocking model c.args.task c.args.block) (sym all) ∙ c.loop-other.invariant.1) in
     c.loop-other.invariant.0 ∙ sym (append-nil c.args.text.now) ∙ ap (λ (name : List ℕ). c.args.text.now ++ name) (sym none)

@@ -5,4 +5,4 @@ use Rattle.cl_explain.proofs.parts.put_blocker.Given as goal
 
 -- no task so far has one
 abbrev pub invariant-loop-other : goal.invariant-loop-other
-invariant-loop-other l = (l.text ≡ l.initial.text) × (blocker_below l.model l.task l.block l.other ≡ None)
+invariant-loop-other l = (l.text ≡ l.initial.text) × (blocker_below l.blocking l.model l.task l.block l.other ≡ None)

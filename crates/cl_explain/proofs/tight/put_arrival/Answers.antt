@@ -1,9 +1,7 @@
 use Rattle.std.proofs.Common.{rules}
 use Rattle.std.proofs.lemmas.List.{append_assoc}
 use Rattle.std.proofs.lemmas.Result.{IfOk-equal}
-use Rattle.cl_explain.specs.Explanation.{arrival_line}
 use Rattle.cl_explain.proofs.tight.put_arrival.Goals as goal
 
 pub returns : goal.returns
-unfolding arrival_line
 returns c = search (rules, IfOk-equal, append_assoc)

@@ -1,7 +1,8 @@
-use Rattle.std.proofs.Common.{◌≡◌, ℕ, ◌<◌, ◌≤◌, true, false, length, refl, sym, ap, ◌∙◌, subst, arith}
-use Rattle.std.specs.Prelude.{Option, Some, None, is_some, MatchOption}
+use Rattle.std.proofs.Common.{◌≡◌, ℕ, ◌<◌, ◌≤◌, true, false, pos, ◌-ℤ◌, length, refl, sym, ap, ◌∙◌, subst, arith}
+use Rattle.std.specs.Prelude.{Option, Some, None, is_some}
 use Rattle.std.specs.Option.{option_map}
 use Rattle.std.proofs.lemmas.Bool.{true≢false}
+use Rattle.std.proofs.lemmas.Int.{ints}
 use Rattle.cl_model.specs.declared.limits.TheConstants.{MOST_TICKS}
 use Rattle.cl_model.specs.declared.model.SystemModel.{SystemModel}
 use Rattle.cl_model.specs.declared.stimulus.StimulusKind.{StimulusKind}
@@ -12,13 +13,17 @@ use Rattle.cl_runs.proofs.ModelSystem.{timing_is}
 use Rattle.cl_stim.specs.declared.phase.Phase.{Phase}
 use Rattle.cl_stim.specs.Phase.{phase_of}
 use Rattle.cl_resp.specs.declared.phased.PhasedQuestion.{PhasedQuestion}
+use Rattle.cl_resp.specs.Asked.{suffices}
 use Rattle.cl_resp.specs.ByPhase.{response_by_phase}
 use Rattle.cl_resp.specs.Question.{greatest_execution}
 use Rattle.cl_resp.specs.Response.{Response}
-use Rattle.cl_resp.specs.Worst.{less_than, within_of, HasNoWorstWindow, IsWorstWindowOf}
-use Rattle.cl_resp.specs.Inner.Phased.{IsPhasedInRange, IsPhasedQuestionOf}
-use Rattle.cl_resp.proofs.WorstCandidates.{follows_0}
-use Rattle.cl_resp.proofs.WorstTasks.{within_below, found_fixed, found_other}
+use Rattle.cl_resp.specs.Worst.{less_than, within_of, IsFirstUnanswered, IsWorstWindowOf}
+use Rattle.cl_resp.specs.Inner.Phased.{asked_of, IsPhasedInRange, IsPhasedQuestionOf}
+use Rattle.cl_resp.specs.Inner.Worst.{AreCandidatesAnswered, IsLeastAfter}
+use Rattle.cl_resp.proofs.WorstCandidates.{in_bounds_of, follows_0}
+use Rattle.cl_resp.proofs.WorstPlaces.{held}
+use Rattle.cl_resp.proofs.WorstTasks.{within_below, worst_fixed, worst_other}
+use Rattle.cl_resp.proofs.WorstWithin.{arrivals_lack, candidates_lack}
 use Rattle.cl_resp.proofs.worst.worst_window.Goals as goal
 
 module _ (model : SystemModel) (task : ℕ) (known : task < length model.tasks) (question : PhasedQuestion)
@@ -55,8 +60,8 @@ least_unanswered-requires-clause-within c =
     within_few c.args.model.now c.args.task c.requires.task c.in_ok-question.question c.in_ok-question.ensures.question c.in_ok-question.ensures.in_range
     c.args.response c.requires.response c.less_than-within.result c.less_than-within.ensures
 
-pub returns-then-is_fixed : goal.returns-then-is_fixed
-returns-then-is_fixed c =
+pub returns-in-Some : goal.returns-in-Some
+returns-in-Some c =
     let model = c.args.model.now in
     let question = c.in_ok-question.question in
     let same = same_within model c.args.task c.requires.task question c.in_ok-question.ensures.question c.in_ok-question.ensures.in_range
@@ -64,11 +69,20 @@ returns-then-is_fixed c =
     let kind = same_kind model c.args.task c.requires.task question c.in_ok-question.ensures.question c.in_ok-question.ensures.in_range
     c.args.response c.requires.response c.less_than-within.result c.less_than-within.ensures c.stimulus_of.result c.stimulus_of.ensures in
     let fixed = some_phase (phase_of c.stimulus_of.result) (sym c.is_fixed.ensures ∙ c.if-is_fixed.true) in
-    found_fixed (system_of model) c.args.task question c.in_ok-question.ensures.question fixed.0 (kind ∙ fixed.1)
-    c.in_ok-question.ensures.in_range.arrivals.is_phase c.less_than-within.result same c.first_unanswered.result c.first_unanswered.ensures
+    worst_fixed (system_of model) c.args.task question c.in_ok-question.ensures.question fixed.0 (kind ∙ fixed.1) c.in-Some.window
+    (subst (λ n. IsFirstUnanswered (asked_of question) n c.in-Some.window) same c.in-Some.ensures)
 
-pub returns : goal.returns
-returns c =
+pub unreachable-requires : goal.unreachable-requires
+unreachable-requires c =
+    let model = c.args.model.now in
+    let question = c.in_ok-question.question in
+    let same = same_within model c.args.task c.requires.task question c.in_ok-question.ensures.question c.in_ok-question.ensures.in_range
+    c.args.response c.requires.response c.less_than-within.result c.less_than-within.ensures in
+    arrivals_lack model c.ask_by_phase.ensures.valid c.args.task c.requires.task question c.in_ok-question.ensures.question
+    (subst (λ n. suffices (asked_of question) n ≡ true) same c.in-None.ensures)
+
+pub returns-in-Some-least_unanswered : goal.returns-in-Some-least_unanswered
+returns-in-Some-least_unanswered c =
     let model = c.args.model.now in
     let question = c.in_ok-question.question in
     let same = same_within model c.args.task c.requires.task question c.in_ok-question.ensures.question c.in_ok-question.ensures.in_range
@@ -76,6 +90,24 @@ returns c =
     let kind = same_kind model c.args.task c.requires.task question c.in_ok-question.ensures.question c.in_ok-question.ensures.in_range
     c.args.response c.requires.response c.less_than-within.result c.less_than-within.ensures c.stimulus_of.result c.stimulus_of.ensures in
     let other = no_phase (phase_of c.stimulus_of.result) (sym c.is_fixed.ensures ∙ c.if-is_fixed.false) in
-    subst (λ (w : Option _). MatchOption w (HasNoWorstWindow (system_of model) c.args.task) (IsWorstWindowOf (system_of model) c.args.task)) (sym c.window_at.ensures)
-    (found_other (system_of model) c.args.task question c.in_ok-question.ensures.question (kind ∙ other) c.in_ok-question.ensures.in_phase
-    (follows_0 question c.in_ok-question.ensures.in_range) c.less_than-within.result same c.least_unanswered.result c.least_unanswered.ensures)
+    let start = c.in-Some-least_unanswered.start in
+    let least = c.in-Some-least_unanswered.ensures in
+    let bounds = in_bounds_of question c.in_ok-question.ensures.in_range start least.is_candidate in
+    let here : held start ≡ start = omega (arith, ints, bounds.0, bounds.1, c.in_ok-question.ensures.in_range.short) in
+    subst (λ s. IsWorstWindowOf (system_of model) c.args.task (record { arrival = s; start = s })) (sym here)
+    (worst_other (system_of model) c.args.task question c.in_ok-question.ensures.question (kind ∙ other) start c.in_ok-question.ensures.in_phase
+    (follows_0 question c.in_ok-question.ensures.in_range)
+    (subst (λ n. IsLeastAfter question n (pos 0 -ℤ pos 1) start) same least))
+
+pub unreachable-requires-in-None-least_unanswered : goal.unreachable-requires-in-None-least_unanswered
+unreachable-requires-in-None-least_unanswered c =
+    let model = c.args.model.now in
+    let question = c.in_ok-question.question in
+    let same = same_within model c.args.task c.requires.task question c.in_ok-question.ensures.question c.in_ok-question.ensures.in_range
+    c.args.response c.requires.response c.less_than-within.result c.less_than-within.ensures in
+    let kind = same_kind model c.args.task c.requires.task question c.in_ok-question.ensures.question c.in_ok-question.ensures.in_range
+    c.args.response c.requires.response c.less_than-within.result c.less_than-within.ensures c.stimulus_of.result c.stimulus_of.ensures in
+    let other = no_phase (phase_of c.stimulus_of.result) (sym c.is_fixed.ensures ∙ c.if-is_fixed.false) in
+    candidates_lack model c.ask_by_phase.ensures.valid c.args.task c.requires.task question c.in_ok-question.ensures.question (kind ∙ other)
+    c.in_ok-question.ensures.in_range
+    (subst (λ n. AreCandidatesAnswered question n (pos 0 -ℤ pos 1)) same c.in-None-least_unanswered.ensures)

@@ -1,0 +1,12 @@
+pub mod JustMissed
+pub mod WalksLast
+pub mod SafeWalks
+pub mod WindowDemand
+pub mod WindowShares
+pub mod WindowRanges
+pub mod WindowJobs
+pub mod ShareLines
+pub mod TimedGroups
+pub mod ReasonTexts
+pub mod SomeReasons
+pub mod SomeWorst
