@@ -1,3 +1,5 @@
 pub mod DesignLines
+pub mod MarginLines
+pub mod MarginTexts
 pub mod OneText
 pub mod SafeTexts

@@ -5,8 +5,10 @@
 mod cuts;
 mod headroom;
 pub mod laws;
+mod margins;
 mod orders;
 
 pub use cuts::cut_text;
 pub use headroom::headroom_text;
+pub use margins::margin_text;
 pub use orders::order_text;

@@ -32,7 +32,7 @@ use Rattle.cl_top.proofs.WellMeant.Apply.{applying_well}
 use Rattle.cl_top.proofs.WellMeant.Check.{checking_well}
 use Rattle.cl_top.proofs.WellMeant.Draw.{drawing_well, drawn_once}
 use Rattle.cl_top.proofs.WellMeant.Edit.{editing_well}
-use Rattle.cl_top.proofs.WellMeant.OnModels.{analysing_well, migrating_well, cutting_well, ordering_well, headroom_well, tightening_well, verifying_well, explaining_well}
+use Rattle.cl_top.proofs.WellMeant.OnModels.{analysing_well, migrating_well, cutting_well, ordering_well, headroom_well, margin_well, tightening_well, verifying_well, explaining_well}
 use Rattle.cl_top.proofs.WellMeant.Replay.{replaying_well, replayed_once}
 use Rattle.cl_top.proofs.WellMeant.Simulate.{simulating_well}
 use Rattle.cl_top.proofs.WellMeant.Why.{reasoning_well}
@@ -47,6 +47,7 @@ meant_well command.Migrate = migrating_well
 meant_well command.Cut = cutting_well
 meant_well command.Order = ordering_well
 meant_well command.Headroom = headroom_well
+meant_well command.Margin = margin_well
 meant_well command.Tighten = tightening_well
 meant_well command.Verify = verifying_well
 meant_well command.Explain = explaining_well
@@ -85,6 +86,7 @@ module _ (P : Option Command → Type 0) (words : List (List ℕ)) (of_whole : (
       cond_both (bytes_eq verb (codes "cut")) _ _ P (λ _. of_whole command.Cut tt) (λ _.
       cond_both (bytes_eq verb (codes "order")) _ _ P (λ _. of_whole command.Order tt) (λ _.
       cond_both (bytes_eq verb (codes "headroom")) _ _ P (λ _. of_whole command.Headroom tt) (λ _.
+      cond_both (bytes_eq verb (codes "margin")) _ _ P (λ _. of_whole command.Margin tt) (λ _.
       cond_both (bytes_eq verb (codes "tighten")) _ _ P (λ _. of_whole command.Tighten tt) (λ _.
       cond_both (bytes_eq verb (codes "verify")) _ _ P (λ _. of_whole command.Verify tt) (λ _.
       cond_both (bytes_eq verb (codes "explain")) _ _ P (λ _. of_whole command.Explain tt) (λ _.
@@ -99,7 +101,7 @@ module _ (P : Option Command → Type 0) (words : List (List ℕ)) (of_whole : (
       cond_both (bytes_eq verb (codes "survey")) _ _ P (λ _. survey) (λ _.
       cond_both (bytes_eq verb (codes "check")) _ _ P (λ _. of_whole command.Check tt) (λ _.
       cond_both (asks_help verb) _ _ P (λ _. of_whole command.Help tt) (λ _.
-      cond_both (asks_version verb) _ _ P (λ _. of_whole command.Version tt) (λ _. none))))))))))))))))))))
+      cond_both (asks_version verb) _ _ P (λ _. of_whole command.Version tt) (λ _. none)))))))))))))))))))))
 
 by_words : (words : List (List ℕ)) → IsGood AsksForFew words (command_of words)
 unfolding command_of AsksForFew

@@ -83,6 +83,7 @@ by_verb verb words =
     else if bytes_eq verb (codes "cut") then whole command.Cut words
     else if bytes_eq verb (codes "order") then whole command.Order words
     else if bytes_eq verb (codes "headroom") then whole command.Headroom words
+    else if bytes_eq verb (codes "margin") then whole command.Margin words
     else if bytes_eq verb (codes "tighten") then whole command.Tighten words
     else if bytes_eq verb (codes "verify") then whole command.Verify words
     else if bytes_eq verb (codes "explain") then whole command.Explain words

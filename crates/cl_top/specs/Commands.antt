@@ -20,6 +20,7 @@ use Rattle.cl_explain.specs.Promises.{IsSafeExplanation}
 use Rattle.cl_designs.specs.Cuts.{IsCutTextOf}
 use Rattle.cl_designs.specs.Orders.{IsOrderTextOf, IsSafeOrderText}
 use Rattle.cl_designs.specs.Headroom.{IsHeadroomTextOf, IsSafeHeadroomText}
+use Rattle.cl_designs.specs.Margins.{IsMarginTextOf, IsSafeMarginText}
 use Rattle.cl_engine.specs.declared.outcome.Outcome.{Outcome}
 use Rattle.cl_engine.specs.Content.{Content}
 use Rattle.cl_engine.specs.Done.{IsDone}
@@ -49,16 +50,17 @@ saying text = record {
   same = equal;
 }
 
--- What each command comes to, its steps, what it promises of its text, and when two outcomes of it say the same. Fourteen
+-- What each command comes to, its steps, what it promises of its text, and when two outcomes of it say the same. Fifteen
 -- promise something of every legal run, or of the model or the run that they print: `analyse`, `cut`, `order`, `headroom`,
--- `tighten`, `verify`, `explain`, `witness`, `why`, `check`, `replay`, `draw`, `edit` and `apply`. The others print no bound of
--- a given model.
+-- `margin`, `tighten`, `verify`, `explain`, `witness`, `why`, `check`, `replay`, `draw`, `edit` and `apply`. The others print no
+-- bound of a given model.
 unfoldable pub meaning_of : Command → Meaning
 meaning_of command.Analyse = printing IsReportOf (at_most model_steps) (promises IsSafeReportOf)
 meaning_of command.Migrate = record { comes_to = on_model (λ model. IsDone (IsTextOf model)); takes = no_step; safe = no_promise; same = WritesTheSame }
 meaning_of command.Cut = printing IsCutTextOf any_steps (promises AreSafeCuts)
 meaning_of command.Order = printing IsOrderTextOf any_steps (promises IsSafeOrderText)
 meaning_of command.Headroom = printing IsHeadroomTextOf any_steps (promises IsSafeHeadroomText)
+meaning_of command.Margin = printing IsMarginTextOf any_steps (promises IsSafeMarginText)
 meaning_of command.Tighten = printing (λ model text. text ≡ tight_text model) (at_most task_steps) (promises IsSafeTightReport)
 meaning_of command.Verify = record {
   comes_to = on_model IsVerifiedAs;

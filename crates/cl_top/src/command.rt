@@ -29,6 +29,9 @@ pub enum Command {
     Order,
     /// `headroom MODEL`: finds how far the greatest execution times of a model may grow.
     Headroom,
+    /// `margin MODEL`: finds how far the greatest execution times of a model may grow, of all tasks
+    /// and of each alone, until something breaks that is met now, and what breaks first.
+    Margin,
     /// `tighten MODEL`: writes the report of a model by tight bounds, which know how the arrivals
     /// of its tasks lie to each other.
     Tighten,
@@ -110,6 +113,7 @@ pub(crate) fn read_command(words: &Words) -> Option<Command>
         "cut" => read_whole(words, Command::Cut),
         "order" => read_whole(words, Command::Order),
         "headroom" => read_whole(words, Command::Headroom),
+        "margin" => read_whole(words, Command::Margin),
         "tighten" => read_whole(words, Command::Tighten),
         "verify" => read_whole(words, Command::Verify),
         "explain" => read_whole(words, Command::Explain),

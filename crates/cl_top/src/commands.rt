@@ -16,6 +16,7 @@ mod generate;
 mod headroom;
 mod help;
 mod legal_run;
+mod margin;
 mod migrate;
 mod order;
 mod replay;
@@ -41,6 +42,7 @@ use explain::explained;
 use generate::generated;
 use headroom::headroom;
 use help::{helped, named_version};
+use margin::margined;
 use migrate::migrated;
 use order::ordered;
 use replay::replayed;
@@ -93,6 +95,7 @@ fn answered<L: Ledger>(
         Command::Cut => cut(alloc, &given.model(), steps),
         Command::Order => ordered(alloc, &given.model(), steps),
         Command::Headroom => headroom(alloc, &given.model(), steps),
+        Command::Margin => margined(alloc, &given.model(), steps),
         Command::Tighten => tightened(alloc, &given.model(), steps),
         Command::Verify => verified(alloc, &given.model(), steps),
         Command::Explain => explained(alloc, &given.model(), steps),

@@ -6,6 +6,8 @@ use Rattle.cl_cut.proofs.OneCutAnswer.{all_safe, all_no_worse}
 use Rattle.cl_designs.specs.Cuts.{IsCutTextOf}
 use Rattle.cl_designs.specs.Orders.{IsOrderTextOf, IsSafeOrderText}
 use Rattle.cl_designs.specs.Headroom.{IsHeadroomTextOf, IsSafeHeadroomText}
+use Rattle.cl_designs.specs.Margins.{IsMarginTextOf, IsSafeMarginText}
+use Rattle.cl_designs.proofs.MarginTexts.{some_margin_text, one_margin_text, safe_margin_text}
 use Rattle.cl_designs.proofs.OneText.{some_cut_text, some_order_text, some_headroom_text, one_cut_text, one_order_text, one_headroom_text}
 use Rattle.cl_designs.proofs.SafeTexts.{safe_order_text, safe_headroom_text}
 use Rattle.cl_explain.specs.Explanation.{explanation}
@@ -75,6 +77,10 @@ ordering_well = printing_well IsOrderTextOf any_steps (promises IsSafeOrderText)
 pub headroom_well : IsMeantWell files.Model (meaning_of command.Headroom) (Unit {0})
 unfolding meaning_of
 headroom_well = printing_well IsHeadroomTextOf any_steps (promises IsSafeHeadroomText) some_headroom_text one_headroom_text (λ model steps. tt) safe_headroom_text
+
+pub margin_well : IsMeantWell files.Model (meaning_of command.Margin) (Unit {0})
+unfolding meaning_of
+margin_well = printing_well IsMarginTextOf any_steps (promises IsSafeMarginText) some_margin_text (λ model valid. one_margin_text model) (λ model steps. tt) safe_margin_text
 
 pub tightening_well : IsMeantWell files.Model (meaning_of command.Tighten) (Unit {0})
 unfolding meaning_of

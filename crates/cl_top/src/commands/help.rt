@@ -44,7 +44,8 @@ why MODEL WHAT NAME         why what is named is answered or bounded as `verify`
 check MODEL                 what to mend in a model, or what to know of it\n\
 cut MODEL                   the best cuts of the chains\n\
 order MODEL                 on every core the first priorities, in dictionary order, with which no task is late\n\
-headroom MODEL              how far the greatest execution times may grow\n\
+headroom MODEL              how far the greatest execution times may grow by plain bounds\n\
+margin MODEL                how far they may grow, of all tasks and of each, and what breaks first\n\
 migrate MODEL               the model as a file of version 2 or 3\n\
 edit MODEL EDITS            a report for each line `report` of a list of edits\n\
 apply MODEL EDITS           the model after a list of edits, as such a file\n\

@@ -86,9 +86,9 @@ pub fn limits_of_counts()
 /// most 1,000,000,000 ticks, and arrivals, releases and execution times of at most
 /// 2,000,000,000,000. Exact lengths are sought where the hyperperiod of a chain is at most
 /// 1,000,000 times the lesser of its first and its last period, and tight bounds keep phases that
-/// come round within 1,000,000 arrivals of a group. Headroom is at most 1,000 percent. A window of
-/// a picture ends at tick 1,000,000,000 at the latest, and a row with marks has at most 120
-/// arrivals.
+/// come round within 1,000,000 arrivals of a group. Headroom and margins are at most 1,000 percent.
+/// A window of a picture ends at tick 1,000,000,000 at the latest, and a row with marks has at most
+/// 120 arrivals.
 pub fn limits_of_commands()
     ensures edits { MOST_EDITS ≡ 4096 }
     ensures reports { MOST_REPORTS ≡ 64 }
