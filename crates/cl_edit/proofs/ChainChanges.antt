@@ -1,5 +1,5 @@
 -- A valid model with one more chain, or without one of its chains: what is refused of it.
-use Rattle.std.proofs.Common.{◌≡◌, ℕ, ◌<◌, List, [], ◌∷◌, ◌++◌, length, get_or, refl, ap, ◌∙◌, arith}
+use Rattle.std.proofs.Common.{◌≡◌, ℕ, ◌<◌, List, [], ◌∷◌, ◌++◌, length, get_or, refl, ap, ◌∙◌}
 use Rattle.std.specs.Prelude.{Some}
 use Rattle.std.specs.List.{remove}
 use Rattle.std.proofs.lemmas.List.{map-append, length-map}
@@ -10,19 +10,18 @@ use Rattle.cl_model.specs.declared.place.Place.{Place}
 use Rattle.cl_model.specs.declared.place.Part.TheVariants as part
 use Rattle.cl_model.specs.declared.place.Key.TheVariants as key
 use Rattle.cl_model.specs.declared.refusal.Code.TheVariants.{M25, M46}
+use Rattle.cl_model.specs.ByNumber.{no_chain, chain_at}
 use Rattle.cl_model.specs.Named.{same_name, has_name, index_of, chain_names}
 use Rattle.cl_model.specs.Place.{entry_of, at_key}
 use Rattle.cl_model.specs.Refusals.{when, unless, each}
 use Rattle.cl_model.specs.ValidNames.{section_repeats, stimulus_checks, name_checks}
 use Rattle.cl_model.specs.ValidTasks.{naming_checks, task_check, task_checks, deadline_checks}
 use Rattle.cl_model.specs.Validity.{IsValid, chain_check, requirement_check, refusals_of}
-use Rattle.cl_model.proofs.NamePlaces.{found_below, known_place}
+use Rattle.cl_model.proofs.NamePlaces.{found_below, own_entry}
 use Rattle.cl_model.proofs.NamesApart.{chains_apart}
 use Rattle.cl_model.proofs.PassedChecks.{stimuli_pass, tasks_pass, deadlines_pass, chains_pass, requirements_pass}
 use Rattle.cl_model.proofs.Refused.{unless_none, each_none}
-use Rattle.cl_edit.specs.declared.edit.Edit.TheVariants.{AddChain, DropChain}
 use Rattle.cl_model.specs.Changes.{with_new_chain, without_chain}
-use Rattle.cl_edit.specs.Edited.{chain_number, edit_checks, with_edit}
 use Rattle.cl_edit.specs.FewListChecks.{new_chain_name_check, new_chain_checks, kept_chain_check, dropped_chain_checks}
 use Rattle.cl_edit.proofs.CheckParts.{name_parts, chain_names_left, names_and_chains_left, requirements_left, chain_moves}
 use Rattle.cl_edit.proofs.EachChecked.{each_more, each_same, none_of_each, each_moves, unless_true, unless_not}
@@ -78,8 +77,8 @@ module _ (model : SystemModel) (valid : IsValid model) (chain : ChainDef) where
       let parts = name_parts model valid in
       chain_names_left (with_new_chain model chain) parts.0 parts.1.0 parts.1.1.0 parts.1.1.1.0 parts.1.1.1.1.0 parts.1.1.1.1.1.1.0 ∙ names_new
 
-  refused : refusals_of (with_new_chain model chain) ≡ new_chain_checks model chain
-  refused =
+  pub new_chain_refused : refusals_of (with_new_chain model chain) ≡ new_chain_checks model chain
+  new_chain_refused =
       let changed : SystemModel = with_new_chain model chain in
       let chains : List ChainDef = model.chains ++ chain ∷ [] in
       names_and_chains_left changed (stimuli_stay model chains ∙ stimuli_pass model valid) (tasks_stay model chains ∙ tasks_pass model valid)
@@ -88,18 +87,14 @@ module _ (model : SystemModel) (valid : IsValid model) (chain : ChainDef) where
       ∙ ap (λ l. l ++ (each (chain_check changed) chains ++ [])) names_alone
       ∙ ap (λ l. new_chain_name_check model chain ++ (l ++ [])) chains_new
 
-  pub new_chain_refused : refusals_of (with_edit model (AddChain chain)) ≡ new_chain_checks model chain
-  unfolding with_edit
-  new_chain_refused = refused
-
 -- ---- one chain less
 
-module _ (model : SystemModel) (valid : IsValid model) (name : List ℕ) (c : ℕ) (found : index_of name (chain_names model) ≡ Some c) where
-  named : ChainDef → List ℕ
-  named chain = chain.name
+module _ (model : SystemModel) (valid : IsValid model) (c : ℕ) (within : c < length model.chains) where
+  abbrev name : List ℕ
+  name = (chain_at model c).name
 
-  within : c < length model.chains
-  within = omega (arith, found_below name (chain_names model) c found, length-map model.chains (λ (chain : ChainDef). chain.name))
+  found : index_of name (chain_names model) ≡ Some c
+  found = own_entry (λ (chain : ChainDef). chain.name) model.chains (chains_apart model valid) c no_chain within
 
   names_left : chain_names (without_chain model c) ≡ remove (chain_names model) c
   names_left = map-remove (λ (chain : ChainDef). chain.name) model.chains c
@@ -136,16 +131,10 @@ module _ (model : SystemModel) (valid : IsValid model) (name : List ℕ) (c : �
       let parts = name_parts model valid in
       chain_names_left (without_chain model c) parts.0 parts.1.0 parts.1.1.0 parts.1.1.1.0 parts.1.1.1.1.0 parts.1.1.1.1.1.1.0 ∙ names_apart
 
-  chain_dropped : refusals_of (without_chain model c) ≡ dropped_chain_checks model name
-  chain_dropped =
+  pub dropped_chain_refused : refusals_of (without_chain model c) ≡ dropped_chain_checks model c
+  dropped_chain_refused =
       let left : SystemModel = without_chain model c in
       let chains : List ChainDef = remove model.chains c in
       requirements_left left names_none (stimuli_stay model chains ∙ stimuli_pass model valid) (tasks_stay model chains ∙ tasks_pass model valid)
       (deadlines_stay model chains ∙ deadlines_pass model valid) chains_stay
       ∙ each_same (requirement_check left) (kept_chain_check name) model.requirements requirement_left
-
-pub dropped_chain_refused : (model : SystemModel) (name : List ℕ) → IsValid model → edit_checks model (DropChain name) ≡ []
-    → refusals_of (with_edit model (DropChain name)) ≡ dropped_chain_checks model name
-unfolding edit_checks with_edit
-dropped_chain_refused model name valid none =
-    chain_dropped model valid name (chain_number model name) (known_place name (chain_names model) (unless_none _ _ _ none))

@@ -14,9 +14,9 @@ use Rattle.cl_model.specs.Refusals.{when, first}
 use Rattle.cl_model.specs.ValidTasks.{task_key, priority_check}
 use Rattle.cl_model.specs.Validity.{IsValid}
 use Rattle.cl_model.proofs.CoreTasks.{priorities_differ}
-use Rattle.cl_edit.specs.declared.pace.Change.{Change}
-use Rattle.cl_edit.specs.declared.pace.Change.TheVariants as change
-use Rattle.cl_edit.specs.Inner.Paces.{with_change, IsChangeOf, is_touched, core_after, priority_after, noted, IsAtMost, HasOthers}
+use Rattle.cl_edit.specs.declared.pace.Retiming.{Retiming}
+use Rattle.cl_edit.specs.declared.pace.Retiming.TheVariants as change
+use Rattle.cl_edit.specs.Inner.Paces.{with_retiming, IsRetimingOf, is_touched, core_after, priority_after, noted, IsAtMost, HasOthers}
 use Rattle.cl_edit.specs.declared.pace.Pace.{Pace}
 use Rattle.cl_edit.specs.Inner.Clashes.{is_clashing, clash_checks, IsClash, IsClashing, HasMet}
 use Rattle.cl_edit.proofs.EachFacts.{each_nothing}
@@ -86,12 +86,12 @@ not_same : (b : Bool) → not b ≡ true → b ≡ false
 not_same true h = absurd cc
 not_same false h = refl
 
-pub of_clash : (model : SystemModel) → IsValid model → (c : Change) → IsChangeOf model c → (start last : Option ℕ) (task other own its n : ℕ) (test : Bool)
+pub of_clash : (model : SystemModel) → IsValid model → (c : Retiming) → IsRetimingOf model c → (start last : Option ℕ) (task other own its n : ℕ) (test : Bool)
     → task < length model.tasks → other < length model.tasks → own ≡ priority_after model c task → its ≡ priority_after model c other → test ≡ (not (task == other) && (own == its))
-    → n ≡ cond (nat_lt task other) other task → last ≡ noted start test n → core_of (with_change model c) task ≡ core_of (with_change model c) other → IsClashing (with_change model c) start
-    → ClashNoted (with_change model c) start last task other
+    → n ≡ cond (nat_lt task other) other task → last ≡ noted start test n → core_of (with_retiming model c) task ≡ core_of (with_retiming model c) other → IsClashing (with_retiming model c) start
+    → ClashNoted (with_retiming model c) start last task other
 of_clash model valid c is start last task other own its n test ht ho own_is its_is test_is n_is last_is core sound =
-    let new = with_change model c in
+    let new = with_retiming model c in
     let p : own ≡ (task_at new task).priority = own_is ∙ sym (ap (λ (x : Pace). x.priority) (pace_is model valid task ht c is)) in
     let q : its ≡ (task_at new other).priority = its_is ∙ sym (ap (λ (x : Pace). x.priority) (pace_is model valid other ho c is)) in
     let known = change_known model valid c is in
@@ -146,8 +146,8 @@ met_more model start mid last others task n other so_far at sound kept met = rec
   ] refl;
 }
 
-pub met_all : (model : SystemModel) → IsValid model → (c : Change) → IsChangeOf model c → (core task n : ℕ) (start last : Option ℕ) (others : List ℕ) → others ≡ tasks_of_core model core → HasOthers model c task core
-    → core_after model c task ≡ core → task < length model.tasks → length others ≤ n → BesideMet (with_change model c) start last others task n → (j : ℕ) → HasMet (with_change model c) last task j
+pub met_all : (model : SystemModel) → IsValid model → (c : Retiming) → IsRetimingOf model c → (core task n : ℕ) (start last : Option ℕ) (others : List ℕ) → others ≡ tasks_of_core model core → HasOthers model c task core
+    → core_after model c task ≡ core → task < length model.tasks → length others ≤ n → BesideMet (with_retiming model c) start last others task n → (j : ℕ) → HasMet (with_retiming model c) last task j
 met_all model valid c is core task n start last others list has own ht end all j = record {
   later = λ clash.
       let hj : j < length model.tasks = omega (arith, clash.within, tasks_kept model c) in
@@ -157,7 +157,7 @@ met_all model valid c is core task n start last others list has own ht end all j
       (found j hj (sym (core_is model valid j hj c is) ∙ clash.core ∙ core_is model valid task ht c is ∙ own) (λ same. let lt = clash.before in omega arith)).earlier clash;
 }
   where
-    found : (j : ℕ) → j < length model.tasks → core_after model c j ≡ core → (j ≡ task → ⊥) → HasMet (with_change model c) last task j
+    found : (j : ℕ) → j < length model.tasks → core_after model c j ≡ core → (j ≡ task → ⊥) → HasMet (with_retiming model c) last task j
     found j lt at apart =
         elim (has.1 j lt at) [
           | inl same ↦ absurd (apart same)
@@ -165,17 +165,17 @@ met_all model valid c is core task n start last others list has own ht end all j
               let (m, m_lt, is) = listed model core j lt on in
               let e : get_or others m 0 ≡ j = ap (λ l. get_or l m 0) list ∙ is in
               let h : m < length others = subst (λ (l : List ℕ). m < length l) (sym list) m_lt in
-              subst (λ o. HasMet (with_change model c) last task o) e (all.met m (omega (arith, h, end)))
+              subst (λ o. HasMet (with_retiming model c) last task o) e (all.met m (omega (arith, h, end)))
         ]
 
 -- ---- all pairs
 
 -- the first is at most each task that clashes after a change
-pub least_clash : (model : SystemModel) → IsValid model → (c : Change) → IsChangeOf model c → (last : Option ℕ)
-    → ((t j : ℕ) → t < length model.tasks → is_touched model c t ≡ true → HasMet (with_change model c) last t j)
-    → (k : ℕ) → k < length (with_change model c).tasks → is_clashing (with_change model c) k ≡ true → IsAtMost last k
+pub least_clash : (model : SystemModel) → IsValid model → (c : Retiming) → IsRetimingOf model c → (last : Option ℕ)
+    → ((t j : ℕ) → t < length model.tasks → is_touched model c t ≡ true → HasMet (with_retiming model c) last t j)
+    → (k : ℕ) → k < length (with_retiming model c).tasks → is_clashing (with_retiming model c) k ≡ true → IsAtMost last k
 least_clash model valid c is last met k lt refused =
-    let new = with_change model c in
+    let new = with_retiming model c in
     let (j, clash) = refused_clash new (change_known model valid c is) k lt refused in
     let hk : k < length model.tasks = omega (arith, clash.within, tasks_kept model c) in
     let hj : j < length model.tasks = omega (arith, clash.before, hk) in
@@ -195,11 +195,11 @@ least_clash model valid c is last met k lt refused =
 
 -- after a swap
 pub least_of_swap : (model : SystemModel) → IsValid model → (last : Option ℕ) (one other : ℕ) → (one < length model.tasks) × (other < length model.tasks)
-    → ((j : ℕ) → HasMet (with_change model (change.Swap one other)) last one j) → ((j : ℕ) → HasMet (with_change model (change.Swap one other)) last other j)
-    → (k : ℕ) → k < length (with_change model (change.Swap one other)).tasks → is_clashing (with_change model (change.Swap one other)) k ≡ true → IsAtMost last k
+    → ((j : ℕ) → HasMet (with_retiming model (change.Swap one other)) last one j) → ((j : ℕ) → HasMet (with_retiming model (change.Swap one other)) last other j)
+    → (k : ℕ) → k < length (with_retiming model (change.Swap one other)).tasks → is_clashing (with_retiming model (change.Swap one other)) k ≡ true → IsAtMost last k
 least_of_swap model valid last one other is met_one met_other =
     let c = change.Swap one other in
-    let new = with_change model c in
+    let new = with_retiming model c in
     least_clash model valid c is last
     (λ t j lt touched. elim (t == one) as (λ b. (t == one) ≡ b → (b || (t == other)) ≡ true → HasMet new last t j) [
       | true ↦ λ e _. subst (λ i. HasMet new last i j) (sym (eqb-true t one e)) (met_one j)
@@ -208,8 +208,8 @@ least_of_swap model valid last one other is met_one met_other =
 
 -- after a move
 pub least_of_move : (model : SystemModel) → IsValid model → (last : Option ℕ) (task core priority : ℕ) → (task < length model.tasks) × (core < length model.cores)
-    → ((j : ℕ) → HasMet (with_change model (change.Move task core priority)) last task j)
-    → (k : ℕ) → k < length (with_change model (change.Move task core priority)).tasks → is_clashing (with_change model (change.Move task core priority)) k ≡ true → IsAtMost last k
+    → ((j : ℕ) → HasMet (with_retiming model (change.Move task core priority)) last task j)
+    → (k : ℕ) → k < length (with_retiming model (change.Move task core priority)).tasks → is_clashing (with_retiming model (change.Move task core priority)) k ≡ true → IsAtMost last k
 least_of_move model valid last task core priority is met =
     let c = change.Move task core priority in
-    least_clash model valid c is last (λ t j lt touched. subst (λ i. HasMet (with_change model c) last i j) (sym (eqb-true t task touched)) (met j))
+    least_clash model valid c is last (λ t j lt touched. subst (λ i. HasMet (with_retiming model c) last i j) (sym (eqb-true t task touched)) (met j))

@@ -7,6 +7,7 @@ use Rattle.cl_model.specs.Refusals.{answer}
 use Rattle.cl_model.specs.Validity.{refusals_of, IsValid}
 use Rattle.cl_edit.specs.declared.edit.Edit.{Edit}
 use Rattle.cl_edit.specs.declared.edit.Edit.TheVariants.{Report}
+use Rattle.cl_edit.specs.Changing.{change_of}
 use Rattle.cl_edit.specs.Edited.{edit_checks, with_edit, edited}
 use Rattle.cl_edit.specs.Ranges.{IsEditInRange}
 use Rattle.cl_edit.proofs.CheckedEdits.{made_where_passes}
@@ -44,5 +45,5 @@ valid_unless model edit valid in_range none = edited_valid model edit (with_edit
 
 -- a report keeps a valid model
 pub report_keeps : (model : SystemModel) → IsValid model → edited model Report ≡ Ok model
-unfolding edited edit_checks with_edit
+unfolding edited edit_checks with_edit change_of
 report_keeps model valid = ap (λ refusals. answer refusals model) valid.accepted

@@ -13,8 +13,8 @@ use Rattle.cl_model.specs.Named.{same_name, index_of, core_names, tasks_on}
 use Rattle.cl_model.specs.Validity.{IsValid}
 use Rattle.cl_model.proofs.CoreTasks.{below_more, few_tasks}
 use Rattle.cl_model.proofs.ListFacts.{same_tests}
-use Rattle.cl_edit.specs.declared.pace.Change.TheVariants as change
-use Rattle.cl_edit.specs.Inner.Paces.{with_change}
+use Rattle.cl_edit.specs.declared.pace.Retiming.TheVariants as change
+use Rattle.cl_edit.specs.Inner.Paces.{with_retiming}
 use Rattle.cl_edit.specs.Inner.Places.{is_beyond, IsFirstBeyond}
 use Rattle.cl_edit.proofs.OutpacedTasks.{IsKnown, names_same}
 use Rattle.cl_edit.proofs.PairFacts.{change_known, core_is, tasks_kept}
@@ -156,7 +156,7 @@ module _ (model : SystemModel) (known : IsKnown model) where
 
 module _ (model : SystemModel) (valid : IsValid model) (task core priority : ℕ) (known : task < length model.tasks) (there : core < length model.cores) where
   abbrev new : SystemModel
-  new = with_change model (change.Move task core priority)
+  new = with_retiming model (change.Move task core priority)
 
   long : length new.tasks ≡ length model.tasks
   long = tasks_kept model (change.Move task core priority)

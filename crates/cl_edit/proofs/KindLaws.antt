@@ -18,8 +18,8 @@ use Rattle.cl_model.specs.Timing.{least_distance, greatest_jitter}
 use Rattle.cl_model.specs.ValidTasks.{task_key, late_check, release_check, is_outpaced_by, deadline_check, deadline_checks}
 use Rattle.cl_model.specs.Validity.{IsValid, refusals_of}
 use Rattle.cl_model.proofs.ListFacts.{same_tests}
-use Rattle.cl_edit.specs.declared.pace.Change.{Change}
-use Rattle.cl_edit.specs.declared.pace.Change.TheVariants as change
+use Rattle.cl_edit.specs.declared.pace.Retiming.{Retiming}
+use Rattle.cl_edit.specs.declared.pace.Retiming.TheVariants as change
 use Rattle.cl_edit.specs.FewChecks.{is_on_stimulus, number_refusals, limit_refusals, kind_deadline_refusals, kind_refusals}
 use Rattle.cl_edit.specs.Inner.Paces.{is_on, IsPair, is_outpaced, pace_after, limit_checks, limits_on, all_limits_on}
 use Rattle.cl_edit.proofs.EachFacts.{each_alike}
@@ -54,7 +54,7 @@ module _ (model : SystemModel) (valid : IsValid model) (s : ℕ) (kind : Stimulu
       → is_outpaced (with_kind model s (λ _. kind)) k
       ≡ list_any (λ other. (is_on_stimulus model s (task_at model k) || is_on_stimulus model s other) && is_outpaced_by (with_kind model s (λ _. kind)) (task_at model k) other) (tasks_on (task_at model k).core model.tasks)
   touched_pair k known =
-      let c : Change = change.Kind s kind in
+      let c : Retiming = change.Kind s kind in
       let new : SystemModel = with_kind model s (λ _. kind) in
       let task = task_at model k in
       let own : TaskDef → Bool = λ other. same_name task.core other.core in

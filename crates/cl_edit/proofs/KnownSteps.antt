@@ -1,23 +1,18 @@
 -- Names that are looked up in a model, and what they stand for.
-use Rattle.std.proofs.Common.{◌≡◌, ℕ, ◌<◌, Bool, true, false, List, length, get_or, refl, sym, ap, ◌∙◌}
-use Rattle.std.specs.Prelude.{Option, Some, None, is_some, IfSome, slice_get}
+use Rattle.std.proofs.Common.{◌≡◌, ℕ, ◌<◌, true, false, List, length, get_or, refl, sym, ap, ◌∙◌}
+use Rattle.std.specs.Prelude.{Option, Some, None, is_some, slice_get}
 use Rattle.std.specs.Option.{option_and_then}
 use Rattle.cl_model.specs.declared.group.Step.{Step}
 use Rattle.cl_model.specs.declared.model.SystemModel.{SystemModel}
-use Rattle.cl_model.specs.declared.refusal.Code.TheVariants.{E2}
 use Rattle.cl_model.specs.declared.task.RunnableDef.{RunnableDef}
 use Rattle.cl_model.specs.declared.task.TaskDef.{TaskDef}
 use Rattle.cl_model.specs.ByNumber.{no_runnable, task_at, runnable_at}
-use Rattle.cl_model.specs.Groups.{step_named, IsStepOf}
+use Rattle.cl_model.specs.Groups.{step_named}
 use Rattle.cl_model.specs.Named.{has_name, index_of, runnable_names, runnable_named, all_runnables}
-use Rattle.cl_model.specs.Place.{top}
-use Rattle.cl_model.specs.Refusals.{first, unless}
-use Rattle.cl_model.proofs.Refused.{unless_none}
 use Rattle.cl_model.proofs.StepFacts.{runnable_found}
 use Rattle.std.proofs.lemmas.List.{get_or_default}
 use Rattle.cl_edit.specs.Edited.{all_names}
-use Rattle.cl_edit.specs.Inner.Steps.{step_search}
-use Rattle.cl_edit.proofs.FoundFacts.{missing_unknown, found_known, step_found, step_missing}
+use Rattle.cl_edit.proofs.FoundFacts.{missing_unknown, found_known}
 
 -- a name has a place where it is known
 pub place_known : (name : List ℕ) (names : List (List ℕ)) → is_some (index_of name names) ≡ has_name name names
@@ -26,24 +21,6 @@ place_known name names = by (index_of name names) refl
     by : (place : Option ℕ) → index_of name names ≡ place → is_some (index_of name names) ≡ has_name name names
     by None is = ap is_some is ∙ sym (missing_unknown name names is)
     by (Some k) is = ap is_some is ∙ sym (found_known name names k is)
-
--- ---- the step of a name
-
-refused_unknown : (known : Bool) → first (unless known E2 top) ≡ Some (record { code = E2; place = top }) → known ≡ false
-refused_unknown true h = absurd cc
-refused_unknown false h = refl
-
-pub step_known : (model : SystemModel) (name : List ℕ) (step : Option Step) → step ≡ step_search name 0 model.tasks → is_some step ≡ has_name name (all_names model)
-step_known model name None is = sym (refused_unknown (has_name name (all_names model)) (step_missing model name (sym is)))
-step_known model name (Some step) is = sym (unless_none (has_name name (all_names model)) E2 top (step_found model name step (sym is)).0)
-
-pub step_is : (model : SystemModel) (name : List ℕ) (step : Option Step) → step ≡ step_search name 0 model.tasks → IfSome step (λ step. step ≡ step_named model name)
-step_is model name None is = tt
-step_is model name (Some step) is = (step_found model name step (sym is)).1
-
-pub step_within : (model : SystemModel) (name : List ℕ) (step : Option Step) → step ≡ step_search name 0 model.tasks → IfSome step (IsStepOf model)
-step_within model name None is = tt
-step_within model name (Some step) is = (step_found model name step (sym is)).2
 
 -- ---- the runnable of a name
 

@@ -1,5 +1,4 @@
 pub mod FoundFacts
-pub mod StepFacts
 pub mod RangeFacts
 pub mod ReadLines
 pub mod PartFacts
@@ -38,6 +37,7 @@ pub mod BareModels
 pub mod TaskChecks
 pub mod TaskSetters
 pub mod FewAnswers
+pub mod ResolvedEdits
 pub mod MovedTasks
 pub mod OutpacedTasks
 pub mod ChangedTasks

@@ -23,10 +23,10 @@ use Rattle.cl_model.specs.Answers.{IsFaultOf}
 use Rattle.cl_model.proofs.FirstRefusals.{all_checked, next_passes, next_refused}
 use Rattle.cl_model.proofs.NoRefusals.{all_none}
 use Rattle.cl_model.proofs.Refused.{each_none}
-use Rattle.cl_edit.specs.declared.pace.Change.{Change}
-use Rattle.cl_edit.specs.declared.pace.Change.TheVariants as change
+use Rattle.cl_edit.specs.declared.pace.Retiming.{Retiming}
+use Rattle.cl_edit.specs.declared.pace.Retiming.TheVariants as change
 use Rattle.cl_edit.specs.FewChecks.{number_refusals}
-use Rattle.cl_edit.specs.Inner.Paces.{with_change, IsChangeOf, is_on, kind_after, pace_after, limit_checks, limits_on, all_limits_on}
+use Rattle.cl_edit.specs.Inner.Paces.{with_retiming, IsRetimingOf, is_on, kind_after, pace_after, limit_checks, limits_on, all_limits_on}
 use Rattle.cl_edit.proofs.EachFacts.{each_alike, each_only}
 use Rattle.cl_edit.proofs.BareModels.{IsAlike}
 use Rattle.cl_edit.proofs.TaskChecks.{times_checks, timing_check, task_passes, stimuli_pass, times_left_of}
@@ -35,11 +35,11 @@ use Rattle.cl_edit.proofs.ChangedTasks.{kind_known, kind_after_change}
 use Rattle.cl_edit.proofs.PairFacts.{kind_is, given_is}
 
 -- M32 and M33 of a task after a change
-pub limits_are : (model : SystemModel) → IsValid model → (c : Change) → IsChangeOf model c → (k : ℕ) → k < length model.tasks
-    → (let task = task_at (with_change model c) k in let kind = kind_named (with_change model c) task.stimulus in in_order (late_check kind k task ∷ release_check kind k task ∷ []))
+pub limits_are : (model : SystemModel) → IsValid model → (c : Retiming) → IsRetimingOf model c → (k : ℕ) → k < length model.tasks
+    → (let task = task_at (with_retiming model c) k in let kind = kind_named (with_retiming model c) task.stimulus in in_order (late_check kind k task ∷ release_check kind k task ∷ []))
     ≡ limit_checks (pace_after model c k) k
 limits_are model valid c is k known =
-    let task = task_at (with_change model c) k in
+    let task = task_at (with_retiming model c) k in
     let kind = kind_after model c k in
     ap (λ o. in_order (late_check o k task ∷ release_check o k task ∷ [])) (kind_is model valid k known c is)
     ∙ ap (λ (given : Option ℕ). in_order (when (nat_lt (least_distance kind) (unwrap_or given (least_distance kind))) M32 (task_key k key.Deadline)
@@ -52,7 +52,7 @@ without_times late release times none = rw none refl
 pub deadline_left : (model : SystemModel) → IsValid model → (i : ℕ) (deadline : Option ℕ) → i < length model.tasks
     → refusals_of (with_deadline model i deadline) ≡ limit_checks (pace_after model (change.Deadline i deadline) i) i ++ deadline_checks (with_deadline model i deadline)
 deadline_left model valid i deadline within =
-    let c : Change = change.Deadline i deadline in
+    let c : Retiming = change.Deadline i deadline in
     let task : TaskDef = record (task_at model i) { deadline = deadline } in
     let kind = kind_named model task.stimulus in
     task_times model valid i within task refl refl
@@ -104,7 +104,7 @@ module _ (model : SystemModel) (valid : IsValid model) (s : ℕ) (kind : Stimulu
 
   one_task : (k : ℕ) → k < length model.tasks → timing_check (with_kind model s (λ _. kind)) k (task_at model k) ≡ limits_on model (change.Kind s kind) s k
   one_task k known =
-      let c : Change = change.Kind s kind in
+      let c : Retiming = change.Kind s kind in
       let task = task_at model k in
       let new : SystemModel = with_kind model s (λ _. kind) in
       let passes = task_passes model valid k known in
@@ -132,7 +132,7 @@ default_here [] i d lt = absurd (omega arith)
 default_here (x ∷ xs) zero d lt = refl
 default_here (x ∷ xs) (suc i) d lt = default_here xs i d (omega arith)
 
-module _ (model : SystemModel) (c : Change) (s n : ℕ) (within : n < length model.tasks) (so_far : all_limits_on model c s ≡ each_from n (λ k task. limits_on model c s k) (drop n model.tasks)) where
+module _ (model : SystemModel) (c : Retiming) (s n : ℕ) (within : n < length model.tasks) (so_far : all_limits_on model c s ≡ each_from n (λ k task. limits_on model c s k) (drop n model.tasks)) where
   -- the next task, where nothing is refused of it
   pub limits_pass : limits_on model c s n ≡ [] → all_limits_on model c s ≡ each_from (n + 1) (λ k task. limits_on model c s k) (drop (n + 1) model.tasks)
   limits_pass none = next_passes (λ k task. limits_on model c s k) model.tasks n (get_or model.tasks n no_task) within (default_here model.tasks n no_task within) so_far none
@@ -142,7 +142,7 @@ module _ (model : SystemModel) (c : Change) (s n : ℕ) (within : n < length mod
   limits_refuse e is = next_refused (λ k task. limits_on model c s k) model.tasks n (get_or model.tasks n no_task) within (default_here model.tasks n no_task within) e so_far is
 
 -- past the last task nothing is left
-pub limits_end : (model : SystemModel) (c : Change) (s n : ℕ) → all_limits_on model c s ≡ each_from n (λ k task. limits_on model c s k) (drop n model.tasks) → length model.tasks ≤ n → all_limits_on model c s ≡ []
+pub limits_end : (model : SystemModel) (c : Retiming) (s n : ℕ) → all_limits_on model c s ≡ each_from n (λ k task. limits_on model c s k) (drop n model.tasks) → length model.tasks ≤ n → all_limits_on model c s ≡ []
 limits_end model c s n so_far past = all_checked (λ k task. limits_on model c s k) model.tasks n so_far past
 
 pub ruleset each_limit = (limits_pass, limits_refuse, limits_end)

@@ -13,18 +13,16 @@ use Rattle.cl_model.specs.declared.task.TaskDef.{TaskDef}
 use Rattle.cl_model.specs.Answers.{Passes, IsFaultOf}
 use Rattle.cl_model.specs.ByNumber.{no_core, no_task, task_at, core_at}
 use Rattle.cl_model.specs.Changes.{with_place}
-use Rattle.cl_model.specs.Named.{index_of, core_names, task_names, tasks_on}
+use Rattle.cl_model.specs.Named.{index_of, core_names, tasks_on}
 use Rattle.cl_model.specs.Refusals.{unless, in_order, first}
 use Rattle.cl_model.specs.ValidTasks.{task_key, core_check, priority_check, room_check, deadline_checks}
 use Rattle.cl_model.specs.Validity.{IsValid, refusals_of}
 use Rattle.cl_model.proofs.NamePlaces.{entry_found}
 use Rattle.cl_model.proofs.Refused.{first_with_more}
-use Rattle.cl_edit.specs.declared.pace.Change.TheVariants as change
-use Rattle.cl_edit.specs.Edited.{found, task_number}
+use Rattle.cl_edit.specs.declared.pace.Retiming.TheVariants as change
 use Rattle.cl_edit.specs.FewChecks.{place_refusals}
-use Rattle.cl_edit.specs.Inner.Paces.{with_change}
+use Rattle.cl_edit.specs.Inner.Paces.{with_retiming}
 use Rattle.cl_edit.specs.Inner.Places.{place_checks}
-use Rattle.cl_edit.proofs.FewAnswers.{passes_then}
 use Rattle.cl_edit.proofs.FoundFacts.{missing_unknown}
 use Rattle.cl_edit.proofs.OutpacedTasks.{each_first}
 use Rattle.cl_edit.proofs.PlaceLaws.{move_needs_few}
@@ -35,17 +33,14 @@ move_left : (model : SystemModel) → IsValid model → (i : ℕ) (core : List �
 move_left model valid i core priority =
     move_needs_few model valid i core priority ∙ ap (λ deadlines. place_checks (with_place model i core priority) ++ deadlines) (append-nil (deadline_checks (with_place model i core priority)))
 
--- where the task and the core are there, M31, M34 and M42 are left
-pub move_passes : (model : SystemModel) → IsValid model → (task core : List ℕ) (i c priority : ℕ) (result : Result (Unit {0}) ModelFault) → found task (task_names model) ≡ []
-    → i ≡ task_number model task → Some c ≡ index_of core (core_names model)
-    → Passes result (place_checks (with_change model (change.Move i c priority)) ++ deadline_checks (with_change model (change.Move i c priority)))
-    → Passes result (found task (task_names model) ++ refusals_of (with_place model (task_number model task) core priority))
-move_passes model valid task core i c priority result none is_i is_c passes =
-    let new = with_change model (change.Move i c priority) in
+-- where the core is there, M31, M34 and M42 are left
+pub move_passes : (model : SystemModel) → IsValid model → (core : List ℕ) (i c priority : ℕ) (result : Result (Unit {0}) ModelFault) → Some c ≡ index_of core (core_names model)
+    → Passes result (place_checks (with_retiming model (change.Move i c priority)) ++ deadline_checks (with_retiming model (change.Move i c priority)))
+    → Passes result (refusals_of (with_place model i core priority))
+move_passes model valid core i c priority result is_c passes =
     let named : (core_at model c).name ≡ core = entry_found (λ (x : CoreDef). x.name) model.cores core c no_core (sym is_c) in
-    passes_then result (found task (task_names model)) (place_checks new ++ deadline_checks new) (refusals_of (with_place model (task_number model task) core priority)) none
-    (ap (λ n. refusals_of (with_place model n core priority)) (sym is_i) ∙ ap (λ name. refusals_of (with_place model i name priority)) (sym named) ∙ move_left model valid i (core_at model c).name priority)
-    passes
+    subst (λ (refusals : List Refusal). Passes result refusals)
+    (sym (move_left model valid i (core_at model c).name priority) ∙ ap (λ name. refusals_of (with_place model i name priority)) named) passes
 
 -- ---- a core that isn't there
 
@@ -78,14 +73,11 @@ module _ (model : SystemModel) (valid : IsValid model) (i : ℕ) (core : List �
       (ap (λ t. first (place_refusals new i t)) (get_or-set_same model.tasks i moved no_task known)
       ∙ ap (λ b. first (unless b M29 (task_key i key.Core) ++ (priority_check (tasks_on core earlier) i moved ++ (room_check (length (tasks_on core earlier)) i ++ [])))) (missing_unknown core (core_names model) missing))
 
--- where the task is there and the core isn't, M29 refuses
-pub move_nowhere : (model : SystemModel) → IsValid model → (task core : List ℕ) (i priority : ℕ) (fault : ModelFault) → found task (task_names model) ≡ []
-    → i ≡ task_number model task → i < length model.tasks → None ≡ index_of core (core_names model) → fault ≡ Refused (record { code = M29; place = task_key i key.Core })
-    → IsFaultOf (found task (task_names model) ++ refusals_of (with_place model (task_number model task) core priority)) fault
-move_nowhere model valid task core i priority fault none is within missing is_fault =
+-- where the core isn't there, M29 refuses
+pub move_nowhere : (model : SystemModel) → IsValid model → (core : List ℕ) (i priority : ℕ) (fault : ModelFault) → i < length model.tasks → None ≡ index_of core (core_names model)
+    → fault ≡ Refused (record { code = M29; place = task_key i key.Core }) → IsFaultOf (refusals_of (with_place model i core priority)) fault
+move_nowhere model valid core i priority fault within missing is_fault =
     let new = with_place model i core priority in
     let refusal : Refusal = record { code = M29; place = task_key i key.Core } in
-    subst (λ (f : ModelFault). IsFaultOf (found task (task_names model) ++ refusals_of (with_place model (task_number model task) core priority)) f) (sym is_fault)
-    (ap (λ l. first (l ++ refusals_of (with_place model (task_number model task) core priority))) none
-    ∙ ap (λ n. first (refusals_of (with_place model n core priority))) (sym is) ∙ ap first (move_left model valid i core priority)
-    ∙ first_with_more (place_checks new) (deadline_checks new) refusal (unknown_first model valid i core priority within (sym missing)))
+    subst (λ (f : ModelFault). IsFaultOf (refusals_of (with_place model i core priority)) f) (sym is_fault)
+    (ap first (move_left model valid i core priority) ∙ first_with_more (place_checks new) (deadline_checks new) refusal (unknown_first model valid i core priority within (sym missing)))

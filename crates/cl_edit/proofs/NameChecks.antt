@@ -1,9 +1,10 @@
 -- The checks of names of which one is added or removed.
-use Rattle.std.proofs.Common.{◌≡◌, ℕ, zero, suc, ◌<◌, Bool, true, false, not, ◌||◌, List, [], ◌∷◌, ◌++◌, length, get_or, take, drop, map, refl, sym, ap, ◌∙◌, arith}
-use Rattle.std.specs.Prelude.{Some}
-use Rattle.std.specs.List.{list_any, remove}
+use Rattle.std.proofs.Common.{◌≡◌, ℕ, zero, suc, ◌<◌, Bool, true, false, not, cond, ◌||◌, List, [], ◌∷◌, ◌++◌, length, get_or, take, drop, map, refl, sym, ap, ◌∙◌, arith}
+use Rattle.std.specs.Prelude.{Some, None, nat_lt}
+use Rattle.std.specs.List.{list_any, remove, position, position_or_len}
 use Rattle.std.specs.Cmp.Lexicographic.{bytes_decides}
 use Rattle.std.proofs.lemmas.Bool.{false_from_ne_true, or_left}
+use Rattle.std.proofs.lemmas.Bool.Decides.{nat_tests}
 use Rattle.std.proofs.lemmas.Cmp.{nat_list_eq_equiv}
 use Rattle.std.proofs.lemmas.List.Quantifiers.{position-Some}
 use Rattle.std.proofs.lemmas.List.Sums.{position_or_len_is}
@@ -18,7 +19,6 @@ use Rattle.cl_model.specs.ValidNames.{repeat_check, repeats}
 use Rattle.cl_model.proofs.NamePlaces.{known_stands, found_below, found_named, one_place}
 use Rattle.cl_edit.proofs.EachChecked.{each_more, each_same, none_of_each, when_false}
 use Rattle.cl_model.proofs.Removals.{stood_at}
-use Rattle.cl_edit.proofs.StepFacts.{place_is}
 
 -- names that are apart aren't refused
 pub apart_pass : (code : Code) (place : ℕ → Place) (names : List (List ℕ)) → AreDistinctNames names → repeats code place [] names ≡ []
@@ -29,6 +29,13 @@ apart_pass code place names apart =
 -- a name that is known is in a longer list
 pub known_longer : (name : List ℕ) (names others : List (List ℕ)) → has_name name names ≡ true → has_name name (names ++ others) ≡ true
 known_longer name names others known = list_any-append (same_name name) names others ∙ or_left _ _ known
+
+below : (a b : ℕ) → a < b → nat_lt a b ≡ true
+below a b h = grind (arith, nat_tests)
+
+-- the first place that passes is found
+place_is : {X : Type 0} (p : X → Bool) (xs : List X) (k : ℕ) → position_or_len p xs ≡ k → k < length xs → position p xs ≡ Some k
+place_is p xs k e h = ap (λ n. cond (nat_lt n (length xs)) (Some n) None) e ∙ ap (λ b. cond b (Some k) None) (below k (length xs) h)
 
 -- and is found at the same place there
 pub index_longer : (name : List ℕ) (names others : List (List ℕ)) (k : ℕ) → index_of name names ≡ Some k → index_of name (names ++ others) ≡ Some k

@@ -15,7 +15,8 @@ use Rattle.cl_model.specs.Name.{IsName}
 use Rattle.cl_edit.specs.declared.edit.Edit.{Edit}
 use Rattle.cl_edit.specs.declared.edit.Edit.TheVariants.{Range, Whole, Period, Offset, Jitter, Distances, Burst, Deadline, Swap, Move, Kind, AddTask, DropTask, AddChain, DropChain, Report}
 use Rattle.cl_model.specs.Changes.{no_stimulus_def, with_period, with_offset, with_jitter, with_distances, with_burst}
-use Rattle.cl_edit.specs.Edited.{with_edit, edited, task_number, chain_number}
+use Rattle.cl_edit.specs.Changing.{change_of, task_number, chain_number}
+use Rattle.cl_edit.specs.Edited.{with_edit, edited}
 use Rattle.cl_edit.specs.Reading.{IsEditNamed}
 use Rattle.cl_edit.proofs.EditedValid.{made_is}
 use Rattle.cl_edit.proofs.RangeFacts.{changed_all, removed_all}
@@ -62,7 +63,7 @@ other_priority priority t h = record { name = h.name; core = h.core; stimulus = 
 -- ---- edits
 
 edits_keep_names : (model : SystemModel) (edit : Edit) → AreNamed model → IsEditNamed edit → AreNamed (with_edit model edit)
-unfolding with_edit
+unfolding with_edit change_of
 edits_keep_names model (Range runnable least greatest) h good =
     other_task model (step_named model runnable).task _ (other_runnable (step_named model runnable).place (λ r. record r { least = least; greatest = greatest })
     (λ r k. record { name = k.name; reads = k.reads; writes = k.writes })) h

@@ -8,27 +8,25 @@ use Rattle.std.proofs.lemmas.List.Concat.{length-flat_map}
 use Rattle.std.proofs.lemmas.List.Sums.{sum_by_push}
 use Rattle.std.proofs.lemmas.List.Folds.{list_any-append}
 use Rattle.std.proofs.lemmas.Option.{slice_get_within, get_or_from_slice_get}
-use Rattle.cl_model.specs.declared.limits.TheConstants.{MOST_TASKS, MOST_RUNNABLES_OF_MODEL}
+use Rattle.cl_model.specs.declared.limits.TheConstants.{MOST_RUNNABLES_OF_MODEL}
 use Rattle.cl_model.specs.declared.model.SystemModel.{SystemModel}
 use Rattle.cl_model.specs.declared.place.Part.TheVariants as part
 use Rattle.cl_model.specs.declared.place.Key.TheVariants as key
 use Rattle.cl_model.specs.declared.place.Place.{Place}
-use Rattle.cl_model.specs.declared.refusal.Code.TheVariants.{M10, M41, M42}
+use Rattle.cl_model.specs.declared.refusal.Code.TheVariants.{M41, M42}
 use Rattle.cl_model.specs.declared.refusal.Refusal.{Refusal}
 use Rattle.cl_model.specs.declared.stimulus.StimulusKind.{StimulusKind}
 use Rattle.cl_model.specs.declared.task.TaskDef.{TaskDef}
 use Rattle.cl_model.specs.ByNumber.{no_stimulus, no_task, stimulus_of}
 use Rattle.cl_model.specs.Named.{same_name, is_some_and, core_names, label_names, kind_named, all_runnables, labels_written}
-use Rattle.cl_model.specs.Place.{section_place, entry_of}
-use Rattle.cl_model.specs.Refusals.{when, unless, in_order, each}
+use Rattle.cl_model.specs.Place.{entry_of}
+use Rattle.cl_model.specs.Refusals.{when, in_order, each}
 use Rattle.cl_model.specs.Timing.{deadline_under}
 use Rattle.cl_model.specs.ValidTasks.{task_key, body_checks, task_check, spans_too_many, is_outpaced_by, deadline_check}
 use Rattle.cl_model.specs.Validity.{IsValid}
 use Rattle.cl_model.proofs.NamesKnown.{stimulus_known}
 use Rattle.cl_model.proofs.ValidTasks.{few_runnables}
-use Rattle.cl_edit.specs.declared.edit.Edit.TheVariants.{AddTask}
 use Rattle.cl_model.specs.Changes.{with_new_task}
-use Rattle.cl_edit.specs.Edited.{edit_checks}
 use Rattle.cl_edit.specs.FewListChecks.{new_task_name_check, new_runnables_check, below_new_check, new_task_checks}
 use Rattle.cl_edit.specs.Inner.NewTasks.{added_naming_checks, added_checks, all_checks, outpaced_by, is_task_below}
 use Rattle.cl_edit.proofs.TaskAdded.{checks_among, checks_are, or_none}
@@ -125,15 +123,14 @@ deadline_asked model task i late place tasks i_is same asked here =
 
 -- ---- the whole task
 
-in_four : (a b c d e f : List Refusal) → a ++ ((b ++ c) ++ (d ++ ((e ++ f) ++ []))) ≡ a ++ (b ++ (c ++ (d ++ (e ++ (f ++ [])))))
-in_four a b c d e f = simp append_assoc
+in_three : (a b c d e : List Refusal) → (a ++ b) ++ (c ++ ((d ++ e) ++ [])) ≡ a ++ (b ++ (c ++ (d ++ (e ++ []))))
+in_three a b c d e = simp append_assoc
 
 pub all_is : (model : SystemModel) (others : List TaskDef) (kind : Option StimulusKind) (task : TaskDef) → others ≡ model.tasks → kind ≡ kind_named model task.stimulus
-    → all_checks model others kind task ≡ edit_checks model (AddTask task) ++ new_task_checks model task
-unfolding edit_checks
+    → all_checks model others kind task ≡ new_task_checks model task
 all_is model others kind task same is =
     ap (λ (os : List TaskDef). all_checks model os kind task) same ∙ ap (λ k. all_checks model model.tasks k task) is
-    ∙ in_four (unless (nat_lt (length model.tasks) MOST_TASKS) M10 (section_place part.Task)) (new_task_name_check model task) (new_runnables_check model task)
+    ∙ in_three (new_task_name_check model task) (new_runnables_check model task)
     (added_checks model (kind_named model task.stimulus) (length model.tasks) task) (each (below_new_check model task) model.tasks) (deadline_check (with_new_task model task) (length model.tasks) task)
-    ∙ ap (λ l. unless (nat_lt (length model.tasks) MOST_TASKS) M10 (section_place part.Task) ++ (new_task_name_check model task ++ (new_runnables_check model task
-    ++ (l ++ (each (below_new_check model task) model.tasks ++ (deadline_check (with_new_task model task) (length model.tasks) task ++ [])))))) (added_is model task)
+    ∙ ap (λ l. new_task_name_check model task ++ (new_runnables_check model task
+    ++ (l ++ (each (below_new_check model task) model.tasks ++ (deadline_check (with_new_task model task) (length model.tasks) task ++ []))))) (added_is model task)

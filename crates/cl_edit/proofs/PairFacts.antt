@@ -17,10 +17,10 @@ use Rattle.cl_model.specs.Validity.{IsValid}
 use Rattle.cl_model.proofs.NamePlaces.{own_entry, found_stands, stands_known}
 use Rattle.cl_model.proofs.NamesApart.{cores_apart}
 use Rattle.cl_model.proofs.NamesKnown.{core_known}
-use Rattle.cl_edit.specs.declared.pace.Change.{Change}
-use Rattle.cl_edit.specs.declared.pace.Change.TheVariants as change
+use Rattle.cl_edit.specs.declared.pace.Retiming.{Retiming}
+use Rattle.cl_edit.specs.declared.pace.Retiming.TheVariants as change
 use Rattle.cl_edit.specs.declared.pace.Pace.{Pace}
-use Rattle.cl_edit.specs.Inner.Paces.{with_change, IsChangeOf, is_on, is_touched, priority_after, kind_after, given_after, core_after, pace_after, pace_of, is_outpacing, IsPair, is_outpaced, noted, IsAtMost, IsOutpaced, HasSeen, HasOthers}
+use Rattle.cl_edit.specs.Inner.Paces.{with_retiming, IsRetimingOf, is_on, is_touched, priority_after, kind_after, given_after, core_after, pace_after, pace_of, is_outpacing, IsPair, is_outpaced, noted, IsAtMost, IsOutpaced, HasSeen, HasOthers}
 use Rattle.cl_edit.proofs.BareModels.{at_same}
 use Rattle.cl_edit.proofs.ChangedTasks.{set_at, kind_known, kind_after_change}
 use Rattle.cl_edit.proofs.OutpacedTasks.{IsKnown, pair_refused, refused_pair, no_pair}
@@ -32,7 +32,7 @@ of_cond : {X Y : Type 0} (f : X → Y) (b : Bool) (x y : X) → f (cond b x y) �
 of_cond f true x y = refl
 of_cond f false x y = refl
 
-pub tasks_kept : (model : SystemModel) (c : Change) → length (with_change model c).tasks ≡ length model.tasks
+pub tasks_kept : (model : SystemModel) (c : Retiming) → length (with_retiming model c).tasks ≡ length model.tasks
 tasks_kept model (change.Deadline task deadline) = length-set model.tasks task (record (task_at model task) { deadline = deadline })
 tasks_kept model (change.Kind stimulus kind) = refl
 tasks_kept model (change.Swap one other) =
@@ -50,14 +50,14 @@ swap_same f model one other same =
     ∙ map_set_same f model.tasks one (record (task_at model one) { priority = (task_at model other).priority }) no_task (same (task_at model one) (task_at model other).priority)
 
 module _ (model : SystemModel) (valid : IsValid model) (k : ℕ) (known : k < length model.tasks) where
-  within : (c : Change) → k < length (with_change model c).tasks
+  within : (c : Retiming) → k < length (with_retiming model c).tasks
   within c = omega (arith, known, tasks_kept model c)
 
   -- a part of a task that a change leaves
-  part_same : {Y : Type 0} (f : TaskDef → Y) (c : Change) → map f (with_change model c).tasks ≡ map f model.tasks → f (task_at (with_change model c) k) ≡ f (task_at model k)
-  part_same f c same = at_same f (with_change model c).tasks model.tasks k no_task same (within c)
+  part_same : {Y : Type 0} (f : TaskDef → Y) (c : Retiming) → map f (with_retiming model c).tasks ≡ map f model.tasks → f (task_at (with_retiming model c) k) ≡ f (task_at model k)
+  part_same f c same = at_same f (with_retiming model c).tasks model.tasks k no_task same (within c)
 
-  priority_is : (c : Change) → IsChangeOf model c → (task_at (with_change model c) k).priority ≡ priority_after model c k
+  priority_is : (c : Retiming) → IsRetimingOf model c → (task_at (with_retiming model c) k).priority ≡ priority_after model c k
   priority_is (change.Deadline task deadline) is =
       part_same (λ (t : TaskDef). t.priority) (change.Deadline task deadline) (map_set_same (λ (t : TaskDef). t.priority) model.tasks task (record (task_at model task) { deadline = deadline }) no_task refl)
   priority_is (change.Kind stimulus kind) is = refl
@@ -73,7 +73,7 @@ module _ (model : SystemModel) (valid : IsValid model) (k : ℕ) (known : k < le
       let moved : TaskDef = record (task_at model task) { core = (core_at model core).name; priority = priority } in
       ap (λ (t : TaskDef). t.priority) (set_at model.tasks task k moved no_task is.0) ∙ of_cond (λ (t : TaskDef). t.priority) (k == task) moved (task_at model k)
 
-  stimulus_same : (c : Change) → (task_at (with_change model c) k).stimulus ≡ (task_at model k).stimulus
+  stimulus_same : (c : Retiming) → (task_at (with_retiming model c) k).stimulus ≡ (task_at model k).stimulus
   stimulus_same (change.Deadline task deadline) =
       part_same (λ (t : TaskDef). t.stimulus) (change.Deadline task deadline) (map_set_same (λ (t : TaskDef). t.stimulus) model.tasks task (record (task_at model task) { deadline = deadline }) no_task refl)
   stimulus_same (change.Kind stimulus kind) = refl
@@ -82,13 +82,13 @@ module _ (model : SystemModel) (valid : IsValid model) (k : ℕ) (known : k < le
       part_same (λ (t : TaskDef). t.stimulus) (change.Move task core priority) (map_set_same (λ (t : TaskDef). t.stimulus) model.tasks task (record (task_at model task) { core = (core_at model core).name; priority = priority }) no_task refl)
 
   -- the kind of its stimulus is known after the change too
-  pub kind_is : (c : Change) → IsChangeOf model c → kind_named (with_change model c) (task_at (with_change model c) k).stimulus ≡ Some (kind_after model c k)
+  pub kind_is : (c : Retiming) → IsRetimingOf model c → kind_named (with_retiming model c) (task_at (with_retiming model c) k).stimulus ≡ Some (kind_after model c k)
   kind_is (change.Deadline task deadline) is = ap (kind_named model) (stimulus_same (change.Deadline task deadline)) ∙ kind_known model valid k known
   kind_is (change.Kind stimulus kind) is = kind_after_change model valid k known stimulus kind is
   kind_is (change.Swap one other) is = ap (kind_named model) (stimulus_same (change.Swap one other)) ∙ kind_known model valid k known
   kind_is (change.Move task core priority) is = ap (kind_named model) (stimulus_same (change.Move task core priority)) ∙ kind_known model valid k known
 
-  pub given_is : (c : Change) → IsChangeOf model c → (task_at (with_change model c) k).deadline ≡ given_after model c k
+  pub given_is : (c : Retiming) → IsRetimingOf model c → (task_at (with_retiming model c) k).deadline ≡ given_after model c k
   given_is (change.Deadline task deadline) is =
       let set_task : TaskDef = record (task_at model task) { deadline = deadline } in
       ap (λ (t : TaskDef). t.deadline) (set_at model.tasks task k set_task no_task is) ∙ of_cond (λ (t : TaskDef). t.deadline) (k == task) set_task (task_at model k)
@@ -97,8 +97,8 @@ module _ (model : SystemModel) (valid : IsValid model) (k : ℕ) (known : k < le
   given_is (change.Move task core priority) is =
       part_same (λ (t : TaskDef). t.deadline) (change.Move task core priority) (map_set_same (λ (t : TaskDef). t.deadline) model.tasks task (record (task_at model task) { core = (core_at model core).name; priority = priority }) no_task refl)
 
-  pub pace_is : (c : Change) → IsChangeOf model c → pace_of (with_change model c) k ≡ pace_after model c k
-  pace_is c is = paces (task_at (with_change model c) k).priority (priority_after model c k) (task_at (with_change model c) k).deadline (given_after model c k) _ (kind_after model c k)
+  pub pace_is : (c : Retiming) → IsRetimingOf model c → pace_of (with_retiming model c) k ≡ pace_after model c k
+  pace_is c is = paces (task_at (with_retiming model c) k).priority (priority_after model c k) (task_at (with_retiming model c) k).deadline (given_after model c k) _ (kind_after model c k)
       (priority_is c is) (given_is c is) (ap (λ o. unwrap_or o no_stimulus) (kind_is c is))
     where
       paces : (p p' : ℕ) (g g' : Option ℕ) (q q' : StimulusKind) → p ≡ p' → g ≡ g' → q ≡ q'
@@ -108,7 +108,7 @@ module _ (model : SystemModel) (valid : IsValid model) (k : ℕ) (known : k < le
   core_number_is : (core : ℕ) → core < length model.cores → index_of (core_at model core).name (core_names model) ≡ Some core
   core_number_is core lt = own_entry (λ (x : CoreDef). x.name) model.cores (cores_apart model valid) core no_core lt
 
-  core_named : (c : Change) → IsChangeOf model c → unwrap_or (index_of (task_at (with_change model c) k).core (core_names model)) 0 ≡ core_after model c k
+  core_named : (c : Retiming) → IsRetimingOf model c → unwrap_or (index_of (task_at (with_retiming model c) k).core (core_names model)) 0 ≡ core_after model c k
   core_named (change.Deadline task deadline) is =
       ap (λ name. unwrap_or (index_of name (core_names model)) 0)
       (part_same (λ (t : TaskDef). t.core) (change.Deadline task deadline) (map_set_same (λ (t : TaskDef). t.core) model.tasks task (record (task_at model task) { deadline = deadline }) no_task refl))
@@ -120,13 +120,13 @@ module _ (model : SystemModel) (valid : IsValid model) (k : ℕ) (known : k < le
       ∙ of_cond (λ (t : TaskDef). unwrap_or (index_of t.core (core_names model)) 0) (k == task) moved (task_at model k)
       ∙ ap (λ o. cond (k == task) (unwrap_or o 0) (core_of model k)) (core_number_is core is.1)
 
-  pub core_is : (c : Change) → IsChangeOf model c → core_of (with_change model c) k ≡ core_after model c k
+  pub core_is : (c : Retiming) → IsRetimingOf model c → core_of (with_retiming model c) k ≡ core_after model c k
   core_is (change.Deadline task deadline) is = core_named (change.Deadline task deadline) is
   core_is (change.Kind stimulus kind) is = refl
   core_is (change.Swap one other) is = core_named (change.Swap one other) is
   core_is (change.Move task core priority) is = core_named (change.Move task core priority) is
 
-  core_there : (c : Change) → IsChangeOf model c → has_name (task_at (with_change model c) k).core (core_names model) ≡ true
+  core_there : (c : Retiming) → IsRetimingOf model c → has_name (task_at (with_retiming model c) k).core (core_names model) ≡ true
   core_there (change.Deadline task deadline) is =
       ap (λ name. has_name name (core_names model))
       (part_same (λ (t : TaskDef). t.core) (change.Deadline task deadline) (map_set_same (λ (t : TaskDef). t.core) model.tasks task (record (task_at model task) { deadline = deadline }) no_task refl))
@@ -142,14 +142,14 @@ module _ (model : SystemModel) (valid : IsValid model) (k : ℕ) (known : k < le
       ap (λ (t : TaskDef). has_name t.core (core_names model)) (set_at model.tasks task k moved no_task is.0)
       ∙ cond_both (k == task) moved (task_at model k) (λ (t : TaskDef). has_name t.core (core_names model) ≡ true) (λ _. target) (λ _. core_known model valid k no_task known)
 
-  pub core_there_after : (c : Change) → IsChangeOf model c → has_name (task_at (with_change model c) k).core (core_names (with_change model c)) ≡ true
+  pub core_there_after : (c : Retiming) → IsRetimingOf model c → has_name (task_at (with_retiming model c) k).core (core_names (with_retiming model c)) ≡ true
   core_there_after (change.Deadline task deadline) is = core_there (change.Deadline task deadline) is
   core_there_after (change.Kind stimulus kind) is = core_there (change.Kind stimulus kind) is
   core_there_after (change.Swap one other) is = core_there (change.Swap one other) is
   core_there_after (change.Move task core priority) is = core_there (change.Move task core priority) is
 
   -- a task that a change doesn't touch
-  pub pace_stays : (c : Change) → is_touched model c k ≡ false → pace_after model c k ≡ pace_of model k
+  pub pace_stays : (c : Retiming) → is_touched model c k ≡ false → pace_after model c k ≡ pace_of model k
   pace_stays (change.Deadline task deadline) untouched = rw untouched refl
   pace_stays (change.Kind stimulus kind) untouched = rw untouched refl
   pace_stays (change.Swap one other) untouched = let parts = neither (k == one) (k == other) untouched in rw (parts.0, parts.1) refl
@@ -159,13 +159,13 @@ module _ (model : SystemModel) (valid : IsValid model) (k : ℕ) (known : k < le
       neither true b h = absurd cc
   pace_stays (change.Move task core priority) untouched = rw untouched refl
 
-  pub core_stays : (c : Change) → is_touched model c k ≡ false → core_after model c k ≡ core_of model k
+  pub core_stays : (c : Retiming) → is_touched model c k ≡ false → core_after model c k ≡ core_of model k
   core_stays (change.Deadline task deadline) untouched = refl
   core_stays (change.Kind stimulus kind) untouched = refl
   core_stays (change.Swap one other) untouched = refl
   core_stays (change.Move task core priority) untouched = rw untouched refl
 
-pub change_known : (model : SystemModel) → IsValid model → (c : Change) → IsChangeOf model c → IsKnown (with_change model c)
+pub change_known : (model : SystemModel) → IsValid model → (c : Retiming) → IsRetimingOf model c → IsKnown (with_retiming model c)
 change_known model valid c is = record {
   cores = λ k lt. core_there_after model valid k (omega (arith, lt, tasks_kept model c)) c is;
   stimuli = λ k lt. ap is_some (kind_is model valid k (omega (arith, lt, tasks_kept model c)) c is);
@@ -267,9 +267,9 @@ listed model core j lt same =
 -- ---- all pairs
 
 -- of a pair a change touches one
-pub pair_touched : (model : SystemModel) → IsValid model → (c : Change) → IsChangeOf model c → (k j : ℕ) → IsPair (with_change model c) k j → (is_touched model c k || is_touched model c j) ≡ true
+pub pair_touched : (model : SystemModel) → IsValid model → (c : Retiming) → IsRetimingOf model c → (k j : ℕ) → IsPair (with_retiming model c) k j → (is_touched model c k || is_touched model c j) ≡ true
 pair_touched model valid c is k j pair =
-    let new = with_change model c in
+    let new = with_retiming model c in
     let hk : k < length model.tasks = omega (arith, pair.below, tasks_kept model c) in
     let hj : j < length model.tasks = omega (arith, pair.above, tasks_kept model c) in
     elim (is_touched model c k) as (λ b. is_touched model c k ≡ b → (b || is_touched model c j) ≡ true) [
@@ -287,11 +287,11 @@ pair_touched model valid c is k j pair =
     ] refl
 
 -- where all pairs of the tasks that a change touches are seen, the first is the first of all
-pub least_of_all : (model : SystemModel) → IsValid model → (c : Change) → IsChangeOf model c → (first : Option ℕ)
-    → ((t j : ℕ) → t < length model.tasks → is_touched model c t ≡ true → HasSeen (with_change model c) first t j)
-    → (k : ℕ) → k < length (with_change model c).tasks → is_outpaced (with_change model c) k ≡ true → IsAtMost first k
+pub least_of_all : (model : SystemModel) → IsValid model → (c : Retiming) → IsRetimingOf model c → (first : Option ℕ)
+    → ((t j : ℕ) → t < length model.tasks → is_touched model c t ≡ true → HasSeen (with_retiming model c) first t j)
+    → (k : ℕ) → k < length (with_retiming model c).tasks → is_outpaced (with_retiming model c) k ≡ true → IsAtMost first k
 least_of_all model valid c is first seen k lt outpaced =
-    let (j, pair) = refused_pair (with_change model c) (change_known model valid c is) k lt outpaced in
+    let (j, pair) = refused_pair (with_retiming model c) (change_known model valid c is) k lt outpaced in
     elim (is_touched model c k) as (λ b. is_touched model c k ≡ b → (b || is_touched model c j) ≡ true → IsAtMost first k) [
       | true ↦ λ e _. (seen k j (omega (arith, pair.below, tasks_kept model c)) e).below pair
       | false ↦ λ e f. (seen j k (omega (arith, pair.above, tasks_kept model c)) f).above pair
@@ -300,12 +300,12 @@ least_of_all model valid c is first seen k lt outpaced =
 -- ---- the steps of the search
 
 -- one more pair
-pub of_pair : (model : SystemModel) → IsValid model → (c : Change) → IsChangeOf model c → (first mid last : Option ℕ) (task other : ℕ) (own its : Pace) (below above : Bool)
+pub of_pair : (model : SystemModel) → IsValid model → (c : Retiming) → IsRetimingOf model c → (first mid last : Option ℕ) (task other : ℕ) (own its : Pace) (below above : Bool)
     → task < length model.tasks → other < length model.tasks → own ≡ pace_after model c task → its ≡ pace_after model c other → below ≡ is_outpacing own its → mid ≡ noted first below task
-    → above ≡ is_outpacing its own → last ≡ noted mid above other → core_of (with_change model c) task ≡ core_of (with_change model c) other → IsOutpaced (with_change model c) first
-    → PairNoted (with_change model c) first last task other
+    → above ≡ is_outpacing its own → last ≡ noted mid above other → core_of (with_retiming model c) task ≡ core_of (with_retiming model c) other → IsOutpaced (with_retiming model c) first
+    → PairNoted (with_retiming model c) first last task other
 of_pair model valid c is first mid last task other own its below above ht ho own_is its_is below_is mid_is above_is last_is core sound =
-    let new = with_change model c in
+    let new = with_retiming model c in
     let p : own ≡ pace_of new task = own_is ∙ sym (pace_is model valid task ht c is) in
     let q : its ≡ pace_of new other = its_is ∙ sym (pace_is model valid other ho c is) in
     let e : last ≡ noted (noted first (is_outpacing (pace_of new task) (pace_of new other)) task) (is_outpacing (pace_of new other) (pace_of new task)) other
@@ -334,26 +334,26 @@ beside_more model start first last others task n other so_far lt at sound kept s
 }
 
 -- another task of the list
-pub other_core : (model : SystemModel) → IsValid model → (c : Change) → IsChangeOf model c → (core task other n : ℕ) (others : List ℕ) → others ≡ tasks_of_core model core → HasOthers model c task core
+pub other_core : (model : SystemModel) → IsValid model → (c : Retiming) → IsRetimingOf model c → (core task other n : ℕ) (others : List ℕ) → others ≡ tasks_of_core model core → HasOthers model c task core
     → core_after model c task ≡ core → task < length model.tasks → other < length model.tasks → n < length others → other ≡ get_or others n 0
-    → core_of (with_change model c) task ≡ core_of (with_change model c) other
+    → core_of (with_retiming model c) task ≡ core_of (with_retiming model c) other
 other_core model valid c is core task other n others list has own ht ho lt at =
     let e : other ≡ get_or (tasks_of_core model core) n 0 = at ∙ ap (λ l. get_or l n 0) list in
     let h : n < length (tasks_of_core model core) = subst (λ (l : List ℕ). n < length l) list lt in
     core_is model valid task ht c is ∙ own ∙ sym (has.0 other ho (ap (core_of model) e ∙ on_core model core n h)) ∙ sym (core_is model valid other ho c is)
 
 -- all others
-pub beside_all : (model : SystemModel) → IsValid model → (c : Change) → IsChangeOf model c → (core task n : ℕ) (start first : Option ℕ) (others : List ℕ) → others ≡ tasks_of_core model core → HasOthers model c task core
-    → core_after model c task ≡ core → task < length model.tasks → length others ≤ n → BesideSeen (with_change model c) start first others task n → (j : ℕ) → HasSeen (with_change model c) first task j
+pub beside_all : (model : SystemModel) → IsValid model → (c : Retiming) → IsRetimingOf model c → (core task n : ℕ) (start first : Option ℕ) (others : List ℕ) → others ≡ tasks_of_core model core → HasOthers model c task core
+    → core_after model c task ≡ core → task < length model.tasks → length others ≤ n → BesideSeen (with_retiming model c) start first others task n → (j : ℕ) → HasSeen (with_retiming model c) first task j
 beside_all model valid c is core task n start first others list has own ht end all j = record {
   below = λ pair. (found j (omega (arith, pair.above, tasks_kept model c)) (sym (core_is model valid j (omega (arith, pair.above, tasks_kept model c)) c is) ∙ sym pair.core ∙ core_is model valid task ht c is ∙ own) (λ same. not_itself new task j same pair)).below pair;
   above = λ pair. (found j (omega (arith, pair.below, tasks_kept model c)) (sym (core_is model valid j (omega (arith, pair.below, tasks_kept model c)) c is) ∙ pair.core ∙ core_is model valid task ht c is ∙ own) (λ same. not_itself new j task (sym same) pair)).above pair;
 }
   where
     new : SystemModel
-    new = with_change model c
+    new = with_retiming model c
 
-    found : (j : ℕ) → j < length model.tasks → core_after model c j ≡ core → (j ≡ task → ⊥) → HasSeen (with_change model c) first task j
+    found : (j : ℕ) → j < length model.tasks → core_after model c j ≡ core → (j ≡ task → ⊥) → HasSeen (with_retiming model c) first task j
     found j lt at apart =
         elim (has.1 j lt at) [
           | inl same ↦ absurd (apart same)
@@ -361,7 +361,7 @@ beside_all model valid c is core task n start first others list has own ht end a
               let (m, m_lt, is) = listed model core j lt on in
               let e : get_or others m 0 ≡ j = ap (λ l. get_or l m 0) list ∙ is in
               let h : m < length others = subst (λ (l : List ℕ). m < length l) (sym list) m_lt in
-              subst (λ o. HasSeen (with_change model c) first task o) e (all.seen m (omega (arith, h, end)))
+              subst (λ o. HasSeen (with_retiming model c) first task o) e (all.seen m (omega (arith, h, end)))
         ]
 
 -- the pairs of the first n tasks that name a stimulus
@@ -391,40 +391,40 @@ on_past model new first s n so_far away = record {
 -- ---- the tasks that a change touches
 
 -- the first is at most each task that is outpaced after a change
-abbrev pub IsLeast : SystemModel → Change → Option ℕ → Type 0
-IsLeast model c first = (k : ℕ) → k < length (with_change model c).tasks → is_outpaced (with_change model c) k ≡ true → IsAtMost first k
+abbrev pub IsLeast : SystemModel → Retiming → Option ℕ → Type 0
+IsLeast model c first = (k : ℕ) → k < length (with_retiming model c).tasks → is_outpaced (with_retiming model c) k ≡ true → IsAtMost first k
 
 module _ (model : SystemModel) (valid : IsValid model) (first : Option ℕ) where
   -- one task
   one_touched : (new : SystemModel) (task : ℕ) → ((j : ℕ) → HasSeen new first task j) → (t j : ℕ) → (t == task) ≡ true → HasSeen new first t j
   one_touched new task seen t j e = subst (λ i. HasSeen new first i j) (sym (eqb-true t task e)) (seen j)
 
-  of_variant : (c d : Change) → c ≡ d → IsChangeOf model c → (IsChangeOf model d → IsLeast model d first) → IsLeast model c first
-  of_variant c d same is least = subst (λ x. IsLeast model x first) (sym same) (least (subst (λ x. IsChangeOf model x) same is))
+  of_variant : (c d : Retiming) → c ≡ d → IsRetimingOf model c → (IsRetimingOf model d → IsLeast model d first) → IsLeast model c first
+  of_variant c d same is least = subst (λ x. IsLeast model x first) (sym same) (least (subst (λ x. IsRetimingOf model x) same is))
 
-  pub least_of_deadline : (c : Change) (task : ℕ) (deadline : Option ℕ) → c ≡ change.Deadline task deadline → IsChangeOf model c
-      → ((j : ℕ) → HasSeen (with_change model (change.Deadline task deadline)) first task j) → IsLeast model c first
+  pub least_of_deadline : (c : Retiming) (task : ℕ) (deadline : Option ℕ) → c ≡ change.Deadline task deadline → IsRetimingOf model c
+      → ((j : ℕ) → HasSeen (with_retiming model (change.Deadline task deadline)) first task j) → IsLeast model c first
   least_of_deadline c task deadline same is seen =
       let d = change.Deadline task deadline in
-      of_variant c d same is (λ is_d. least_of_all model valid d is_d first (λ t j lt touched. one_touched (with_change model d) task seen t j touched))
+      of_variant c d same is (λ is_d. least_of_all model valid d is_d first (λ t j lt touched. one_touched (with_retiming model d) task seen t j touched))
 
-  pub least_of_kind : (c : Change) (stimulus : ℕ) (kind : StimulusKind) → c ≡ change.Kind stimulus kind → IsChangeOf model c
-      → ((t j : ℕ) → t < length model.tasks → is_on model stimulus t ≡ true → HasSeen (with_change model (change.Kind stimulus kind)) first t j) → IsLeast model c first
+  pub least_of_kind : (c : Retiming) (stimulus : ℕ) (kind : StimulusKind) → c ≡ change.Kind stimulus kind → IsRetimingOf model c
+      → ((t j : ℕ) → t < length model.tasks → is_on model stimulus t ≡ true → HasSeen (with_retiming model (change.Kind stimulus kind)) first t j) → IsLeast model c first
   least_of_kind c stimulus kind same is seen = of_variant c (change.Kind stimulus kind) same is (λ is_d. least_of_all model valid (change.Kind stimulus kind) is_d first seen)
 
-  pub least_of_swap : (c : Change) (one other : ℕ) → c ≡ change.Swap one other → IsChangeOf model c → ((j : ℕ) → HasSeen (with_change model (change.Swap one other)) first one j)
-      → ((j : ℕ) → HasSeen (with_change model (change.Swap one other)) first other j) → IsLeast model c first
+  pub least_of_swap : (c : Retiming) (one other : ℕ) → c ≡ change.Swap one other → IsRetimingOf model c → ((j : ℕ) → HasSeen (with_retiming model (change.Swap one other)) first one j)
+      → ((j : ℕ) → HasSeen (with_retiming model (change.Swap one other)) first other j) → IsLeast model c first
   least_of_swap c one other same is seen_one seen_other =
       let d = change.Swap one other in
-      let new = with_change model d in
+      let new = with_retiming model d in
       of_variant c d same is (λ is_d. least_of_all model valid d is_d first
       (λ t j lt touched. elim (t == one) as (λ b. (t == one) ≡ b → (b || (t == other)) ≡ true → HasSeen new first t j) [
         | true ↦ λ e _. one_touched new one seen_one t j e
         | false ↦ λ e also. one_touched new other seen_other t j also
       ] refl touched))
 
-  pub least_of_move : (c : Change) (task core priority : ℕ) → c ≡ change.Move task core priority → IsChangeOf model c
-      → ((j : ℕ) → HasSeen (with_change model (change.Move task core priority)) first task j) → IsLeast model c first
+  pub least_of_move : (c : Retiming) (task core priority : ℕ) → c ≡ change.Move task core priority → IsRetimingOf model c
+      → ((j : ℕ) → HasSeen (with_retiming model (change.Move task core priority)) first task j) → IsLeast model c first
   least_of_move c task core priority same is seen =
       let d = change.Move task core priority in
-      of_variant c d same is (λ is_d. least_of_all model valid d is_d first (λ t j lt touched. one_touched (with_change model d) task seen t j touched))
+      of_variant c d same is (λ is_d. least_of_all model valid d is_d first (λ t j lt touched. one_touched (with_retiming model d) task seen t j touched))

@@ -24,7 +24,8 @@ use Rattle.cl_edit.specs.declared.edit.Edit.{Edit}
 use Rattle.cl_edit.specs.declared.edit.Edit.TheVariants.{Range, Whole, Period, Offset, Jitter, Distances, Burst, Deadline, Swap, Move, Kind, AddTask, DropTask, AddChain, DropChain, Report}
 use Rattle.cl_edit.specs.Ranges.{IsEditInRange}
 use Rattle.cl_model.specs.Changes.{no_stimulus_def, with_period, with_offset, with_jitter, with_distances, with_burst}
-use Rattle.cl_edit.specs.Edited.{edit_checks, with_edit, task_number, chain_number}
+use Rattle.cl_edit.specs.Changing.{change_of, task_number, chain_number}
+use Rattle.cl_edit.specs.Edited.{edit_checks, with_edit}
 
 -- ---- lists
 
@@ -143,7 +144,7 @@ burst_kept period count distance p n d (pattern.Burst _ offset _ _) h = (p, h.1,
 
 -- an edit in range that passes the first checks keeps a model in range
 pub edits_keep_range : (model : SystemModel) (edit : Edit) → IsInRange model → IsEditInRange edit → edit_checks model edit ≡ [] → IsInRange (with_edit model edit)
-unfolding with_edit edit_checks
+unfolding with_edit change_of edit_checks
 edits_keep_range model (Range runnable least greatest) h good e =
     task_in_range model (step_named model runnable).task _ (runnable_in_range (step_named model runnable).place (λ r. record r { least = least; greatest = greatest })
     (λ r k. record { least = good.0; greatest = good.1; reads = k.reads; writes = k.writes })) h

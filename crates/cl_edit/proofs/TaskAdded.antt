@@ -29,9 +29,7 @@ use Rattle.cl_model.proofs.NamesApart.{tasks_apart, runnables_pass}
 use Rattle.cl_model.proofs.NoRefusals.{all_none, none_in_order}
 use Rattle.cl_model.proofs.PassedChecks.{stimuli_pass, tasks_pass, deadlines_pass, chains_pass, requirements_pass}
 use Rattle.cl_model.proofs.Refused.{when_none, unless_none, each_none}
-use Rattle.cl_edit.specs.declared.edit.Edit.TheVariants.{AddTask}
 use Rattle.cl_model.specs.Changes.{with_new_task}
-use Rattle.cl_edit.specs.Edited.{with_edit}
 use Rattle.cl_edit.specs.FewListChecks.{new_task_name_check, new_runnables_check, below_new_check, new_task_checks}
 use Rattle.cl_edit.proofs.CheckParts.{name_parts, task_names_left, names_tasks_deadlines_left, chain_lists}
 use Rattle.cl_edit.proofs.EachChecked.{each_more, each_same, each_moves, unless_true}
@@ -186,8 +184,8 @@ module _ (model : SystemModel) (valid : IsValid model) (task : TaskDef) where
   unfolding stimulus_checks
   stimuli_none = stimuli_pass model valid
 
-  refused : refusals_of changed ≡ new_task_checks model task
-  refused =
+  pub new_task_refused : refusals_of changed ≡ new_task_checks model task
+  new_task_refused =
       let parts = name_parts model valid in
       names_tasks_deadlines_left changed stimuli_none (each_moves (chain_check model) (chain_check changed) model.chains chain_stays (chains_pass model valid)) (requirements_pass model valid)
       ∙ ap (λ l. l ++ (task_checks changed ++ deadline_checks changed)) (task_names_left changed parts.0 parts.1.0 parts.1.1.0 parts.1.1.1.1.1.0 parts.1.1.1.1.1.1.0)
@@ -196,7 +194,3 @@ module _ (model : SystemModel) (valid : IsValid model) (task : TaskDef) where
       ∙ ap (λ l. (new_task_name_check model task ++ new_runnables_check model task) ++ (l ++ deadline_checks changed)) tasks_new
       ∙ ap (λ l. (new_task_name_check model task ++ new_runnables_check model task) ++ (task_check changed (length model.tasks) task ++ l)) deadlines_new
       ∙ five (new_task_name_check model task) (new_runnables_check model task) (task_check changed (length model.tasks) task) (each (below_new_check model task) model.tasks) (deadline_check changed (length model.tasks) task)
-
-  pub new_task_refused : refusals_of (with_edit model (AddTask task)) ≡ new_task_checks model task
-  unfolding with_edit
-  new_task_refused = refused

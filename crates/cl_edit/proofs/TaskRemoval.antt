@@ -14,7 +14,7 @@ use Rattle.cl_model.specs.declared.place.Key.TheVariants as key
 use Rattle.cl_model.specs.declared.refusal.Code.TheVariants.{M23, M24, M31, M34, M37, M38, M39, M40, M41, M42}
 use Rattle.cl_model.specs.declared.task.RunnableDef.{RunnableDef}
 use Rattle.cl_model.specs.declared.task.TaskDef.{TaskDef}
-use Rattle.cl_model.specs.ByNumber.{no_task, task_at}
+use Rattle.cl_model.specs.ByNumber.{no_task}
 use Rattle.cl_model.specs.Named.{same_name, has_name, core_names, label_names, task_names, kind_named, runnable_names, tasks_on, all_runnables, labels_written}
 use Rattle.cl_model.specs.Place.{entry_of, at_key, at_sub, at_spot}
 use Rattle.cl_model.specs.Refusals.{each}
@@ -22,16 +22,13 @@ use Rattle.cl_model.specs.ValidNames.{section_repeats, repeat_check, runnable_re
 use Rattle.cl_model.specs.ValidTasks.{core_check, stimulus_check, priority_check, late_check, release_check, room_check, empty_check, naming_checks, label_check, writer_check, times_check, reads_check}
 use Rattle.cl_model.specs.ValidTasks.{writes_check, twice_check, contest_check, runnable_checks, body_check, body_checks, count_check, task_check, task_checks, is_outpaced_by, deadline_check, deadline_checks}
 use Rattle.cl_model.specs.Validity.{IsValid, refusals_of}
-use Rattle.cl_model.proofs.NamePlaces.{found_below, known_place}
 use Rattle.cl_model.proofs.NamesApart.{tasks_apart, runnables_pass}
 use Rattle.cl_model.proofs.NoRefusals.{all_none, none_in_order}
 use Rattle.cl_model.proofs.PassedChecks.{stimuli_pass, tasks_pass, deadlines_pass, requirements_pass}
-use Rattle.cl_model.proofs.Refused.{unless_none, each_none}
+use Rattle.cl_model.proofs.Refused.{each_none}
 use Rattle.cl_model.proofs.ValidTasks.{few_runnables}
-use Rattle.cl_edit.specs.declared.edit.Edit.TheVariants.{DropTask}
 use Rattle.cl_model.specs.Changes.{without_task}
-use Rattle.cl_edit.specs.Edited.{task_number, edit_checks, with_edit}
-use Rattle.cl_edit.specs.FewListChecks.{kept_steps_check, dropped_task_checks}
+use Rattle.cl_edit.specs.FewListChecks.{dropped_task_checks}
 use Rattle.cl_edit.proofs.CheckParts.{name_parts, none_of_names, chains_left}
 use Rattle.cl_edit.proofs.EachChecked.{none_of_each, each_moves, when_moves, unless_moves, when_false, when_fewer}
 use Rattle.cl_edit.proofs.NameChecks.{apart_pass, map-remove}
@@ -231,12 +228,5 @@ module _ (model : SystemModel) (valid : IsValid model) (t : ℕ) (known : t < le
       let parts = name_parts model valid in
       none_of_names left parts.0 parts.1.0 parts.1.1.0 names_apart runnables_none parts.1.1.1.1.1.0 parts.1.1.1.1.1.1.0
 
-  refused : refusals_of left ≡ each (kept_steps_check (task_at model t)) model.chains
-  refused = chains_left left names_none stimuli_none tasks_none deadlines_none (requirements_pass model valid) ∙ chains_without model valid t known
-
-pub dropped_task_refused : (model : SystemModel) (name : List ℕ) → IsValid model → edit_checks model (DropTask name) ≡ []
-    → refusals_of (with_edit model (DropTask name)) ≡ dropped_task_checks model name
-unfolding edit_checks with_edit
-dropped_task_refused model name valid none =
-    let found = known_place name (task_names model) (unless_none _ _ _ none) in
-    refused model valid (task_number model name) (omega (arith, found_below name (task_names model) (task_number model name) found, length-map model.tasks (λ (task : TaskDef). task.name)))
+  pub dropped_task_refused : refusals_of left ≡ dropped_task_checks model t
+  dropped_task_refused = chains_left left names_none stimuli_none tasks_none deadlines_none (requirements_pass model valid) ∙ chains_without model valid t known

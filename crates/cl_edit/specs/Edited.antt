@@ -1,5 +1,5 @@
 -- What an edit makes of a model: the changed model, or the first refusal.
-use Rattle.std.specs.Prelude.{ℕ, Bool, true, false, nat_lt, List, [], ◌∷◌, ◌++◌, length, Option, Some, None, Result, Ok, Err, unwrap_or}
+use Rattle.std.specs.Prelude.{Bool, true, false, nat_lt, List, [], ◌∷◌, ◌++◌, length, Option, Some, None, Result, Ok, Err, ℕ}
 use Rattle.cl_model.specs.declared.limits.TheConstants.{MOST_TASKS, MOST_CHAINS}
 use Rattle.cl_model.specs.declared.place.Part.TheVariants as part
 use Rattle.cl_model.specs.declared.refusal.Code.TheVariants.{M10, E2, E3}
@@ -8,15 +8,13 @@ use Rattle.cl_model.specs.declared.model.SystemModel.{SystemModel}
 use Rattle.cl_model.specs.declared.stimulus.StimulusKind.{StimulusKind}
 use Rattle.cl_model.specs.declared.stimulus.StimulusKind.TheVariants as pattern
 use Rattle.cl_model.specs.Named.{has_name, task_names, chain_names, runnable_names, all_runnables, kind_named}
-use Rattle.cl_model.specs.ByNumber.{stimulus_number, task_named, chain_named}
-use Rattle.cl_model.specs.Groups.{step_named}
 use Rattle.cl_model.specs.Place.{top, section_place}
 use Rattle.cl_model.specs.Refusals.{refuse, unless, answer}
 use Rattle.cl_model.specs.Validity.{refusals_of}
 use Rattle.cl_model.specs.Kinds.{is_periodic}
 use Rattle.cl_edit.specs.declared.edit.Edit.{Edit}
 use Rattle.cl_edit.specs.declared.edit.Edit.TheVariants.{Range, Whole, Period, Offset, Jitter, Distances, Burst, Deadline, Swap, Move, Kind, AddTask, DropTask, AddChain, DropChain, Report}
-use Rattle.cl_model.specs.Changes.{with_range, with_whole, with_kind, with_period, with_offset, with_jitter, with_distances, with_burst, with_deadline, with_swap, with_place, with_access, with_new_task, without_task, with_new_chain, without_chain}
+use Rattle.cl_edit.specs.Changing.{with_change, change_of}
 
 -- ---- what an edit looks up
 
@@ -69,31 +67,9 @@ edit_checks model Report = []
 
 -- ---- the change
 
--- the number of the task, the chain of that name: 0 where there is none
-abbrev pub task_number : SystemModel → List ℕ → ℕ
-task_number model name = unwrap_or (task_named model name) 0
-
-abbrev pub chain_number : SystemModel → List ℕ → ℕ
-chain_number model name = unwrap_or (chain_named model name) 0
-
--- the model with the change of an edit that passes the first checks
+-- the model with the change that an edit is which passes the first checks
 unfoldable pub with_edit : SystemModel → Edit → SystemModel
-with_edit model (Range runnable least greatest) = with_range model (step_named model runnable) least greatest
-with_edit model (Whole runnable whole) = with_whole model (step_named model runnable) whole
-with_edit model (Period stimulus period) = with_kind model (stimulus_number model stimulus) (with_period period)
-with_edit model (Offset stimulus offset) = with_kind model (stimulus_number model stimulus) (with_offset offset)
-with_edit model (Jitter stimulus jitter) = with_kind model (stimulus_number model stimulus) (with_jitter jitter)
-with_edit model (Distances stimulus least greatest) = with_kind model (stimulus_number model stimulus) (with_distances least greatest)
-with_edit model (Burst stimulus period count distance) = with_kind model (stimulus_number model stimulus) (with_burst period count distance)
-with_edit model (Deadline task deadline) = with_deadline model (task_number model task) deadline
-with_edit model (Swap one other) = with_swap model (task_number model one) (task_number model other)
-with_edit model (Move task core priority) = with_place model (task_number model task) core priority
-with_edit model (Kind task access) = with_access model (task_number model task) access
-with_edit model (AddTask task) = with_new_task model task
-with_edit model (DropTask task) = without_task model (task_number model task)
-with_edit model (AddChain chain) = with_new_chain model chain
-with_edit model (DropChain chain) = without_chain model (chain_number model chain)
-with_edit model Report = model
+with_edit model edit = with_change model (change_of model edit)
 
 -- ---- the edited model
 

@@ -10,7 +10,7 @@ use Rattle.cl_model.specs.declared.place.Key.TheVariants as key
 use Rattle.cl_model.specs.declared.refusal.Code.TheVariants.{M23, M24, M25, M42, M44, M46}
 use Rattle.cl_model.specs.declared.refusal.Refusal.{Refusal}
 use Rattle.cl_model.specs.declared.task.TaskDef.{TaskDef}
-use Rattle.cl_model.specs.ByNumber.{task_at}
+use Rattle.cl_model.specs.ByNumber.{task_at, chain_at}
 use Rattle.cl_model.specs.Named.{same_name, has_name, task_names, chain_names, runnable_names, all_runnables}
 use Rattle.cl_model.specs.Place.{entry_of, at_key, at_sub, at_spot}
 use Rattle.cl_model.specs.Refusals.{when, in_order, each}
@@ -18,7 +18,6 @@ use Rattle.cl_model.specs.ValidNames.{repeats}
 use Rattle.cl_model.specs.ValidTasks.{task_key, task_check, is_outpaced_by, deadline_check}
 use Rattle.cl_model.specs.Validity.{chain_check}
 use Rattle.cl_model.specs.Changes.{with_new_task}
-use Rattle.cl_edit.specs.Edited.{task_number}
 
 -- ---- a new task, which gets the next number
 
@@ -56,8 +55,8 @@ abbrev pub kept_steps_check : TaskDef → ℕ → ChainDef → List Refusal
 kept_steps_check dropped c chain = each (kept_step_check dropped (at_key key.Runnables (entry_of part.Chain c))) chain.runnables
 
 -- M44, for each chain
-abbrev pub dropped_task_checks : SystemModel → List ℕ → List Refusal
-dropped_task_checks model task = each (kept_steps_check (task_at model (task_number model task))) model.chains
+abbrev pub dropped_task_checks : SystemModel → (task : ℕ) → List Refusal
+dropped_task_checks model task = each (kept_steps_check (task_at model task)) model.chains
 
 -- ---- chains
 
@@ -78,5 +77,5 @@ abbrev pub kept_chain_check : List ℕ → ℕ → RequirementDef → List Refus
 kept_chain_check chain i requirement = when (same_name chain requirement.chain) M46 (at_key key.Chain (entry_of part.Requirement i))
 
 -- M46, for each requirement
-abbrev pub dropped_chain_checks : SystemModel → List ℕ → List Refusal
-dropped_chain_checks model chain = each (kept_chain_check chain) model.requirements
+abbrev pub dropped_chain_checks : SystemModel → (chain : ℕ) → List Refusal
+dropped_chain_checks model chain = each (kept_chain_check (chain_at model chain).name) model.requirements

@@ -1,5 +1,4 @@
 -- What only private clauses cite: a reader of the public contracts needs none of it.
-pub mod Steps
 pub mod Kinds
 pub mod Paces
 pub mod Clashes

@@ -1,4 +1,5 @@
 pub mod Ranges
+pub mod Changing
 pub mod Edited
 pub mod FewListChecks
 pub mod Lines

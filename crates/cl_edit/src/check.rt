@@ -1,61 +1,65 @@
 //! Whether an edit may be applied to a valid model, checked before any change.
-ghost use Rattle.std.specs.Prelude.{◌++◌};
-ghost use Rattle.cl_model.specs.Answers.{Passes};
-ghost use Rattle.cl_model.specs.Validity.{refusals_of};
+ghost use Rattle.std.specs.Prelude.{◌++◌, IfOk};
+ghost use Rattle.cl_model.specs.Answers.{Answers, Passes};
+ghost use Rattle.cl_model.specs.Validity.{IsValid, refusals_of};
+ghost use Rattle.cl_edit.specs.Changing.{with_change, IsChangeOf, MayBeMade, change_of};
 ghost use Rattle.cl_edit.specs.Edited.{edit_checks, with_edit};
 ghost use Rattle.cl_edit.specs.Ranges.{IsEditInRange};
 
+use crate::change::Change;
 use crate::check_lists::{check_dropped_chain, check_dropped_task, check_new_chain};
 use crate::check_move::check_move;
 use crate::check_new_task::check_new_task;
-use crate::check_sets::{
-    check_access, check_deadline, check_range, check_stimulus, check_swap, check_whole,
-};
+use crate::check_sets::{check_deadline, check_kind, check_range};
+use crate::clash::check_swapped;
 use crate::edit::Edit;
+use crate::resolve::change_of;
 use cl_model::{ModelFault, ValidModel};
 use std::alloc::Global;
 
-/// Accepts a report, since every valid model may be reported on.
-fn check_nothing(model: &ValidModel) -> Result<(), ModelFault>
-    ensures { Passes result (refusals_of model.now) }
+/// Checks whether a change leaves a valid model, by the few checks that it needs.
+fn check_change(alloc: Global, model: &ValidModel, change: &Change) -> Result<(), ModelFault>
+    requires valid { IsValid model.now }
+    requires known { IsChangeOf model.now change.now }
+    ensures { Passes result (refusals_of (with_change model.now change.now)) }
 {
-    let _valid = model.plain();
-    Ok(())
-}
-
-/// Checks whether an edit may be applied to a valid model. Changes nothing. The edit is refused
-/// exactly where `apply_edit` refuses it, with the same refusal. Only the check of `Edit::AddTask`
-/// takes memory; `NoMemory` comes where there is none for it.
-#[tactic(auto, unfolding(crate::specs::Edited::edit_checks, crate::specs::Edited::with_edit))]
-pub fn check_edit(alloc: Global, model: &ValidModel, edit: &Edit) -> Result<(), ModelFault>
-    requires { IsEditInRange edit.now }
-    ensures { Passes result
-        (edit_checks model.now edit.now ++ refusals_of (with_edit model.now edit.now)) }
-{
-    match edit {
-        Edit::Range {
-            runnable,
+    match change {
+        Change::Range {
+            step,
             least,
             greatest,
-        } => check_range(model, runnable, *least, *greatest),
-        Edit::Whole { runnable, whole } => check_whole(model, runnable, *whole),
-        Edit::Period { stimulus, .. } => check_stimulus(model, stimulus, edit),
-        Edit::Offset { stimulus, .. } => check_stimulus(model, stimulus, edit),
-        Edit::Jitter { stimulus, .. } => check_stimulus(model, stimulus, edit),
-        Edit::Distances { stimulus, .. } => check_stimulus(model, stimulus, edit),
-        Edit::Burst { stimulus, .. } => check_stimulus(model, stimulus, edit),
-        Edit::Deadline { task, deadline } => check_deadline(model, task, *deadline),
-        Edit::Swap { one, other } => check_swap(model, one, other),
-        Edit::Kind { task, access } => check_access(model, task, *access),
-        Edit::Move {
+        } => check_range(model, *step, *least, *greatest),
+        Change::Stimulus { stimulus, kind } => check_kind(model, *stimulus, *kind),
+        Change::Deadline { task, deadline } => check_deadline(model, *task, *deadline),
+        Change::Swap { one, other } => check_swapped(model, *one, *other),
+        Change::Move {
             task,
             core,
             priority,
-        } => check_move(model, task, core, *priority),
-        Edit::AddTask(task) => check_new_task(alloc, model, task),
-        Edit::DropTask { task } => check_dropped_task(model, task),
-        Edit::AddChain(chain) => check_new_chain(model, chain),
-        Edit::DropChain { chain } => check_dropped_chain(model, chain),
-        Edit::Report => check_nothing(model),
+        } => check_move(model, *task, core, *priority),
+        Change::AddTask(task) => check_new_task(alloc, model, task),
+        Change::DropTask { task } => check_dropped_task(model, *task),
+        Change::AddChain(chain) => check_new_chain(model, chain),
+        Change::DropChain { chain } => check_dropped_chain(model, *chain),
+        Change::Whole { .. } | Change::Access { .. } | Change::Nothing => Ok(()),
     }
+}
+
+/// Checks whether an edit may be applied to a valid model, and finds which change of it the edit
+/// is. Changes nothing.
+///
+/// The edit is refused with E2 where it looks up a name that isn't there, with E3 where the
+/// stimulus is of a kind that it doesn't set, with M10 where it adds a task or a chain to a full
+/// section, and else exactly where the changed model isn't valid, with the first refusal of that
+/// model. Only a task or a chain that is added takes memory; `NoMemory` comes where there is none.
+pub fn check_edit(alloc: Global, model: &ValidModel, edit: &Edit) -> Result<Change, ModelFault>
+    requires { IsEditInRange edit.now }
+    ensures change { Answers result
+        (edit_checks model.now edit.now ++ refusals_of (with_edit model.now edit.now)) (change_of model.now edit.now) }
+    ensures may_be_made { IfOk result (MayBeMade model.now) }
+{
+    let _valid = model.plain();
+    let change = change_of(alloc, model, edit)?;
+    check_change(alloc, model, &change)?;
+    Ok(change)
 }

@@ -1,10 +1,11 @@
-//! Whether a task or a chain may be added to a valid model or dropped from it, by the few checks
-//! that such an edit needs.
+//! Whether a chain may be added to a valid model, or a task or a chain dropped from it, by the few
+//! checks that such a change needs.
 ghost use Rattle.std.specs.Prelude.{◌≡◌, ◌==◌, ◌<◌, ◌^◌, ◌++◌, not, length, slice_get, nat_lt, IfSome, is_some, All, Some};
 ghost use Rattle.std.specs.List.{list_any};
 ghost use Rattle.std.specs.Option.{option_copied};
 ghost use Rattle.cl_model.specs.Answers.{Answers, Passes};
 ghost use Rattle.cl_model.specs.ByNumber.{task_at};
+ghost use Rattle.cl_model.specs.Changes.{with_new_chain, without_chain, without_task};
 ghost use Rattle.cl_model.specs.Groups.{step_named, groups_at, IsStepOf};
 ghost use Rattle.cl_model.specs.Named.{same_name, has_name, is_some_and, chain_names, runnable_named};
 ghost use Rattle.cl_model.specs.Place as place;
@@ -12,14 +13,12 @@ ghost use Rattle.cl_model.specs.Place.{section_place};
 ghost use Rattle.cl_model.specs.Ranges.{IsChainInRange};
 ghost use Rattle.cl_model.specs.Refusals.{unless, each};
 ghost use Rattle.cl_model.specs.Validity.{IsValid, step_of, misses_label, lengths_check, step_check, hop_check, chain_check, refusals_of};
-ghost use Rattle.cl_edit.specs.declared.edit.Edit.TheVariants as edits;
-ghost use Rattle.cl_edit.specs.Edited.{found, all_names, edit_checks, with_edit};
+ghost use Rattle.cl_edit.specs.Edited.{all_names};
 ghost use Rattle.cl_edit.specs.FewListChecks.{new_chain_name_check, new_chain_checks, kept_chain_check, dropped_chain_checks, kept_step_check, kept_steps_check, dropped_task_checks};
 
-use crate::find::not_found;
 use cl_model::{
-    ChainDef, Code, Key, MOST_CHAINS, ModelFault, Name, Part, Place, RequirementDef, RunnableDef,
-    Step, TaskDef, ValidModel, refuse_unless, refuse_when,
+    ChainDef, Code, Key, ModelFault, Name, Part, Place, RequirementDef, RunnableDef, Step, TaskDef,
+    ValidModel, refuse_unless, refuse_when,
 };
 use cl_valid::{at_spot, entry_of};
 
@@ -170,34 +169,23 @@ fn check_chain_name(model: &ValidModel, chain: &ChainDef) -> Result<(), ModelFau
     refuse_when(is_taken, Code::M25, place.at_key(Key::Name))
 }
 
-fn check_chain_room(model: &ValidModel) -> Result<(), ModelFault>
-    ensures { Answers result
-        (unless (nat_lt (length model.now.chains) MOST_CHAINS) Code.M10 (section_place Part.Chain)) tt }
-{
-    let has_room = (model.chains() as usize) < MOST_CHAINS;
-    refuse_unless(has_room, Code::M10, Part::Chain.section_place())
-}
-
-#[tactic(auto, using(cl_model::proofs::FirstRefusals::faults), unfolding(crate::specs::Edited::edit_checks))]
+/// Checks M25 and M43 to M45 for a new chain.
+#[tactic(auto, using(cl_model::proofs::FirstRefusals::faults))]
 fn check_parts_of_chain(model: &ValidModel, chain: &ChainDef) -> Result<(), ModelFault>
     requires { IsChainInRange chain.now }
-    ensures checked { Answers result
-        (edit_checks model.now (edits.AddChain chain.now) ++ new_chain_checks model.now chain.now) tt }
-    ensures valid { IsValid model.now }
+    ensures { Answers result (new_chain_checks model.now chain.now) tt }
 {
     let number = model.chains() as usize;
-    check_chain_room(model)?;
     check_chain_name(model, chain)?;
     check_chain(model, number, chain)?;
     Ok(())
 }
 
-/// Checks whether a chain may be added: M10 where there is no room for it, and else the first
-/// refusal of the changed model. Takes no memory.
+/// Checks whether a chain may be added, for which there is room. Takes no memory.
 pub(crate) fn check_new_chain(model: &ValidModel, chain: &ChainDef) -> Result<(), ModelFault>
-    requires { IsChainInRange chain.now }
-    ensures { Passes result
-        (edit_checks model.now (edits.AddChain chain.now) ++ refusals_of (with_edit model.now (edits.AddChain chain.now))) }
+    requires valid { IsValid model.now }
+    requires chain { IsChainInRange chain.now }
+    ensures { Passes result (refusals_of (with_new_chain model.now chain.now)) }
 {
     check_parts_of_chain(model, chain)
 }
@@ -223,35 +211,14 @@ fn check_requirements(chain: &Name, requirements: &[RequirementDef]) -> Result<(
     Ok(())
 }
 
-#[tactic(auto, using(crate::proofs::FoundFacts::finding))]
-fn check_chain_found(model: &ValidModel, chain: &Name) -> Result<(), ModelFault>
-    ensures { Answers result (found chain.now (chain_names model.now)) tt }
-{
-    match model.chain_named(chain) {
-        Some(_) => Ok(()),
-        None => Err(not_found()),
-    }
-}
-
-#[tactic(auto, using(cl_model::proofs::FirstRefusals::faults), unfolding(crate::specs::Edited::edit_checks))]
-fn check_requirements_of(model: &ValidModel, chain: &Name) -> Result<(), ModelFault>
-    ensures checked { Answers result
-        (edit_checks model.now (edits.DropChain chain.now) ++ dropped_chain_checks model.now chain.now) tt }
-    ensures valid { IsValid model.now }
+/// Checks whether a chain may be dropped. Takes no memory.
+pub(crate) fn check_dropped_chain(model: &ValidModel, chain: u32) -> Result<(), ModelFault>
+    requires valid { IsValid model.now }
+    requires chain { chain < length model.now.chains }
+    ensures { Passes result (refusals_of (without_chain model.now chain)) }
 {
     let requirements = model.plain().requirements.as_slice();
-    check_chain_found(model, chain)?;
-    check_requirements(chain, requirements)?;
-    Ok(())
-}
-
-/// Checks whether a chain may be dropped: E2 where no chain has the name, and else the first
-/// refusal of the changed model. Takes no memory.
-pub(crate) fn check_dropped_chain(model: &ValidModel, chain: &Name) -> Result<(), ModelFault>
-    ensures { Passes result
-        (edit_checks model.now (edits.DropChain chain.now) ++ refusals_of (with_edit model.now (edits.DropChain chain.now))) }
-{
-    check_requirements_of(model, chain)
+    check_requirements(&model.chain(chain).name, requirements)
 }
 
 // ---- a dropped task
@@ -328,23 +295,11 @@ fn check_kept_chains(model: &ValidModel, task: u32, chains: &[ChainDef]) -> Resu
     Ok(())
 }
 
-fn check_chains_of(model: &ValidModel, task: &Name) -> Result<(), ModelFault>
-    ensures checked { Answers result
-        (edit_checks model.now (edits.DropTask task.now) ++ dropped_task_checks model.now task.now) tt }
-    ensures valid { IsValid model.now }
+/// Checks whether a task may be dropped. Takes no memory.
+pub(crate) fn check_dropped_task(model: &ValidModel, task: u32) -> Result<(), ModelFault>
+    requires valid { IsValid model.now }
+    requires task { task < length model.now.tasks }
+    ensures { Passes result (refusals_of (without_task model.now task)) }
 {
-    let chains = model.plain().chains.as_slice();
-    match model.task_named(task) {
-        Some(number) => check_kept_chains(model, number, chains),
-        None => Err(not_found()),
-    }
-}
-
-/// Checks whether a task may be dropped: E2 where no task has the name, and else the first refusal
-/// of the changed model. Takes no memory.
-pub(crate) fn check_dropped_task(model: &ValidModel, task: &Name) -> Result<(), ModelFault>
-    ensures { Passes result
-        (edit_checks model.now (edits.DropTask task.now) ++ refusals_of (with_edit model.now (edits.DropTask task.now))) }
-{
-    check_chains_of(model, task)
+    check_kept_chains(model, task, model.plain().chains.as_slice())
 }

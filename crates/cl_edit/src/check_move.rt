@@ -3,19 +3,16 @@
 ghost use Rattle.std.specs.Prelude.{◌≡◌, ℕ, ◌<◌, ◌++◌, length};
 ghost use Rattle.cl_model.specs.Answers.{Answers, Passes};
 ghost use Rattle.cl_model.specs.Changes.{with_place};
-ghost use Rattle.cl_model.specs.Named.{task_names};
 ghost use Rattle.cl_model.specs.ValidTasks as keys;
 ghost use Rattle.cl_model.specs.ValidTasks.{deadline_checks};
 ghost use Rattle.cl_model.specs.Validity.{IsValid, refusals_of};
-ghost use Rattle.cl_edit.specs.declared.pace.Change.TheVariants.{Move};
-ghost use Rattle.cl_edit.specs.Edited.{found, task_number};
-ghost use Rattle.cl_edit.specs.Inner.Paces.{with_change};
+ghost use Rattle.cl_edit.specs.declared.pace.Retiming.TheVariants.{Move};
+ghost use Rattle.cl_edit.specs.Inner.Paces.{with_retiming};
 ghost use Rattle.cl_edit.specs.Inner.Places.{place_checks, IsFirstBeyond, first_checks};
 
 use crate::check_new_task::task_key;
-use crate::check_sets::found_task;
 use crate::clash::later_of;
-use crate::pace::Change;
+use crate::pace::Retiming;
 use cl_model::{Code, Key, MOST_TASKS_OF_CORE, ModelFault, Name, ValidModel};
 
 /// Finds the first task that M34 refuses after a task is moved to this core: the later in file
@@ -25,7 +22,7 @@ fn first_beyond(model: &ValidModel, task: u32, core: u32) -> Option<u32>
     requires valid { IsValid model.now }
     requires task { task < length model.now.tasks }
     requires core { core < length model.now.cores }
-    ensures { (priority : ℕ) → IsFirstBeyond (with_change model.now (Move task core priority)) result }
+    ensures { (priority : ℕ) → IsFirstBeyond (with_retiming model.now (Move task core priority)) result }
 {
     let others = model.tasks_of_core(core);
     if model.core_of(task) == core || others.len() < MOST_TASKS_OF_CORE {
@@ -69,9 +66,9 @@ fn check_places(model: &ValidModel, task: u32, core: u32, priority: u64) -> Resu
     requires valid { IsValid model.now }
     requires task { task < length model.now.tasks }
     requires core { core < length model.now.cores }
-    ensures { Answers result (place_checks (with_change model.now (Move task core priority))) tt }
+    ensures { Answers result (place_checks (with_retiming model.now (Move task core priority))) tt }
 {
-    let change = Change::Move {
+    let change = Retiming::Move {
         task,
         core,
         priority,
@@ -86,11 +83,11 @@ fn check_moved(model: &ValidModel, task: u32, core: u32, priority: u64) -> Resul
     requires valid { IsValid model.now }
     requires task { task < length model.now.tasks }
     requires core { core < length model.now.cores }
-    ensures { let changed = with_change model.now (Move task core priority) in Passes result
+    ensures { let changed = with_retiming model.now (Move task core priority) in Passes result
         (place_checks changed ++ deadline_checks changed) }
 {
     check_places(model, task, core, priority)?;
-    let change = Change::Move {
+    let change = Retiming::Move {
         task,
         core,
         priority,
@@ -98,19 +95,18 @@ fn check_moved(model: &ValidModel, task: u32, core: u32, priority: u64) -> Resul
     change.check_deadlines(model)
 }
 
-/// Checks whether a task may be moved to another core and priority: E2 where no task has the name,
-/// M29 where no core has the other name, and else the first refusal of the changed model. Takes no
-/// memory.
+/// Checks whether a task may be moved to another core and priority: M29 where no core has the name,
+/// and else the first refusal of the changed model. Takes no memory.
 pub(crate) fn check_move(
     model: &ValidModel,
-    task: &Name,
+    task: u32,
     core: &Name,
     priority: u64,
 ) -> Result<(), ModelFault>
-    ensures { Passes result
-        (found task.now (task_names model.now) ++ refusals_of (with_place model.now (task_number model.now task.now) core.now priority)) }
+    requires valid { IsValid model.now }
+    requires task { task < length model.now.tasks }
+    ensures { Passes result (refusals_of (with_place model.now task core.now priority)) }
 {
-    let task = found_task(model, task)?;
     match model.core_named(core) {
         Some(core) => check_moved(model, task, core, priority),
         None => Err(ModelFault::refused(Code::M29, task_key(task as usize, Key::Core))),

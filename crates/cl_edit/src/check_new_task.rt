@@ -10,18 +10,16 @@ ghost use Rattle.cl_model.specs.Timing.{least_distance, greatest_jitter, deadlin
 ghost use Rattle.cl_model.specs.ValidNames.{repeats};
 ghost use Rattle.cl_model.specs.ValidTasks.{task_key, core_check, stimulus_check, priority_check, late_check, release_check, room_check, empty_check, task_check, spans_too_many, deadline_check};
 ghost use Rattle.cl_model.specs.Validity.{IsValid, refusals_of};
-ghost use Rattle.cl_edit.specs.declared.edit.Edit.TheVariants as edits;
 ghost use Rattle.cl_model.specs.Changes.{with_new_task};
-ghost use Rattle.cl_edit.specs.Edited.{all_names, edit_checks, with_edit};
+ghost use Rattle.cl_edit.specs.Edited.{all_names};
 ghost use Rattle.cl_edit.specs.FewListChecks.{new_task_name_check, new_runnables_check, below_new_check, new_task_checks};
 ghost use Rattle.cl_edit.specs.Inner.NewTasks.{added_naming_checks, added_count_check, added_checks, all_checks, outpaced_by, is_task_below};
 
-use crate::find::found;
 use crate::new_deadlines::check_deadlines;
 use crate::new_labels::check_labels;
 use cl_model::{
-    Code, CoreDef, Key, MOST_RUNNABLES_OF_MODEL, MOST_TASKS, MOST_TASKS_OF_CORE, ModelFault, Name,
-    NameSet, Part, Place, RunnableDef, StimulusKind, TaskDef, ValidModel, add_new, refuse_unless,
+    Code, CoreDef, Key, MOST_RUNNABLES_OF_MODEL, MOST_TASKS_OF_CORE, ModelFault, Name, NameSet,
+    Part, Place, RunnableDef, StimulusKind, TaskDef, ValidModel, add_new, refuse_unless,
     refuse_when,
 };
 use cl_valid::entry_of;
@@ -36,14 +34,6 @@ pub(crate) fn task_key(i: usize, key: Key) -> Place
 }
 
 // ---- names
-
-fn check_task_room(model: &ValidModel) -> Result<(), ModelFault>
-    ensures { Answers result
-        (unless (nat_lt (length model.now.tasks) MOST_TASKS) Code.M10 (places.section_place Part.Task)) tt }
-{
-    let has_room = (model.tasks() as usize) < MOST_TASKS;
-    refuse_unless(has_room, Code::M10, Part::Task.section_place())
-}
 
 fn has_task(model: &ValidModel, name: &Name) -> bool
     ensures { result ≡ has_name name.now (task_names model.now) }
@@ -125,11 +115,8 @@ fn check_core(cores: &[CoreDef], i: usize, task: &TaskDef) -> Result<(), ModelFa
 fn kind_named(model: &ValidModel, name: &Name) -> Option<StimulusKind>
     ensures { result ≡ kind_named model.now name.now }
 {
-    let stimuli = model.plain().stimuli.as_slice();
-    match found(stimuli, name) {
-        Ok(number) => Some(stimuli[number].kind),
-        Err(_) => None,
-    }
+    let number = model.stimulus_named(name)?;
+    Some(model.plain().stimuli.as_slice()[number as usize].kind)
 }
 
 /// Checks M30: the stimulus of the task is known.
@@ -308,7 +295,7 @@ fn check_added(
     Ok(())
 }
 
-/// Checks M10, M23, M24 and M29 to M42 for a new task.
+/// Checks M23, M24 and M29 to M42 for a new task.
 #[tactic(auto, using(cl_model::proofs::FirstRefusals::faults))]
 fn check_all(
     alloc: Global,
@@ -325,23 +312,21 @@ fn check_all(
     requires task { IsTaskInRange task.now }
     ensures { Answers result (all_checks model.now tasks.now kind task.now) tt }
 {
-    check_task_room(model)?;
     check_names(alloc, model, task)?;
     check_added(alloc, model, kind, tasks.len(), task)?;
     check_deadlines(model, task, kind, tasks)?;
     Ok(())
 }
 
-/// Checks whether a task may be added: M10 where there is no room for it, and else the first
-/// refusal of the changed model. `NoMemory` comes where memory ran out.
+/// Checks whether a task may be added, for which there is room. `NoMemory` comes where memory ran
+/// out.
 pub(crate) fn check_new_task(
     alloc: Global,
     model: &ValidModel,
     task: &TaskDef,
 ) -> Result<(), ModelFault>
     requires { IsTaskInRange task.now }
-    ensures { Passes result
-        (edit_checks model.now (edits.AddTask task.now) ++ refusals_of (with_edit model.now (edits.AddTask task.now))) }
+    ensures { Passes result (refusals_of (with_new_task model.now task.now)) }
 {
     let kind = kind_named(model, &task.stimulus);
     check_all(alloc, model, kind, model.plain().tasks.as_slice(), task)

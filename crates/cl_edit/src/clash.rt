@@ -5,13 +5,13 @@ ghost use Rattle.cl_model.specs.Answers.{Answers, Passes};
 ghost use Rattle.cl_model.specs.ByNumber.{core_of};
 ghost use Rattle.cl_model.specs.Changes.{with_swap};
 ghost use Rattle.cl_model.specs.ValidTasks.{deadline_checks};
-ghost use Rattle.cl_model.specs.Validity.{IsValid};
-ghost use Rattle.cl_edit.specs.declared.pace.Change.TheVariants.{Swap};
-ghost use Rattle.cl_edit.specs.Inner.Paces.{with_change, IsChangeOf, core_after, HasOthers, IsAtMost};
+ghost use Rattle.cl_model.specs.Validity.{IsValid, refusals_of};
+ghost use Rattle.cl_edit.specs.declared.pace.Retiming.TheVariants.{Swap};
+ghost use Rattle.cl_edit.specs.Inner.Paces.{with_retiming, IsRetimingOf, core_after, HasOthers, IsAtMost};
 ghost use Rattle.cl_edit.specs.Inner.Clashes.{clash_checks, IsClashing, HasMet};
 
 use crate::check_new_task::task_key;
-use crate::pace::{Change, noted};
+use crate::pace::{Retiming, noted};
 use cl_model::{Code, Key, ModelFault, ValidModel};
 
 /// The later of two tasks in file order.
@@ -28,7 +28,7 @@ fn is_clash(task: u32, own: u64, other: u32, its: u64) -> bool
     task != other && own == its
 }
 
-impl Change {
+impl Retiming {
     /// Returns the earlier task of `first` and, where these two tasks of one core have the same
     /// priority after the change, the later of the two.
     fn clash_of_pair(
@@ -39,15 +39,15 @@ impl Change {
         other: u32,
     ) -> Option<u32>
         requires valid { IsValid model.now }
-        requires change { IsChangeOf model.now self }
+        requires change { IsRetimingOf model.now self }
         requires task { task < length model.now.tasks }
         requires other { other < length model.now.tasks }
-        requires core { core_of (with_change model.now self) task
-            ≡ core_of (with_change model.now self) other }
-        requires first { IsClashing (with_change model.now self) first }
-        ensures first { IsClashing (with_change model.now self) result }
+        requires core { core_of (with_retiming model.now self) task
+            ≡ core_of (with_retiming model.now self) other }
+        requires first { IsClashing (with_retiming model.now self) first }
+        ensures first { IsClashing (with_retiming model.now self) result }
         ensures kept { (k : ℕ) → IsAtMost first k → IsAtMost result k }
-        ensures met { HasMet (with_change model.now self) result task other }
+        ensures met { HasMet (with_retiming model.now self) result task other }
     {
         let own = self.priority(model, task);
         let its = self.priority(model, other);
@@ -65,15 +65,15 @@ impl Change {
         core: u32,
     ) -> Option<u32>
         requires valid { IsValid model.now }
-        requires change { IsChangeOf model.now self }
+        requires change { IsRetimingOf model.now self }
         requires task { task < length model.now.tasks }
         requires core { core < length model.now.cores }
         requires own { core_after model.now self task ≡ core }
         requires others { HasOthers model.now self task core }
-        requires first { IsClashing (with_change model.now self) first }
-        ensures first { IsClashing (with_change model.now self) result }
+        requires first { IsClashing (with_retiming model.now self) first }
+        ensures first { IsClashing (with_retiming model.now self) result }
         ensures kept { (k : ℕ) → IsAtMost first k → IsAtMost result k }
-        ensures met { (j : ℕ) → HasMet (with_change model.now self) result task j }
+        ensures met { (j : ℕ) → HasMet (with_retiming model.now self) result task j }
     {
         let others = model.tasks_of_core(core);
         let mut first = first;
@@ -89,9 +89,9 @@ fn check_swap(model: &ValidModel, one: u32, other: u32) -> Result<(), ModelFault
     requires valid { IsValid model.now }
     requires one { one < length model.now.tasks }
     requires other { other < length model.now.tasks }
-    ensures { Answers result (clash_checks (with_change model.now (Swap one other))) tt }
+    ensures { Answers result (clash_checks (with_retiming model.now (Swap one other))) tt }
 {
-    let change = Change::Swap { one, other };
+    let change = Retiming::Swap { one, other };
     let first = change.clash_beside(model, None, one, model.core_of(one));
     match change.clash_beside(model, first, other, model.core_of(other)) {
         Some(task) => Err(ModelFault::refused(Code::M31, task_key(task as usize, Key::Priority))),
@@ -101,7 +101,7 @@ fn check_swap(model: &ValidModel, one: u32, other: u32) -> Result<(), ModelFault
 
 /// Checks M31 and M42 for all tasks after two tasks exchange their priorities.
 #[tactic(auto, using(cl_model::proofs::FirstRefusals::faults))]
-pub(crate) fn check_swapped(model: &ValidModel, one: u32, other: u32) -> Result<(), ModelFault>
+fn check_swap_parts(model: &ValidModel, one: u32, other: u32) -> Result<(), ModelFault>
     requires valid { IsValid model.now }
     requires one { one < length model.now.tasks }
     requires other { other < length model.now.tasks }
@@ -109,6 +109,16 @@ pub(crate) fn check_swapped(model: &ValidModel, one: u32, other: u32) -> Result<
         (clash_checks (with_swap model.now one other) ++ deadline_checks (with_swap model.now one other)) }
 {
     check_swap(model, one, other)?;
-    let change = Change::Swap { one, other };
+    let change = Retiming::Swap { one, other };
     change.check_deadlines(model)
+}
+
+/// Checks whether two tasks may exchange their priorities.
+pub(crate) fn check_swapped(model: &ValidModel, one: u32, other: u32) -> Result<(), ModelFault>
+    requires valid { IsValid model.now }
+    requires one { one < length model.now.tasks }
+    requires other { other < length model.now.tasks }
+    ensures { Passes result (refusals_of (with_swap model.now one other)) }
+{
+    check_swap_parts(model, one, other)
 }

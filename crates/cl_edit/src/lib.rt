@@ -2,10 +2,7 @@
 //! applying them.
 #![tactic(auto)]
 
-mod apply;
 mod change;
-mod change_lists;
-mod change_sets;
 mod check;
 mod check_lists;
 mod check_move;
@@ -16,27 +13,28 @@ mod edit;
 mod edit_lines;
 mod fault;
 mod fields;
-mod find;
 mod kinds;
 pub mod laws;
 mod limits;
 mod lines;
+mod make;
 mod new_deadlines;
 mod new_labels;
 mod pace;
 mod ranges;
 mod reading;
+mod resolve;
 mod task_line;
 mod words;
 
-pub use apply::apply_edit;
-pub use change::{change_valid, edit_valid};
+pub use change::Change;
 pub use check::check_edit;
 use cl_model::ModelFault;
 pub use edit::Edit;
 pub use edit_lines::EditLines;
 pub use fault::EditsFault;
 pub use limits::{MOST_EDITS, MOST_REPORTS};
+pub use make::{apply_edit, edit_valid};
 pub use reading::read_edits;
 
 /// Why an edit isn't applied: its first refusal, or memory ran out.

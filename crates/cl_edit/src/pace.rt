@@ -5,7 +5,7 @@ ghost use Rattle.cl_model.specs.Answers.{Answers, Passes};
 ghost use Rattle.cl_model.specs.ByNumber.{core_of};
 ghost use Rattle.cl_model.specs.ValidTasks.{deadline_checks};
 ghost use Rattle.cl_model.specs.Validity.{IsValid};
-ghost use Rattle.cl_edit.specs.Inner.Paces.{with_change, IsChangeOf, is_on, is_outpacing, least_of, noted, IsAtMost, IsOutpaced, HasSeen, limit_checks, limits_on, all_limits_on, priority_after, kind_after, given_after, core_after, pace_after, is_outpaced, HasOthers};
+ghost use Rattle.cl_edit.specs.Inner.Paces.{with_retiming, IsRetimingOf, is_on, is_outpacing, least_of, noted, IsAtMost, IsOutpaced, HasSeen, limit_checks, limits_on, all_limits_on, priority_after, kind_after, given_after, core_after, pace_after, is_outpaced, HasOthers};
 
 use crate::check_new_task::task_key;
 use cl_model::{Code, Key, ModelFault, StimulusKind, ValidModel, refuse_when};
@@ -13,7 +13,7 @@ use cl_valid::spans_too_many;
 
 /// A change of when the tasks of a valid model run.
 #[derive(Clone, Copy)]
-pub(crate) enum Change {
+pub(crate) enum Retiming {
     /// Another deadline of a task.
     Deadline { task: u32, deadline: Option<u64> },
     /// Another kind of a stimulus.
@@ -80,15 +80,15 @@ fn check_limits(pace: Pace, task: u32) -> Result<(), ModelFault>
     Ok(())
 }
 
-impl Change {
+impl Retiming {
     /// The priority of a task after the change.
     pub(crate) fn priority(self, model: &ValidModel, task: u32) -> u64
-        requires change { IsChangeOf model.now self }
+        requires change { IsRetimingOf model.now self }
         requires task { task < length model.now.tasks }
         ensures { result ≡ priority_after model.now self task }
     {
         match self {
-            Change::Swap { one, other } => {
+            Retiming::Swap { one, other } => {
                 if task == other {
                     model.task(one).priority
                 } else if task == one {
@@ -97,7 +97,7 @@ impl Change {
                     model.task(task).priority
                 }
             }
-            Change::Move {
+            Retiming::Move {
                 task: moved,
                 priority,
                 ..
@@ -108,25 +108,25 @@ impl Change {
                     model.task(task).priority
                 }
             }
-            Change::Deadline { .. } | Change::Kind { .. } => model.task(task).priority,
+            Retiming::Deadline { .. } | Retiming::Kind { .. } => model.task(task).priority,
         }
     }
 
     /// The kind of the stimulus of a task after the change.
     fn kind(self, model: &ValidModel, task: u32) -> StimulusKind
-        requires change { IsChangeOf model.now self }
+        requires change { IsRetimingOf model.now self }
         requires task { task < length model.now.tasks }
         ensures { result ≡ kind_after model.now self task }
     {
         match self {
-            Change::Kind { stimulus, kind } => {
+            Retiming::Kind { stimulus, kind } => {
                 if is_on(model, stimulus, task) {
                     kind
                 } else {
                     model.stimulus_of(task)
                 }
             }
-            Change::Deadline { .. } | Change::Swap { .. } | Change::Move { .. } => {
+            Retiming::Deadline { .. } | Retiming::Swap { .. } | Retiming::Move { .. } => {
                 model.stimulus_of(task)
             }
         }
@@ -138,7 +138,7 @@ impl Change {
         ensures { result ≡ given_after model.now self task }
     {
         match self {
-            Change::Deadline {
+            Retiming::Deadline {
                 task: set,
                 deadline,
             } => {
@@ -148,7 +148,7 @@ impl Change {
                     model.task(task).deadline
                 }
             }
-            Change::Kind { .. } | Change::Swap { .. } | Change::Move { .. } => {
+            Retiming::Kind { .. } | Retiming::Swap { .. } | Retiming::Move { .. } => {
                 model.task(task).deadline
             }
         }
@@ -156,7 +156,7 @@ impl Change {
 
     /// The properties of a task after the change that the check of deadlines looks at.
     fn pace(self, model: &ValidModel, task: u32) -> Pace
-        requires change { IsChangeOf model.now self }
+        requires change { IsRetimingOf model.now self }
         requires task { task < length model.now.tasks }
         ensures { result ≡ pace_after model.now self task }
     {
@@ -171,7 +171,7 @@ impl Change {
 
     /// Checks M32 and M33 for a task after the change.
     fn check_limits(self, model: &ValidModel, task: u32) -> Result<(), ModelFault>
-        requires change { IsChangeOf model.now self }
+        requires change { IsRetimingOf model.now self }
         requires task { task < length model.now.tasks }
         ensures { Answers result (limit_checks (pace_after model.now self task) task) tt }
     {
@@ -180,7 +180,7 @@ impl Change {
 
     /// Checks M32 and M33 for a task after the change, if it names a stimulus.
     fn check_limits_on(self, model: &ValidModel, stimulus: u32, task: u32) -> Result<(), ModelFault>
-        requires change { IsChangeOf model.now self }
+        requires change { IsRetimingOf model.now self }
         requires stimulus { stimulus < length model.now.stimuli }
         requires task { task < length model.now.tasks }
         ensures { Answers result (limits_on model.now self stimulus task) tt }
@@ -195,7 +195,7 @@ impl Change {
     /// Checks M32 and M33 after the change, for each task that names a stimulus.
     #[tactic(auto, using(crate::proofs::LimitChecks::each_limit))]
     fn check_all_limits_on(self, model: &ValidModel, stimulus: u32) -> Result<(), ModelFault>
-        requires change { IsChangeOf model.now self }
+        requires change { IsRetimingOf model.now self }
         requires stimulus { stimulus < length model.now.stimuli }
         ensures { Answers result (all_limits_on model.now self stimulus) tt }
     {
@@ -215,15 +215,15 @@ impl Change {
         other: u32,
     ) -> Option<u32>
         requires valid { IsValid model.now }
-        requires change { IsChangeOf model.now self }
+        requires change { IsRetimingOf model.now self }
         requires task { task < length model.now.tasks }
         requires other { other < length model.now.tasks }
-        requires core { core_of (with_change model.now self) task
-            ≡ core_of (with_change model.now self) other }
-        requires first { IsOutpaced (with_change model.now self) first }
-        ensures first { IsOutpaced (with_change model.now self) result }
+        requires core { core_of (with_retiming model.now self) task
+            ≡ core_of (with_retiming model.now self) other }
+        requires first { IsOutpaced (with_retiming model.now self) first }
+        ensures first { IsOutpaced (with_retiming model.now self) result }
         ensures kept { (k : ℕ) → IsAtMost first k → IsAtMost result k }
-        ensures seen { HasSeen (with_change model.now self) result task other }
+        ensures seen { HasSeen (with_retiming model.now self) result task other }
     {
         let own = self.pace(model, task);
         let its = self.pace(model, other);
@@ -241,15 +241,15 @@ impl Change {
         core: u32,
     ) -> Option<u32>
         requires valid { IsValid model.now }
-        requires change { IsChangeOf model.now self }
+        requires change { IsRetimingOf model.now self }
         requires task { task < length model.now.tasks }
         requires core { core < length model.now.cores }
         requires own { core_after model.now self task ≡ core }
         requires others { HasOthers model.now self task core }
-        requires first { IsOutpaced (with_change model.now self) first }
-        ensures first { IsOutpaced (with_change model.now self) result }
+        requires first { IsOutpaced (with_retiming model.now self) first }
+        ensures first { IsOutpaced (with_retiming model.now self) result }
         ensures kept { (k : ℕ) → IsAtMost first k → IsAtMost result k }
-        ensures seen { (j : ℕ) → HasSeen (with_change model.now self) result task j }
+        ensures seen { (j : ℕ) → HasSeen (with_retiming model.now self) result task j }
     {
         let others = model.tasks_of_core(core);
         let mut first = first;
@@ -263,12 +263,12 @@ impl Change {
     /// stimulus and another one of its core.
     fn first_on(self, model: &ValidModel, stimulus: u32) -> Option<u32>
         requires valid { IsValid model.now }
-        requires change { IsChangeOf model.now self }
+        requires change { IsRetimingOf model.now self }
         requires stimulus { stimulus < length model.now.stimuli }
         requires cores { (k : ℕ) → core_after model.now self k ≡ core_of model.now k }
-        ensures first { IsOutpaced (with_change model.now self) result }
+        ensures first { IsOutpaced (with_retiming model.now self) result }
         ensures seen { (k j : ℕ) → k < length model.now.tasks → is_on model.now stimulus k ≡ true
-            → HasSeen (with_change model.now self) result k j }
+            → HasSeen (with_retiming model.now self) result k j }
     {
         let mut first = None;
         for task in 0..model.tasks() {
@@ -283,29 +283,29 @@ impl Change {
     /// distances of a task of higher priority on its core.
     fn first_outpaced(self, model: &ValidModel) -> Option<u32>
         requires valid { IsValid model.now }
-        requires change { IsChangeOf model.now self }
-        ensures first { IsOutpaced (with_change model.now self) result }
-        ensures least { (k : ℕ) → k < length (with_change model.now self).tasks
-            → is_outpaced (with_change model.now self) k ≡ true → IsAtMost result k }
+        requires change { IsRetimingOf model.now self }
+        ensures first { IsOutpaced (with_retiming model.now self) result }
+        ensures least { (k : ℕ) → k < length (with_retiming model.now self).tasks
+            → is_outpaced (with_retiming model.now self) k ≡ true → IsAtMost result k }
     {
         match self {
-            Change::Deadline { task, .. } => {
+            Retiming::Deadline { task, .. } => {
                 self.first_beside(model, None, task, model.core_of(task))
             }
-            Change::Kind { stimulus, .. } => self.first_on(model, stimulus),
-            Change::Swap { one, other } => {
+            Retiming::Kind { stimulus, .. } => self.first_on(model, stimulus),
+            Retiming::Swap { one, other } => {
                 let first = self.first_beside(model, None, one, model.core_of(one));
                 self.first_beside(model, first, other, model.core_of(other))
             }
-            Change::Move { task, core, .. } => self.first_beside(model, None, task, core),
+            Retiming::Move { task, core, .. } => self.first_beside(model, None, task, core),
         }
     }
 
     /// Checks M42 for all tasks after the change.
     pub(crate) fn check_deadlines(self, model: &ValidModel) -> Result<(), ModelFault>
         requires valid { IsValid model.now }
-        requires change { IsChangeOf model.now self }
-        ensures { Passes result (deadline_checks (with_change model.now self)) }
+        requires change { IsRetimingOf model.now self }
+        ensures { Passes result (deadline_checks (with_retiming model.now self)) }
     {
         match self.first_outpaced(model) {
             Some(task) => Err(ModelFault::refused(
@@ -320,10 +320,10 @@ impl Change {
     #[tactic(auto, using(cl_model::proofs::FirstRefusals::faults))]
     pub fn check_task(self, model: &ValidModel, task: u32) -> Result<(), ModelFault>
         requires valid { IsValid model.now }
-        requires change { IsChangeOf model.now self }
+        requires change { IsRetimingOf model.now self }
         requires task { task < length model.now.tasks }
         ensures { Passes result
-            (limit_checks (pace_after model.now self task) task ++ deadline_checks (with_change model.now self)) }
+            (limit_checks (pace_after model.now self task) task ++ deadline_checks (with_retiming model.now self)) }
     {
         self.check_limits(model, task)?;
         self.check_deadlines(model)
@@ -334,10 +334,10 @@ impl Change {
     #[tactic(auto, using(cl_model::proofs::FirstRefusals::faults))]
     pub fn check_stimulus(self, model: &ValidModel, stimulus: u32) -> Result<(), ModelFault>
         requires valid { IsValid model.now }
-        requires change { IsChangeOf model.now self }
+        requires change { IsRetimingOf model.now self }
         requires stimulus { stimulus < length model.now.stimuli }
         ensures { Passes result
-            (all_limits_on model.now self stimulus ++ deadline_checks (with_change model.now self)) }
+            (all_limits_on model.now self stimulus ++ deadline_checks (with_retiming model.now self)) }
     {
         self.check_all_limits_on(model, stimulus)?;
         self.check_deadlines(model)

@@ -8,6 +8,7 @@ use Rattle.cl_model.specs.ByNumber.{task_at, task_named}
 use Rattle.cl_model.specs.Refusals.{answer}
 use Rattle.cl_model.specs.Validity.{refusals_of}
 use Rattle.cl_edit.specs.declared.edit.Edit.{Edit}
+use Rattle.cl_edit.specs.Changing.{change_of}
 use Rattle.cl_edit.specs.Edited.{edited, edit_checks, with_edit}
 use Rattle.cl_analyse.specs.Headline.{question_at}
 use Rattle.cl_runs.specs.SystemOf.{system_of}
@@ -82,26 +83,26 @@ swapped = with_edit two_chains_model b_above_a
 -- the names and the numbers of both tasks stay, and so does the question of A
 a_longer : (task_named two_cores_model (task_at longer 0).name ≡ Some 0) × (question_at two_cores_model 0 ≡ question_at longer 0)
     × (length longer.tasks ≡ 2) × (length longer.chains ≡ 1)
-unfolding with_edit two_cores_model longer_b system_of question_of block_of longest_hold greatest_execution
+unfolding with_edit change_of two_cores_model longer_b system_of question_of block_of longest_hold greatest_execution
 a_longer = (refl, refl, refl, refl)
 
 -- with another offset, the question of B stays too
 both_later : (task_named two_cores_model (task_at later 0).name ≡ Some 0) × (question_at two_cores_model 0 ≡ question_at later 0)
     × (task_named two_cores_model (task_at later 1).name ≡ Some 1) × (question_at two_cores_model 1 ≡ question_at later 1)
     × (length later.tasks ≡ 2) × (length later.chains ≡ 1)
-unfolding with_edit two_cores_model later_b system_of question_of block_of longest_hold greatest_execution
+unfolding with_edit change_of two_cores_model later_b system_of question_of block_of longest_hold greatest_execution
 both_later = (refl, refl, refl, refl, refl, refl)
 
 -- without the chain both stay
 both_dropped : (task_named two_cores_model (task_at dropped 0).name ≡ Some 0) × (question_at two_cores_model 0 ≡ question_at dropped 0)
     × (task_named two_cores_model (task_at dropped 1).name ≡ Some 1) × (question_at two_cores_model 1 ≡ question_at dropped 1)
     × (length dropped.tasks ≡ 2) × (length dropped.chains ≡ 0)
-unfolding with_edit two_cores_model no_chain_ab system_of question_of block_of longest_hold greatest_execution
+unfolding with_edit change_of two_cores_model no_chain_ab system_of question_of block_of longest_hold greatest_execution
 both_dropped = (refl, refl, refl, refl, refl, refl)
 
 -- a swap keeps how many tasks and chains there are
 numbers_swapped : (length swapped.tasks ≡ 2) × (length swapped.chains ≡ 2)
-unfolding with_edit two_chains_model b_above_a
+unfolding with_edit change_of two_chains_model b_above_a
 numbers_swapped = (refl, refl)
 
 -- a changed task isn't A

@@ -1,6 +1,6 @@
--- An edit that adds or drops a task leaves the tasks of other cores their questions, and each chain its groups. One that
+-- A change that adds or drops a task leaves the tasks of other cores their questions, and each chain its groups. One that
 -- adds or drops a chain leaves the others what was found of them.
-use Rattle.std.proofs.Common.{◌≡◌, ◌≢◌, ℕ, zero, suc, ◌+◌, ◌-◌, ◌<◌, ◌≤◌, inl, inr, Bool, false, cond, ◌==◌, List, [], ◌∷◌, ◌++◌, length, get_or, append-nil, refl, sym, ap, ◌∙◌, subst, arith, Ok}
+use Rattle.std.proofs.Common.{◌≡◌, ◌≢◌, ℕ, zero, suc, ◌+◌, ◌-◌, ◌<◌, ◌≤◌, inl, inr, Bool, false, cond, ◌==◌, List, [], ◌∷◌, ◌++◌, length, get_or, append-nil, refl, sym, ap, ◌∙◌, subst, arith}
 use Rattle.std.specs.Prelude.{map, filter, remove, All}
 use Rattle.std.proofs.lemmas.Bool.{cases_lt, lt-ltb, le-ltb, ne_eqb}
 use Rattle.std.proofs.lemmas.List.{map-append, map-id, get_or_append_left, get_or_push, length_push}
@@ -24,10 +24,9 @@ use Rattle.cl_runs.specs.TaskTiming.{Timing, System, no_timing, timing_at}
 use Rattle.cl_runs.proofs.ModelSystem.{count_is}
 use Rattle.cl_resp.specs.Question.{question_of}
 use Rattle.cl_bound.specs.Answers.{answers_of, answer_at}
-use Rattle.cl_edit.specs.declared.edit.Edit.{Edit}
-use Rattle.cl_edit.specs.declared.edit.Edit.TheVariants.{AddTask, DropTask, AddChain, DropChain}
-use Rattle.cl_edit.specs.Edited.{task_number, chain_number, with_edit, edited}
-use Rattle.cl_edit.proofs.EditedValid.{made_is}
+use Rattle.cl_edit.specs.declared.change.Change.{Change}
+use Rattle.cl_edit.specs.declared.change.Change.TheVariants.{AddTask, DropTask, AddChain, DropChain}
+use Rattle.cl_edit.specs.Changing.{with_change, IsChangeOf}
 use Rattle.cl_incr.specs.declared.chains.ChainFindings.{ChainFindings}
 use Rattle.cl_incr.specs.Inner.Kept.{AreFoundOf}
 use Rattle.cl_incr.specs.Inner.Reach.{number_before, moved_count, group_before, HadQuestion, StayOffCore, MovesTasks, ChainsStay, AddsChain, DropsChain}
@@ -267,43 +266,40 @@ module _ (old : SystemModel) (valid : IsValid old) where
     requirements = refl;
   }
 
--- ---- edits
+-- ---- changes
 
-module _ (old new : SystemModel) (edit : Edit) (made : edited old edit ≡ Ok new) where
-  by_meaning : (P : SystemModel → Type 0) (meaning : SystemModel) → with_edit old edit ≡ meaning → P meaning → P new
-  by_meaning P meaning is = subst P (sym is ∙ made_is old edit new made)
+module _ (old new : SystemModel) (change : Change) (of_model : IsChangeOf old change) (made : new ≡ with_change old change) where
+  by_kind : (P : SystemModel → Type 0) (kind : Change) → change ≡ kind → P (with_change old kind) → P new
+  by_kind P kind is = subst P (sym (made ∙ ap (with_change old) is))
 
   -- where a task was added, there is one more
-  pub added_is : (task : TaskDef) → edit ≡ AddTask task → length old.tasks < length new.tasks
-  unfolding with_edit
-  added_is task is = by_meaning (λ (m : SystemModel). length old.tasks < length m.tasks) (with_new_task old task) (ap (with_edit old) is) (is_last old task)
+  pub added_is : (task : TaskDef) → change ≡ AddTask task → length old.tasks < length new.tasks
+  added_is task is = by_kind (λ (m : SystemModel). length old.tasks < length m.tasks) (AddTask task) is (is_last old task)
 
-  -- what an edit that adds a task reaches
-  pub moves_after_adding : IsValid old → IsValid new → (task : TaskDef) → edit ≡ AddTask task → core_of new (length old.tasks) < length new.cores
+  -- a task that is dropped was there
+  pub dropped_known : (task : ℕ) → change ≡ DropTask task → task < length old.tasks
+  dropped_known task is = subst (IsChangeOf old) is of_model
+
+  -- what a change that adds a task reaches
+  pub moves_after_adding : IsValid old → IsValid new → (task : TaskDef) → change ≡ AddTask task → core_of new (length old.tasks) < length new.cores
       → MovesTasks (core_of new (length old.tasks)) (length old.tasks) old new
-  unfolding with_edit
   moves_after_adding valid new_valid task is core_known =
-      by_meaning (λ (m : SystemModel). IsValid m → core_of m (length old.tasks) < length m.cores → MovesTasks (core_of m (length old.tasks)) (length old.tasks) old m)
-      (with_new_task old task) (ap (with_edit old) is) (moves_where_added old task valid) new_valid core_known
+      by_kind
+      (λ (m : SystemModel). IsValid m → core_of m (length old.tasks) < length m.cores → MovesTasks (core_of m (length old.tasks)) (length old.tasks) old m)
+      (AddTask task) is (moves_where_added old task valid) new_valid core_known
 
-  -- what an edit that drops a task reaches
-  pub moves_after_dropping : IsValid old → IsValid new → (task : List ℕ) → edit ≡ DropTask task → task_number old task < length old.tasks
-      → core_of old (task_number old task) < length old.cores → MovesTasks (core_of old (task_number old task)) (task_number old task) old new
-  unfolding with_edit
-  moves_after_dropping valid new_valid task is within core_known =
-      by_meaning (λ (m : SystemModel). IsValid m → MovesTasks (core_of old (task_number old task)) (task_number old task) old m)
-      (without_task old (task_number old task)) (ap (with_edit old) is)
-      (λ still_valid. moves_where_dropped old (task_number old task) within valid still_valid core_known) new_valid
+  -- what one that drops a task reaches
+  pub moves_after_dropping : IsValid old → IsValid new → (task : ℕ) → change ≡ DropTask task → core_of old task < length old.cores
+      → MovesTasks (core_of old task) task old new
+  moves_after_dropping valid new_valid task is core_known =
+      by_kind (λ (m : SystemModel). IsValid m → MovesTasks (core_of old task) task old m) (DropTask task) is
+      (λ still_valid. moves_where_dropped old task (dropped_known task is) valid still_valid core_known) new_valid
 
-  -- what an edit that adds a chain reaches
-  pub adds_after_adding : IsValid old → (chain : ChainDef) → edit ≡ AddChain chain → AddsChain old new
-  unfolding with_edit
-  adds_after_adding valid chain is = by_meaning (AddsChain old) (with_new_chain old chain) (ap (with_edit old) is) (adds_where_added old valid chain)
+  -- what one that adds a chain reaches
+  pub adds_after_adding : IsValid old → (chain : ChainDef) → change ≡ AddChain chain → AddsChain old new
+  adds_after_adding valid chain is = by_kind (AddsChain old) (AddChain chain) is (adds_where_added old valid chain)
 
-  -- what an edit that drops a chain reaches
-  pub drops_after_dropping : IsValid old → (chain : List ℕ) → edit ≡ DropChain chain → chain_number old chain < length old.chains
-      → DropsChain (chain_number old chain) old new
-  unfolding with_edit
-  drops_after_dropping valid chain is within =
-      by_meaning (DropsChain (chain_number old chain) old) (without_chain old (chain_number old chain)) (ap (with_edit old) is)
-      (drops_where_dropped old valid (chain_number old chain) within)
+  -- what one that drops a chain reaches
+  pub drops_after_dropping : IsValid old → (chain : ℕ) → change ≡ DropChain chain → DropsChain chain old new
+  drops_after_dropping valid chain is =
+      by_kind (DropsChain chain old) (DropChain chain) is (drops_where_dropped old valid chain (subst (IsChangeOf old) is of_model))

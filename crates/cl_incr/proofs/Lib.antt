@@ -18,7 +18,7 @@ pub mod PassesKept
 pub mod Puts
 pub mod NewFindings
 pub mod Touching
-pub mod EditTouches
+pub mod ChangeTouches
 pub mod Mended
 pub mod CheckedEdits
 pub mod NumbersBefore

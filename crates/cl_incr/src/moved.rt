@@ -7,12 +7,11 @@ ghost use Rattle.cl_model.specs.Validity.{IsValid};
 ghost use Rattle.cl_runs.specs.SystemOf.{system_of};
 ghost use Rattle.cl_bound.specs.declared.answer.TaskAnswer.TheVariants.{Late};
 ghost use Rattle.cl_bound.specs.Answers.{answer_at, answers_of};
-ghost use Rattle.cl_edit.specs.Edited.{with_edit, edited};
-ghost use Rattle.cl_edit.specs.Ranges.{IsEditInRange};
+ghost use Rattle.cl_edit.specs.Changing.{with_change, MayBeMade};
 ghost use Rattle.cl_analyse.specs.Findings.{AreFindings};
 ghost use Rattle.cl_incr.specs.Changed.{AsksForChanges};
 ghost use Rattle.cl_incr.specs.Touched.{AreAnswersBut};
-ghost use Rattle.cl_incr.specs.Inner.IsTwin.{IsEditedTwin};
+ghost use Rattle.cl_incr.specs.Inner.IsTwin.{IsTwinOf};
 ghost use Rattle.cl_incr.specs.Inner.News.{StaysFound, StayFoundBut, AreNewsOf};
 ghost use Rattle.cl_incr.specs.Inner.Passes.{ArePassesOf};
 ghost use Rattle.cl_incr.specs.Inner.Reach.{moved, AvoidsCore, MovesTasks};
@@ -26,7 +25,7 @@ use crate::touch::{push_unless, tasks_of_cores};
 use crate::twin::{Twin, caught_up};
 use cl_analyse::{ChainAnswer, Findings};
 use cl_bound::TaskAnswer;
-use cl_edit::Edit;
+use cl_edit::Change;
 use cl_model::{List, ValidModel};
 use cl_time::{NoMemory, Steps};
 use std::alloc::Global;
@@ -173,27 +172,26 @@ pub(crate) fn news_at<L: Ledger>(
     })
 }
 
-/// Makes the twin of a model in which a task is added or dropped: applies the same edit to the old
+/// Makes the twin of a model in which a task is added or dropped: makes the same change of the old
 /// model, and brings `tasks`, the answers for its tasks, up to `answers`. `None` comes where there
 /// is no memory for it.
 pub(crate) fn caught_up_at(
     alloc: Global,
     old: ValidModel,
-    edit: &Edit,
+    change: &Change,
     mut tasks: List<TaskAnswer>,
     gone: u32,
     asked: &[u32],
     answers: &List<TaskAnswer>,
 ) -> Option<Twin>
-    requires in_range { IsEditInRange edit.now }
-    requires passes { edited old edit.now ≡ Ok (with_edit old edit.now) }
+    requires may_be_made { MayBeMade old change.now }
     requires count { length (moved gone Late tasks) ≡ length answers.now }
     requires below { All (λ task. task < length answers.now) asked.now }
     requires others { (task : ℕ) → task < length answers.now
         → (answer_at (moved gone Late tasks) task ≡ answer_at answers.now task)
         ⊎ Contains asked.now task }
-    ensures { IfSome result (IsEditedTwin old edit.now answers.now) }
+    ensures { IfSome result (IsTwinOf (with_change old change.now) answers.now) }
 {
     move_answers(&mut tasks, gone).ok()?;
-    caught_up(alloc, old, edit, tasks, asked, answers)
+    caught_up(alloc, old, change, tasks, asked, answers)
 }

@@ -5,7 +5,8 @@ ghost use Rattle.cl_model.specs.declared.refusal.Refusal.{Refusal};
 ghost use Rattle.cl_runs.specs.SystemOf.{system_of};
 ghost use Rattle.cl_bound.specs.declared.answer.TaskAnswer.TheVariants.{Late};
 ghost use Rattle.cl_bound.specs.Answers.{answers_of};
-ghost use Rattle.cl_edit.specs.Edited.{with_edit, edited};
+ghost use Rattle.cl_edit.specs.Changing.{with_change, MayBeMade};
+ghost use Rattle.cl_edit.specs.Edited.{edited};
 ghost use Rattle.cl_edit.specs.Ranges.{IsEditInRange};
 ghost use Rattle.cl_analyse.specs.Findings.{AreFindings};
 ghost use Rattle.cl_incr.specs.Changed.{AsksForChanges};
@@ -26,7 +27,7 @@ use crate::reach::{Reach, Site, reach_of};
 use crate::twin::{Twin, caught_up, twin_of, twin_with};
 use cl_analyse::{Findings, analyse};
 use cl_bound::TaskAnswer;
-use cl_edit::{Edit, change_valid, check_edit};
+use cl_edit::{Change, Edit, check_edit};
 use cl_model::{List, ModelFault, ValidModel};
 use cl_time::{NoMemory, Steps};
 use std::alloc::Global;
@@ -144,31 +145,31 @@ impl Session {
         ensures refused_steps { (refusal : Refusal) → edited self.old.model edit.now ≡ Err refusal
             → steps.new ≡ steps.old }
     {
-        check(self.alloc, &self.model, edit)?;
-        self.make(edit, steps)?;
+        // where an edit is refused, the findings stay those of the model
+        let _findings = self.findings();
+        let change = check(self.alloc, &self.model, edit)?;
+        self.make(&change, steps)?;
         Ok(())
     }
 
-    /// Applies an edit that no check refuses. `NoMemory` leaves the model and the findings as they
-    /// were.
-    fn make<L: Ledger>(&mut self, edit: &Edit, steps: &mut Steps<L>) -> Result<(), NoMemory>
-        requires in_range { IsEditInRange edit.now }
-        requires passes { edited self.old.model edit.now ≡ Ok (with_edit self.old.model edit.now) }
-        ensures model { OnOk result (edited self.old.model edit.now ≡ Ok self.new.model) }
+    /// Makes a change. `NoMemory` leaves the model and the findings as they were.
+    fn make<L: Ledger>(&mut self, change: &Change, steps: &mut Steps<L>) -> Result<(), NoMemory>
+        requires { MayBeMade self.old.model change.now }
+        ensures model { OnOk result (self.new.model ≡ with_change self.old.model change.now) }
         ensures findings { AreFindings self.new.model self.new.findings }
         ensures unchanged { OnErr result (self.new ≡ self.old) }
-        ensures steps { AsksForChanges self.old.model (with_edit self.old.model edit.now) steps.old steps.new }
+        ensures steps { AsksForChanges self.old.model (with_change self.old.model change.now) steps.old steps.new }
     {
-        // where there is no memory for an edited model, the findings stay those of the model
+        // where there is no memory for a changed model, the findings stay those of the model
         let _findings = self.findings();
         let Twin { model, tasks } = self.take_twin()?;
-        let model = change_valid(self.alloc, model, edit)?;
-        match reach_of(self.alloc, &self.model, &model, edit)? {
-            Reach::Timings(touched) => self.mend(model, tasks, touched, edit, steps),
-            Reach::Task(site) => self.move_tasks(model, tasks, site, edit, steps),
-            Reach::NewChain => self.add_chain(model, tasks, edit, steps),
+        let model = change.make(self.alloc, model)?;
+        match reach_of(self.alloc, &self.model, &model, change)? {
+            Reach::Timings(touched) => self.mend(model, tasks, touched, change, steps),
+            Reach::Task(site) => self.move_tasks(model, tasks, site, change, steps),
+            Reach::NewChain => self.add_chain(model, tasks, change, steps),
             Reach::Chain(gone) => {
-                self.drop_chain(model, tasks, gone, edit);
+                self.drop_chain(model, tasks, gone, change);
                 Ok(())
             }
         }
@@ -196,18 +197,18 @@ impl Session {
         }
     }
 
-    /// Replaces the model by an edited one in which only these tasks are touched, and finds anew
+    /// Replaces the model by a changed one in which only these tasks are touched, and finds anew
     /// only what they concern. `tasks` is a copy of the answers for the tasks.
     fn mend<L: Ledger>(
         &mut self,
         model: ValidModel,
         tasks: List<TaskAnswer>,
         touched: List<u32>,
-        edit: &Edit,
+        change: &Change,
         steps: &mut Steps<L>,
     ) -> Result<(), NoMemory>
-        requires in_range { IsEditInRange edit.now }
-        requires made { edited self.old.model edit.now ≡ Ok model }
+        requires may_be_made { MayBeMade self.old.model change.now }
+        requires made { model ≡ with_change self.old.model change.now }
         requires tasks { tasks ≡ self.old.findings.tasks }
         requires touched { Touches self.old.model model touched }
         ensures model { OnOk result (self.new.model ≡ model) }
@@ -227,22 +228,22 @@ impl Session {
             touched,
             steps,
         )?;
-        self.take_news(model, news, passing, edit);
+        self.take_news(model, news, passing, change);
         Ok(())
     }
 
-    /// Replaces the model by an edited one in which a task is added or dropped. `tasks` is a copy
+    /// Replaces the model by a changed one in which a task is added or dropped. `tasks` is a copy
     /// of the answers for the tasks before.
     fn move_tasks<L: Ledger>(
         &mut self,
         model: ValidModel,
         tasks: List<TaskAnswer>,
         site: Site,
-        edit: &Edit,
+        change: &Change,
         steps: &mut Steps<L>,
     ) -> Result<(), NoMemory>
-        requires in_range { IsEditInRange edit.now }
-        requires made { edited self.old.model edit.now ≡ Ok model }
+        requires may_be_made { MayBeMade self.old.model change.now }
+        requires made { model ≡ with_change self.old.model change.now }
         requires tasks { tasks ≡ self.old.findings.tasks }
         requires moves { MovesTasks site.core site.gone self.old.model model }
         ensures model { OnOk result (self.new.model ≡ model) }
@@ -262,21 +263,21 @@ impl Session {
             site,
             steps,
         )?;
-        self.take_moved(model, news, passing, site, edit);
+        self.take_moved(model, news, passing, site, change);
         Ok(())
     }
 
-    /// Replaces the model by an edited one in which a chain is added. `tasks` is a copy of the
+    /// Replaces the model by a changed one in which a chain is added. `tasks` is a copy of the
     /// answers for the tasks.
     fn add_chain<L: Ledger>(
         &mut self,
         model: ValidModel,
         tasks: List<TaskAnswer>,
-        edit: &Edit,
+        change: &Change,
         steps: &mut Steps<L>,
     ) -> Result<(), NoMemory>
-        requires in_range { IsEditInRange edit.now }
-        requires made { edited self.old.model edit.now ≡ Ok model }
+        requires may_be_made { MayBeMade self.old.model change.now }
+        requires made { model ≡ with_change self.old.model change.now }
         requires tasks { tasks ≡ self.old.findings.tasks }
         requires adds { AddsChain self.old.model model }
         ensures model { OnOk result (self.new.model ≡ model) }
@@ -289,16 +290,16 @@ impl Session {
         let found = find_chain(&self.model, &self.findings, &model, &tasks, chain, steps);
         put_new_chain(&model, &mut self.findings, found)?;
         let old = mem::replace(&mut self.model, model);
-        self.twin = twin_with(self.alloc, old, edit, tasks);
+        self.twin = twin_with(self.alloc, old, change, tasks);
         self.passing = None;
         Ok(())
     }
 
-    /// Replaces the model by an edited one in which a chain is dropped. `tasks` is a copy of the
+    /// Replaces the model by a changed one in which a chain is dropped. `tasks` is a copy of the
     /// answers for the tasks.
-    fn drop_chain(&mut self, model: ValidModel, tasks: List<TaskAnswer>, gone: u32, edit: &Edit)
-        requires in_range { IsEditInRange edit.now }
-        requires made { edited self.old.model edit.now ≡ Ok model }
+    fn drop_chain(&mut self, model: ValidModel, tasks: List<TaskAnswer>, gone: u32, change: &Change)
+        requires may_be_made { MayBeMade self.old.model change.now }
+        requires made { model ≡ with_change self.old.model change.now }
         requires tasks { tasks ≡ self.old.findings.tasks }
         requires drops { DropsChain gone self.old.model model }
         ensures model { self.new.model ≡ model }
@@ -307,15 +308,15 @@ impl Session {
         let _findings = self.findings();
         drop_chain(&model, &mut self.findings, gone);
         let old = mem::replace(&mut self.model, model);
-        self.twin = twin_with(self.alloc, old, edit, tasks);
+        self.twin = twin_with(self.alloc, old, change, tasks);
         self.passing = None;
     }
 
-    /// Replaces the model by an edited one, and the findings by the news on it. The old model
-    /// becomes the twin for the next edit.
-    fn take_news(&mut self, model: ValidModel, mut news: News, passing: Passing, edit: &Edit)
-        requires in_range { IsEditInRange edit.now }
-        requires made { edited self.old.model edit.now ≡ Ok model }
+    /// Replaces the model by a changed one, and the findings by the news on it. The old model
+    /// becomes the twin for the next change.
+    fn take_news(&mut self, model: ValidModel, mut news: News, passing: Passing, change: &Change)
+        requires may_be_made { MayBeMade self.old.model change.now }
+        requires made { model ≡ with_change self.old.model change.now }
         requires keeps { KeepsNumbers self.old.model model }
         requires news { AreNewsOf self.old.model model news }
         requires asked_below { All (λ task. task < length model.tasks) news.asked.items }
@@ -329,7 +330,7 @@ impl Session {
         self.twin = caught_up(
             self.alloc,
             old,
-            edit,
+            change,
             news.tasks,
             news.asked.as_slice(),
             &self.findings.tasks,
@@ -337,18 +338,18 @@ impl Session {
         self.passing = Some(passing);
     }
 
-    /// Replaces the model by an edited one in which a task is added or dropped, and the findings by
-    /// the news on it. The old model becomes the twin for the next edit.
+    /// Replaces the model by a changed one in which a task is added or dropped, and the findings by
+    /// the news on it. The old model becomes the twin for the next change.
     fn take_moved(
         &mut self,
         model: ValidModel,
         mut news: News,
         passing: Passing,
         site: Site,
-        edit: &Edit,
+        change: &Change,
     )
-        requires in_range { IsEditInRange edit.now }
-        requires made { edited self.old.model edit.now ≡ Ok model }
+        requires may_be_made { MayBeMade self.old.model change.now }
+        requires made { model ≡ with_change self.old.model change.now }
         requires moves { MovesTasks site.core site.gone self.old.model model }
         requires news { AreNewsOf self.old.model model news }
         requires asked_below { All (λ task. task < length model.tasks) news.asked.items }
@@ -364,7 +365,7 @@ impl Session {
         self.twin = caught_up_at(
             self.alloc,
             old,
-            edit,
+            change,
             news.tasks,
             site.gone,
             news.asked.as_slice(),
@@ -374,10 +375,12 @@ impl Session {
     }
 }
 
-/// Checks whether an edit may be applied to a model. Changes nothing.
-fn check(alloc: Global, model: &ValidModel, edit: &Edit) -> Result<(), ModelFault>
+/// Checks whether an edit may be applied to a model, and finds which change of it the edit is.
+/// Changes nothing.
+fn check(alloc: Global, model: &ValidModel, edit: &Edit) -> Result<Change, ModelFault>
     requires { IsEditInRange edit.now }
-    ensures made { OnOk result (edited model.now edit.now ≡ Ok (with_edit model.now edit.now)) }
+    ensures made { IfOk result (λ change. edited model.now edit.now ≡ Ok (with_change model.now change)) }
+    ensures may_be_made { IfOk result (MayBeMade model.now) }
     ensures refused { IfErr result
         (λ fault. (refusal : Refusal) → fault ≡ ModelFault.Refused refusal
         → edited model.now edit.now ≡ Err refusal) }

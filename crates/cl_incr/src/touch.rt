@@ -3,17 +3,15 @@
 ghost use Rattle.std.specs.Prelude.{◌≡◌, ℕ, ◌<◌, ◌⊎◌, ◌↔◌, [], ◌∷◌, ◌++◌, cond, length, IsTrue, IfOk, OnOk, All, Contains};
 ghost use Rattle.std.specs.List.Sorted.{IsStrictlyIncreasing};
 ghost use Rattle.cl_model.specs.ByNumber.{core_of, stimulus_of, tasks_of_core};
-ghost use Rattle.cl_model.specs.Groups.{step_named};
-ghost use Rattle.cl_model.specs.Named.{task_names};
-ghost use Rattle.cl_edit.specs.Edited.{all_names, found, task_number};
 ghost use Rattle.cl_incr.specs.Touched.{Touches, KeepAnswersBut};
 
 use crate::numbers::put_in_order;
-use cl_model::{List, Name, StimulusKind, ValidModel};
+use cl_model::{List, StimulusKind, ValidModel};
 use cl_time::NoMemory;
 use std::alloc::Global;
 
-fn one_task(alloc: Global, task: u32) -> Result<List<u32>, NoMemory>
+/// Lists one task.
+pub(crate) fn one_task(alloc: Global, task: u32) -> Result<List<u32>, NoMemory>
     ensures { IfOk result (λ tasks. tasks ≡ task ∷ []) }
 {
     let mut tasks = List::new(alloc);
@@ -21,65 +19,14 @@ fn one_task(alloc: Global, task: u32) -> Result<List<u32>, NoMemory>
     Ok(tasks)
 }
 
-fn two_tasks(alloc: Global, one: u32, other: u32) -> Result<List<u32>, NoMemory>
+/// Lists two tasks.
+pub(crate) fn two_tasks(alloc: Global, one: u32, other: u32) -> Result<List<u32>, NoMemory>
     ensures { IfOk result (λ tasks. tasks ≡ one ∷ other ∷ []) }
 {
     let mut tasks = List::new(alloc);
     tasks.push(one)?;
     tasks.push(other)?;
     Ok(tasks)
-}
-
-/// Lists the task of the runnable of this name.
-pub(crate) fn task_of_runnable(
-    alloc: Global,
-    model: &ValidModel,
-    runnable: &Name,
-) -> Result<List<u32>, NoMemory>
-    requires { found runnable.now (all_names model.now) ≡ [] }
-    ensures task { IfOk result (λ tasks. tasks ≡ (step_named model.now runnable.now).task ∷ []) }
-    ensures known { (step_named model.now runnable.now).task < length model.now.tasks }
-{
-    match model.step_named(runnable) {
-        Some(step) => one_task(alloc, step.task),
-        None => unreachable!(),
-    }
-}
-
-/// Lists the task of this name.
-pub(crate) fn task_named(
-    alloc: Global,
-    model: &ValidModel,
-    task: &Name,
-) -> Result<List<u32>, NoMemory>
-    requires { found task.now (task_names model.now) ≡ [] }
-    ensures task { IfOk result (λ tasks. tasks ≡ task_number model.now task.now ∷ []) }
-    ensures known { task_number model.now task.now < length model.now.tasks }
-{
-    match model.task_named(task) {
-        Some(number) => one_task(alloc, number),
-        None => unreachable!(),
-    }
-}
-
-/// Lists the tasks of these two names.
-pub(crate) fn tasks_named(
-    alloc: Global,
-    model: &ValidModel,
-    one: &Name,
-    other: &Name,
-) -> Result<List<u32>, NoMemory>
-    requires one { found one.now (task_names model.now) ≡ [] }
-    requires other { found other.now (task_names model.now) ≡ [] }
-    ensures tasks { IfOk result
-        (λ tasks. tasks ≡ task_number model.now one.now ∷ task_number model.now other.now ∷ []) }
-    ensures one_known { task_number model.now one.now < length model.now.tasks }
-    ensures other_known { task_number model.now other.now < length model.now.tasks }
-{
-    match (model.task_named(one), model.task_named(other)) {
-        (Some(one), Some(other)) => two_tasks(alloc, one, other),
-        _ => unreachable!(),
-    }
 }
 
 /// Whether two stimuli are of the same kind, with the same numbers.

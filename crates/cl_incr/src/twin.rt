@@ -1,13 +1,12 @@
 //! A copy of a model with the answers for its tasks, which the next edit changes. Times are in
 //! ticks.
-ghost use Rattle.std.specs.Prelude.{◌≡◌, ℕ, ◌<◌, ◌⊎◌, length, IfOk, IfSome, Ok, All, Contains};
+ghost use Rattle.std.specs.Prelude.{◌≡◌, ℕ, ◌<◌, ◌⊎◌, length, IfOk, IfSome, All, Contains};
 ghost use Rattle.cl_bound.specs.Answers.{answer_at};
-ghost use Rattle.cl_edit.specs.Edited.{with_edit, edited};
-ghost use Rattle.cl_edit.specs.Ranges.{IsEditInRange};
-ghost use Rattle.cl_incr.specs.Inner.IsTwin.{IsTwinOf, IsEditedTwin};
+ghost use Rattle.cl_edit.specs.Changing.{with_change, MayBeMade};
+ghost use Rattle.cl_incr.specs.Inner.IsTwin.{IsTwinOf};
 
 use cl_bound::TaskAnswer;
-use cl_edit::{Edit, change_valid};
+use cl_edit::Change;
 use cl_model::{List, ValidModel};
 use cl_time::NoMemory;
 use std::alloc::Global;
@@ -43,19 +42,18 @@ pub(crate) fn twin_of(
     Ok(Twin { model, tasks })
 }
 
-/// Makes the twin of an edited model: applies the same edit to the old model, and joins it with
-/// these answers. `None` comes where there is no memory for the edit.
+/// Makes the twin of a changed model: makes the same change of the old model, and joins it with
+/// these answers. `None` comes where there is no memory for the change.
 pub(crate) fn twin_with(
     alloc: Global,
     old: ValidModel,
-    edit: &Edit,
+    change: &Change,
     tasks: List<TaskAnswer>,
 ) -> Option<Twin>
-    requires in_range { IsEditInRange edit.now }
-    requires passes { edited old edit.now ≡ Ok (with_edit old edit.now) }
-    ensures { IfSome result (IsEditedTwin old edit.now tasks) }
+    requires { MayBeMade old change.now }
+    ensures { IfSome result (IsTwinOf (with_change old change.now) tasks) }
 {
-    let model = change_valid(alloc, old, edit).ok()?;
+    let model = change.make(alloc, old).ok()?;
     Some(Twin { model, tasks })
 }
 
@@ -79,19 +77,18 @@ fn catch_up(answers: &mut List<TaskAnswer>, tasks: &[u32], new: &List<TaskAnswer
 pub(crate) fn caught_up(
     alloc: Global,
     old: ValidModel,
-    edit: &Edit,
+    change: &Change,
     mut tasks: List<TaskAnswer>,
     asked: &[u32],
     answers: &List<TaskAnswer>,
 ) -> Option<Twin>
-    requires in_range { IsEditInRange edit.now }
-    requires passes { edited old edit.now ≡ Ok (with_edit old edit.now) }
+    requires may_be_made { MayBeMade old change.now }
     requires count { length tasks ≡ length answers.now }
     requires below { All (λ task. task < length answers.now) asked.now }
     requires others { (task : ℕ) → task < length answers.now
         → (answer_at tasks task ≡ answer_at answers.now task) ⊎ Contains asked.now task }
-    ensures { IfSome result (IsEditedTwin old edit.now answers.now) }
+    ensures { IfSome result (IsTwinOf (with_change old change.now) answers.now) }
 {
     catch_up(&mut tasks, asked, answers);
-    twin_with(alloc, old, edit, tasks)
+    twin_with(alloc, old, change, tasks)
 }

@@ -1,17 +1,17 @@
 -- The checks of a new task by the tasks that a model has, and by the labels that are its own.
 use Rattle.std.specs.Prelude.{◌≡◌, ℕ, ◌+◌, Bool, true, ◌&&◌, nat_lt, List, [], ◌∷◌, ◌++◌, length, sum_by, Option}
 use Rattle.std.specs.List.{flat_map}
-use Rattle.cl_model.specs.declared.limits.TheConstants.{MOST_TASKS, MOST_RUNNABLES_OF_MODEL}
+use Rattle.cl_model.specs.declared.limits.TheConstants.{MOST_RUNNABLES_OF_MODEL}
 use Rattle.cl_model.specs.declared.model.SystemModel.{SystemModel}
 use Rattle.cl_model.specs.declared.place.Part.TheVariants as part
-use Rattle.cl_model.specs.declared.refusal.Code.TheVariants.{M10, M41}
+use Rattle.cl_model.specs.declared.refusal.Code.TheVariants.{M41}
 use Rattle.cl_model.specs.declared.refusal.Refusal.{Refusal}
 use Rattle.cl_model.specs.declared.stimulus.StimulusKind.{StimulusKind}
 use Rattle.cl_model.specs.declared.task.RunnableDef.{RunnableDef}
 use Rattle.cl_model.specs.declared.task.TaskDef.{TaskDef}
 use Rattle.cl_model.specs.Named.{same_name, has_name, is_some_and, core_names, label_names, tasks_on, all_runnables, labels_written}
-use Rattle.cl_model.specs.Place.{section_place, entry_of}
-use Rattle.cl_model.specs.Refusals.{when, unless, in_order, each}
+use Rattle.cl_model.specs.Place.{entry_of}
+use Rattle.cl_model.specs.Refusals.{when, in_order, each}
 use Rattle.cl_model.specs.Timing.{deadline_under}
 use Rattle.cl_model.specs.ValidTasks.{core_check, stimulus_check, priority_check, late_check, release_check, room_check, empty_check, body_checks, spans_too_many, is_outpaced_by, deadline_check}
 use Rattle.cl_model.specs.Changes.{with_new_task}
@@ -58,11 +58,10 @@ is_task_below model task other = same_name task.core other.core && is_outpaced_b
 
 -- ---- all together
 
--- M10, M23, M24 and M29 to M42 for a new task beside these
+-- M23, M24 and M29 to M42 for a new task beside these
 abbrev pub all_checks : SystemModel → List TaskDef → Option StimulusKind → TaskDef → List Refusal
 all_checks model others kind task =
-    in_order (unless (nat_lt (length model.tasks) MOST_TASKS) M10 (section_place part.Task)
-    ∷ (new_task_name_check model task ++ new_runnables_check model task)
+    in_order ((new_task_name_check model task ++ new_runnables_check model task)
     ∷ added_checks model kind (length others) task
     ∷ (each (below_new_check model task) others ++ deadline_check (with_new_task model task) (length others) task)
     ∷ [])

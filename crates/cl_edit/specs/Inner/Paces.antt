@@ -12,32 +12,32 @@ use Rattle.cl_model.specs.Named.{same_name, tasks_on}
 use Rattle.cl_model.specs.Refusals.{when, in_order, each}
 use Rattle.cl_model.specs.Timing.{least_distance, greatest_jitter}
 use Rattle.cl_model.specs.ValidTasks.{task_key, spans_too_many, is_outpaced_by}
-use Rattle.cl_edit.specs.declared.pace.Change.{Change}
-use Rattle.cl_edit.specs.declared.pace.Change.TheVariants as change
+use Rattle.cl_edit.specs.declared.pace.Retiming.{Retiming}
+use Rattle.cl_edit.specs.declared.pace.Retiming.TheVariants as change
 use Rattle.cl_edit.specs.declared.pace.Pace.{Pace}
 
 -- ---- changes
 
 -- the model after a change
-abbrev pub with_change : SystemModel → Change → SystemModel
-with_change model (change.Deadline task deadline) = with_deadline model task deadline
-with_change model (change.Kind stimulus kind) = with_kind model stimulus (λ _. kind)
-with_change model (change.Swap one other) = with_swap model one other
-with_change model (change.Move task core priority) = with_place model task (core_at model core).name priority
+abbrev pub with_retiming : SystemModel → Retiming → SystemModel
+with_retiming model (change.Deadline task deadline) = with_deadline model task deadline
+with_retiming model (change.Kind stimulus kind) = with_kind model stimulus (λ _. kind)
+with_retiming model (change.Swap one other) = with_swap model one other
+with_retiming model (change.Move task core priority) = with_place model task (core_at model core).name priority
 
 -- what a change names is there
-abbrev pub IsChangeOf : SystemModel → Change → Type 0
-IsChangeOf model (change.Deadline task deadline) = task < length model.tasks
-IsChangeOf model (change.Kind stimulus kind) = stimulus < length model.stimuli
-IsChangeOf model (change.Swap one other) = (one < length model.tasks) × (other < length model.tasks)
-IsChangeOf model (change.Move task core priority) = (task < length model.tasks) × (core < length model.cores)
+abbrev pub IsRetimingOf : SystemModel → Retiming → Type 0
+IsRetimingOf model (change.Deadline task deadline) = task < length model.tasks
+IsRetimingOf model (change.Kind stimulus kind) = stimulus < length model.stimuli
+IsRetimingOf model (change.Swap one other) = (one < length model.tasks) × (other < length model.tasks)
+IsRetimingOf model (change.Move task core priority) = (task < length model.tasks) × (core < length model.cores)
 
 -- whether task k names stimulus s
 abbrev pub is_on : SystemModel → (s k : ℕ) → Bool
 is_on model s k = same_name (task_at model k).stimulus (stimulus_at model s).name
 
 -- whether a change is of task k, of its stimulus, or of nothing of it
-abbrev pub is_touched : SystemModel → Change → (k : ℕ) → Bool
+abbrev pub is_touched : SystemModel → Retiming → (k : ℕ) → Bool
 is_touched model (change.Deadline task deadline) k = k == task
 is_touched model (change.Kind stimulus kind) k = is_on model stimulus k
 is_touched model (change.Swap one other) k = (k == one) || (k == other)
@@ -45,29 +45,29 @@ is_touched model (change.Move task core priority) k = k == task
 
 -- ---- what task k is after a change
 
-abbrev pub priority_after : SystemModel → Change → (k : ℕ) → ℕ
+abbrev pub priority_after : SystemModel → Retiming → (k : ℕ) → ℕ
 priority_after model (change.Deadline task deadline) k = (task_at model k).priority
 priority_after model (change.Kind stimulus kind) k = (task_at model k).priority
 priority_after model (change.Swap one other) k =
     if k == other then (task_at model one).priority else (if k == one then (task_at model other).priority else (task_at model k).priority)
 priority_after model (change.Move task core priority) k = if k == task then priority else (task_at model k).priority
 
-abbrev pub kind_after : SystemModel → Change → (k : ℕ) → StimulusKind
+abbrev pub kind_after : SystemModel → Retiming → (k : ℕ) → StimulusKind
 kind_after model (change.Deadline task deadline) k = stimulus_of model k
 kind_after model (change.Kind stimulus kind) k = if is_on model stimulus k then kind else stimulus_of model k
 kind_after model (change.Swap one other) k = stimulus_of model k
 kind_after model (change.Move task core priority) k = stimulus_of model k
 
-abbrev pub given_after : SystemModel → Change → (k : ℕ) → Option ℕ
+abbrev pub given_after : SystemModel → Retiming → (k : ℕ) → Option ℕ
 given_after model (change.Deadline task deadline) k = if k == task then deadline else (task_at model k).deadline
 given_after model (change.Kind stimulus kind) k = (task_at model k).deadline
 given_after model (change.Swap one other) k = (task_at model k).deadline
 given_after model (change.Move task core priority) k = (task_at model k).deadline
 
-abbrev pub deadline_after : SystemModel → Change → (k : ℕ) → ℕ
+abbrev pub deadline_after : SystemModel → Retiming → (k : ℕ) → ℕ
 deadline_after model change k = unwrap_or (given_after model change k) (least_distance (kind_after model change k))
 
-abbrev pub core_after : SystemModel → Change → (k : ℕ) → ℕ
+abbrev pub core_after : SystemModel → Retiming → (k : ℕ) → ℕ
 core_after model (change.Deadline task deadline) k = core_of model k
 core_after model (change.Kind stimulus kind) k = core_of model k
 core_after model (change.Swap one other) k = core_of model k
@@ -76,7 +76,7 @@ core_after model (change.Move task core priority) k = if k == task then core els
 -- ---- paces
 
 -- what the check of deadlines sees of task k after a change
-abbrev pub pace_after : SystemModel → Change → (k : ℕ) → Pace
+abbrev pub pace_after : SystemModel → Retiming → (k : ℕ) → Pace
 pace_after model change k = record { priority = priority_after model change k; deadline = deadline_after model change k; kind = kind_after model change k }
 
 -- that of task k
@@ -125,7 +125,7 @@ pub record HasSeen (model : SystemModel) (first : Option ℕ) (k j : ℕ) : Type
   pub above : IsPair model j k → IsAtMost first j
 
 -- the tasks of a core of a model are the others of the core of a task after a change
-abbrev pub HasOthers : SystemModel → Change → (task core : ℕ) → Type 0
+abbrev pub HasOthers : SystemModel → Retiming → (task core : ℕ) → Type 0
 HasOthers model change task core =
     ((k : ℕ) → k < length model.tasks → core_of model k ≡ core → core_after model change k ≡ core)
     × ((k : ℕ) → k < length model.tasks → core_after model change k ≡ core → (k ≡ task) ⊎ (core_of model k ≡ core))
@@ -140,9 +140,9 @@ limit_checks pace k =
     ∷ [])
 
 -- the same, where it names stimulus s
-abbrev pub limits_on : SystemModel → Change → (s k : ℕ) → List Refusal
+abbrev pub limits_on : SystemModel → Retiming → (s k : ℕ) → List Refusal
 limits_on model change s k = if is_on model s k then limit_checks (pace_after model change k) k else []
 
 -- M32 and M33 for each task that names it
-abbrev pub all_limits_on : SystemModel → Change → (s : ℕ) → List Refusal
+abbrev pub all_limits_on : SystemModel → Retiming → (s : ℕ) → List Refusal
 all_limits_on model change s = each (λ k task. limits_on model change s k) model.tasks

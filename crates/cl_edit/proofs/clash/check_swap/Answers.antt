@@ -5,18 +5,18 @@ use Rattle.cl_model.specs.declared.place.Place.{Place}
 use Rattle.cl_model.specs.declared.refusal.Code.TheVariants.{M31}
 use Rattle.cl_model.specs.declared.refusal.Refusal.{Refusal}
 use Rattle.cl_model.specs.Answers.{IsFaultOf}
-use Rattle.cl_edit.specs.declared.pace.Change.{Change}
-use Rattle.cl_edit.specs.declared.pace.Change.TheVariants as change
+use Rattle.cl_edit.specs.declared.pace.Retiming.{Retiming}
+use Rattle.cl_edit.specs.declared.pace.Retiming.TheVariants as change
 use Rattle.cl_edit.specs.Inner.Clashes.{clash_checks}
-use Rattle.cl_edit.specs.Inner.Paces.{with_change}
+use Rattle.cl_edit.specs.Inner.Paces.{with_retiming}
 use Rattle.cl_edit.proofs.ClashFacts.{first_clashes, none_clashes, least_of_swap, met_kept}
 use Rattle.cl_edit.proofs.PairFacts.{change_known}
 use Rattle.cl_edit.proofs.clash.check_swap.Goals as goal
 
 pub returns-in-Some : goal.returns-in-Some
 returns-in-Some c =
-    let swap : Change = change.Swap c.args.one c.args.other in
-    let new = with_change c.args.model.now swap in
+    let swap : Retiming = change.Swap c.args.one c.args.other in
+    let new = with_retiming c.args.model.now swap in
     let first : Option ℕ = Some c.in-Some.task in
     subst (λ (fault : ModelFault). IsFaultOf (clash_checks new) fault) (sym c.refused.ensures)
     (first_clashes new (change_known c.args.model.now c.requires.valid swap (c.requires.one, c.requires.other)) c.in-Some.task c.in-Some.ensures.first
@@ -26,8 +26,8 @@ returns-in-Some c =
 
 pub returns-in-None : goal.returns-in-None
 returns-in-None c =
-    let swap : Change = change.Swap c.args.one c.args.other in
-    let new = with_change c.args.model.now swap in
+    let swap : Retiming = change.Swap c.args.one c.args.other in
+    let new = with_retiming c.args.model.now swap in
     let first : Option ℕ = None in (
       none_clashes new (change_known c.args.model.now c.requires.valid swap (c.requires.one, c.requires.other))
           (least_of_swap c.args.model.now c.requires.valid first c.args.one c.args.other (c.requires.one, c.requires.other)

@@ -1,18 +1,17 @@
-use Rattle.std.proofs.Common.{◌≡◌, ℕ, ◌<◌, ◌⊎◌, inl, inr, List, length, sym, ap, ◌∙◌, subst, arith, Ok}
+use Rattle.std.proofs.Common.{◌≡◌, ℕ, ◌<◌, ◌⊎◌, inl, inr, List, length, sym, ap, ◌∙◌, subst, arith}
 use Rattle.std.specs.Prelude.{All, Contains, IfSome}
 use Rattle.cl_model.specs.declared.model.SystemModel.{SystemModel}
 use Rattle.cl_runs.specs.SystemOf.{system_of}
 use Rattle.cl_bound.specs.declared.answer.TaskAnswer.{TaskAnswer}
 use Rattle.cl_bound.specs.Answers.{answer_at, answers_of}
-use Rattle.cl_edit.specs.Edited.{with_edit, edited}
+use Rattle.cl_edit.specs.Changing.{with_change, MayBeMade}
 use Rattle.cl_analyse.specs.Findings.{AreFindings}
 use Rattle.cl_incr.specs.declared.news.News.{News}
 use Rattle.cl_incr.specs.SessionState.{SessionState}
 use Rattle.cl_incr.specs.Touched.{KeepsNumbers, KeepsChains, KeepAnswersBut}
-use Rattle.cl_incr.specs.Inner.IsTwin.{IsTwinOf, IsEditedTwin}
+use Rattle.cl_incr.specs.Inner.IsTwin.{IsTwinOf}
 use Rattle.cl_incr.specs.Inner.Passes.{ArePassesOf}
 use Rattle.cl_incr.specs.Inner.News.{AreNewsOf}
-use Rattle.cl_incr.proofs.CheckedEdits.{made_as_meant, twin_again}
 use Rattle.cl_incr.proofs.KeptAnswers.{answer_count}
 use Rattle.cl_incr.proofs.Mended.{task_count}
 use Rattle.cl_incr.proofs.PassesKept.{keeps_chains, passes_kept}
@@ -57,10 +56,7 @@ caught_up-requires c =
     let is : answers ≡ answers_of (system_of new) = c.put_news.ensures.tasks ∙ c.requires.news.tasks in
     let those : asked ≡ c.args.news.asked.items = c.as_slice.ensures.value ∙ ap (λ v. v.items) c.put_news.ensures.asked in
     record {
-      in_range = c.requires.in_range;
-      passes =
-          subst (λ (m : SystemModel). edited m c.args.edit.now ≡ Ok (with_edit m c.args.edit.now)) (sym (c.replace-old.ensures.value ∙ model_is))
-          (made_as_meant old c.args.edit.now new c.requires.made);
+      may_be_made = subst (λ (m : SystemModel). MayBeMade m c.args.change.now) (sym (c.replace-old.ensures.value ∙ model_is)) c.requires.may_be_made;
       count = same_count old new c.requires.keeps c.args.news c.requires.asked_below c.requires.asked tasks answers asked were is those;
       below = all_below old new c.requires.keeps c.args.news c.requires.asked_below c.requires.asked tasks answers asked were is those;
       others = others_same old new c.requires.keeps c.args.news c.requires.asked_below c.requires.asked tasks answers asked were is those;
@@ -76,9 +72,8 @@ invariant_of-self c =
     record {
       found = c.put_news.ensures.found;
       twin =
-          subst (λ (m : SystemModel). IfSome twin (IsTwinOf m answers)) (sym c.replace-old.ensures.after)
-          (twin_again old c.args.edit.now c.args.model answers twin c.requires.made
-          (subst (λ (m : SystemModel). IfSome twin (IsEditedTwin m c.args.edit.now answers)) old_is c.caught_up.ensures));
+          subst (λ (m : SystemModel). IfSome twin (IsTwinOf m answers))
+          (ap (λ (m : SystemModel). with_change m c.args.change.now) old_is ∙ sym c.requires.made ∙ sym c.replace-old.ensures.after) c.caught_up.ensures;
       passing = subst (λ (m : SystemModel). ArePassesOf m c.args.passing) (sym c.replace-old.ensures.after)
           (passes_kept old c.args.model c.requires.keeps c.args.passing c.requires.passing);
     }

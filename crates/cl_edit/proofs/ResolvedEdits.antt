@@ -1,0 +1,187 @@
+-- Which change of a model an edit is, and what is answered of it.
+use Rattle.std.proofs.Common.{◌≡◌, ℕ, zero, suc, ◌<◌, ◌∙◌, Bool, true, false, cond, get_or, List, [], ◌∷◌, ◌++◌, length, refl, sym, ap, subst, arith}
+use Rattle.std.specs.Prelude.{Result, Option, Some, None, unwrap_or}
+use Rattle.std.proofs.lemmas.List.{length-map}
+use Rattle.cl_model.specs.declared.chain.ChainDef.{ChainDef}
+use Rattle.cl_model.specs.declared.model.SystemModel.{SystemModel}
+use Rattle.cl_model.specs.declared.model_fault.ModelFault.{ModelFault}
+use Rattle.cl_model.specs.declared.refusal.Code.TheVariants.{E2, E3}
+use Rattle.cl_model.specs.declared.refusal.Refusal.{Refusal}
+use Rattle.cl_model.specs.declared.stimulus.StimulusDef.{StimulusDef}
+use Rattle.cl_model.specs.declared.stimulus.StimulusKind.{StimulusKind}
+use Rattle.cl_model.specs.declared.task.TaskDef.{TaskDef}
+use Rattle.cl_model.specs.Answers.{Answers, IsFaultOf}
+use Rattle.cl_model.specs.ByNumber.{stimulus_number}
+use Rattle.cl_model.specs.Changes.{no_stimulus_def, stimulus_at}
+use Rattle.cl_model.specs.Groups.{step_named, IsStepOf}
+use Rattle.cl_model.specs.Named.{has_name, index_of, task_names, chain_names, stimulus_names, kind_named}
+use Rattle.cl_model.specs.Place.{top}
+use Rattle.cl_model.specs.Refusals.{first}
+use Rattle.cl_model.specs.Validity.{IsValid, refusals_of}
+use Rattle.cl_model.proofs.FirstRefusals.{fault_of_back, none_of_both}
+use Rattle.cl_model.proofs.NamePlaces.{place_within, found_below}
+use Rattle.cl_model.proofs.Refused.{unless_none}
+use Rattle.cl_model.proofs.StepFacts.{step_stands_in}
+use Rattle.cl_edit.specs.declared.change.Change.{Change}
+use Rattle.cl_edit.specs.declared.change.Change.TheVariants as changes
+use Rattle.cl_edit.specs.declared.edit.Edit.{Edit}
+use Rattle.cl_edit.specs.declared.edit.Edit.TheVariants.{Range, Whole, Period, Offset, Jitter, Distances, Burst, Deadline, Swap, Move, Kind, AddTask, DropTask, AddChain, DropChain, Report}
+use Rattle.cl_edit.specs.Changing.{with_change, IsChangeOf, MayBeMade, task_number, chain_number, kind_change, change_of}
+use Rattle.cl_edit.specs.Edited.{found, kind_found, all_names, edit_checks, with_edit}
+use Rattle.cl_edit.specs.Inner.Kinds.{sets, with_numbers}
+use Rattle.cl_edit.specs.Ranges.{IsEditInRange}
+use Rattle.cl_edit.proofs.EditedValid.{first_none, valid_unless}
+use Rattle.cl_edit.proofs.FoundFacts.{kind_passes, kind_fails, kind_missing, none_is_first, number_from}
+
+-- ---- what is found
+
+-- a task that is found
+found_within : (model : SystemModel) (name : List ℕ) → found name (task_names model) ≡ [] → task_number model name < length model.tasks
+found_within model name none =
+    omega (arith, place_within name (task_names model) (unless_none (has_name name (task_names model)) E2 top none), length-map model.tasks (λ (t : TaskDef). t.name))
+
+-- a chain
+found_chain_within : (model : SystemModel) (name : List ℕ) → found name (chain_names model) ≡ [] → chain_number model name < length model.chains
+found_chain_within model name none =
+    omega (arith, place_within name (chain_names model) (unless_none (has_name name (chain_names model)) E2 top none), length-map model.chains (λ (c : ChainDef). c.name))
+
+-- a runnable
+found_step_within : (model : SystemModel) (name : List ℕ) → found name (all_names model) ≡ [] → IsStepOf model (step_named model name)
+found_step_within model name none = step_stands_in model name (unless_none (has_name name (all_names model)) E2 top none)
+
+-- a stimulus
+kind_within : (model : SystemModel) (name : List ℕ) (sets : StimulusKind → Bool) → kind_found (kind_named model name) sets ≡ [] → stimulus_number model name < length model.stimuli
+kind_within model name sets none = by (index_of name (stimulus_names model)) refl
+  where
+    by : (o : Option ℕ) → index_of name (stimulus_names model) ≡ o → stimulus_number model name < length model.stimuli
+    by None is = absurd (none_is_first (record { code = E2; place = top }) (sym (ap first none) ∙ kind_missing model name sets is))
+    by (Some s) is =
+        omega (arith, number_from (index_of name (stimulus_names model)) s is, found_below name (stimulus_names model) s is, length-map model.stimuli (λ (x : StimulusDef). x.name))
+
+-- where the first checks pass, what the edit names is there
+change_is_of_model : (model : SystemModel) (edit : Edit) → IsEditInRange edit → edit_checks model edit ≡ [] → IsChangeOf model (change_of model edit)
+unfolding edit_checks change_of
+change_is_of_model model (Range runnable least greatest) range none = found_step_within model runnable none
+change_is_of_model model (Whole runnable whole) range none = found_step_within model runnable none
+change_is_of_model model (Period stimulus period) range none = kind_within model stimulus _ none
+change_is_of_model model (Offset stimulus offset) range none = kind_within model stimulus _ none
+change_is_of_model model (Jitter stimulus jitter) range none = kind_within model stimulus _ none
+change_is_of_model model (Distances stimulus least greatest) range none = kind_within model stimulus _ none
+change_is_of_model model (Burst stimulus period count distance) range none = kind_within model stimulus _ none
+change_is_of_model model (Deadline task deadline) range none = found_within model task none
+change_is_of_model model (Swap one other) range none =
+    let parts = first_none (found one (task_names model)) (found other (task_names model)) none in
+    (found_within model one parts.0, found_within model other parts.1)
+change_is_of_model model (Move task core priority) range none = found_within model task none
+change_is_of_model model (Kind task access) range none = found_within model task none
+change_is_of_model model (AddTask task) range none = range
+change_is_of_model model (DropTask task) range none = found_within model task none
+change_is_of_model model (AddChain chain) range none = range
+change_is_of_model model (DropChain chain) range none = found_chain_within model chain none
+change_is_of_model model Report range none = tt
+
+-- ---- edits
+
+module _ (model : SystemModel) (edit : Edit) (change : Change) (range : IsEditInRange edit) (none : edit_checks model edit ≡ []) (is : change ≡ change_of model edit) where
+  -- the change that it is is one of the model
+  pub known_change : IsChangeOf model change
+  known_change = subst (IsChangeOf model) (sym is) (change_is_of_model model edit range none)
+
+  -- the changed model is the edited one
+  pub changed_is : refusals_of (with_change model change) ≡ refusals_of (with_edit model edit)
+  unfolding with_edit
+  changed_is = ap (λ (c : Change). refusals_of (with_change model c)) is
+
+  -- where the checks of the changed model pass too, the change may be made
+  pub may_be_made : IsValid model → refusals_of (with_change model change) ≡ [] → MayBeMade model change
+  unfolding with_edit
+  may_be_made valid passes =
+      let meant : IsValid (with_change model (change_of model edit)) =
+      valid_unless model edit valid range (none_of_both (edit_checks model edit) (refusals_of (with_edit model edit)) none (sym changed_is ∙ passes)) in
+      record { of_model = known_change; valid = subst (λ (c : Change). IsValid (with_change model c)) (sym is) meant }
+
+  -- what is refused of the changed model is what the edit is refused by
+  pub refused_behind : (fault : ModelFault) → IsFaultOf (refusals_of (with_change model change)) fault → IsFaultOf (edit_checks model edit ++ refusals_of (with_edit model edit)) fault
+  refused_behind fault refused =
+      fault_of_back (edit_checks model edit) (refusals_of (with_edit model edit)) fault none (subst (λ (refusals : List Refusal). IsFaultOf refusals fault) changed_is refused)
+
+-- ---- edits, by what is answered of what they look up
+
+module _ (model : SystemModel) (edit : Edit) (result : Result Change ModelFault) where
+  -- the numbers of the edit are set of the stimulus of this name
+  abbrev pub SetsNumbers : List ℕ → Type 0
+  SetsNumbers name = Answers result (kind_found (kind_named model name) (sets edit)) (kind_change model name (with_numbers edit))
+
+  -- the edit is its change
+  abbrev pub IsItsChange : Type 0
+  IsItsChange = Answers result (edit_checks model edit) (change_of model edit)
+
+pub period_answers : (model : SystemModel) (edit : Edit) (result : Result Change ModelFault) (name : List ℕ) (period : ℕ) → edit ≡ Period name period
+    → SetsNumbers model edit result name → IsItsChange model edit result
+unfolding edit_checks change_of
+period_answers model edit result name period is h = subst (λ (x : Edit). SetsNumbers model x result name → IsItsChange model x result) (sym is) (λ own. own) h
+
+pub offset_answers : (model : SystemModel) (edit : Edit) (result : Result Change ModelFault) (name : List ℕ) (offset : ℕ) → edit ≡ Offset name offset
+    → SetsNumbers model edit result name → IsItsChange model edit result
+unfolding edit_checks change_of
+offset_answers model edit result name offset is h = subst (λ (x : Edit). SetsNumbers model x result name → IsItsChange model x result) (sym is) (λ own. own) h
+
+pub jitter_answers : (model : SystemModel) (edit : Edit) (result : Result Change ModelFault) (name : List ℕ) (jitter : ℕ) → edit ≡ Jitter name jitter
+    → SetsNumbers model edit result name → IsItsChange model edit result
+unfolding edit_checks change_of
+jitter_answers model edit result name jitter is h = subst (λ (x : Edit). SetsNumbers model x result name → IsItsChange model x result) (sym is) (λ own. own) h
+
+pub distances_answers : (model : SystemModel) (edit : Edit) (result : Result Change ModelFault) (name : List ℕ) (least greatest : ℕ) → edit ≡ Distances name least greatest
+    → SetsNumbers model edit result name → IsItsChange model edit result
+unfolding edit_checks change_of
+distances_answers model edit result name least greatest is h = subst (λ (x : Edit). SetsNumbers model x result name → IsItsChange model x result) (sym is) (λ own. own) h
+
+pub burst_answers : (model : SystemModel) (edit : Edit) (result : Result Change ModelFault) (name : List ℕ) (period count distance : ℕ) → edit ≡ Burst name period count distance
+    → SetsNumbers model edit result name → IsItsChange model edit result
+unfolding edit_checks change_of
+burst_answers model edit result name period count distance is h = subst (λ (x : Edit). SetsNumbers model x result name → IsItsChange model x result) (sym is) (λ own. own) h
+
+pub swap_answers : (model : SystemModel) (edit : Edit) (result : Result Change ModelFault) (one other : List ℕ) → edit ≡ Swap one other
+    → Answers result (found one (task_names model) ++ found other (task_names model)) (changes.Swap (task_number model one) (task_number model other)) → IsItsChange model edit result
+unfolding edit_checks change_of
+swap_answers model edit result one other is h = subst (λ (x : Edit). IsItsChange model x result) (sym is) h
+
+-- ---- the kind of a stimulus
+
+some_if : (b : Bool) (x y : StimulusKind) → Some x ≡ cond b (Some y) None → (b ≡ true) × (x ≡ y)
+some_if true x y e = (refl, ap (λ o. unwrap_or o x) e)
+some_if false x y e = absurd cc
+
+none_if : (b : Bool) (y : StimulusKind) → None ≡ cond b (Some y) None → b ≡ false
+none_if true y e = absurd cc
+none_if false y e = refl
+
+any_default : (xs : List StimulusDef) (i : ℕ) (d e : StimulusDef) → i < length xs → get_or xs i d ≡ get_or xs i e
+any_default [] i d e lt = absurd (omega arith)
+any_default (x ∷ xs) zero d e lt = refl
+any_default (x ∷ xs) (suc i) d e lt = any_default xs i d e (omega arith)
+
+module _ (model : SystemModel) (name : List ℕ) (edit : Edit) (stimuli : List StimulusDef) (s : ℕ) (d : StimulusDef) (all : stimuli ≡ model.stimuli)
+    (named : index_of name (stimulus_names model) ≡ Some s) where
+  within : s < length model.stimuli
+  within = omega (arith, found_below name (stimulus_names model) s named, length-map model.stimuli (λ (x : StimulusDef). x.name))
+
+  here : get_or stimuli s d ≡ stimulus_at model s
+  here = ap (λ l. get_or l s d) all ∙ any_default model.stimuli s d no_stimulus_def within
+
+  -- the edit sets the stimulus
+  pub stimulus_set : (kind : StimulusKind) → Some kind ≡ cond (sets edit (get_or stimuli s d).kind) (Some (with_numbers edit (get_or stimuli s d).kind)) None
+      → (kind_found (kind_named model name) (sets edit) ≡ []) × (changes.Stimulus s kind ≡ kind_change model name (with_numbers edit))
+  stimulus_set kind chosen =
+      let parts = some_if (sets edit (get_or stimuli s d).kind) kind (with_numbers edit (get_or stimuli s d).kind) chosen in
+      let numbered : stimulus_number model name ≡ s = number_from (index_of name (stimulus_names model)) s named in
+      let same : kind ≡ with_numbers edit (stimulus_at model s).kind = parts.1 ∙ ap (λ (x : StimulusDef). with_numbers edit x.kind) here in (
+        kind_passes model name s (sets edit) named (ap (λ (x : StimulusDef). sets edit x.kind) (sym here) ∙ parts.0),
+        ap (changes.Stimulus s) same ∙ ap (λ (n : ℕ). changes.Stimulus n (with_numbers edit (stimulus_at model n).kind)) (sym numbered),
+      )
+
+  -- it doesn't set this kind
+  pub stimulus_unset : None ≡ cond (sets edit (get_or stimuli s d).kind) (Some (with_numbers edit (get_or stimuli s d).kind)) None
+      → first (kind_found (kind_named model name) (sets edit)) ≡ Some (record { code = E3; place = top })
+  stimulus_unset chosen =
+      kind_fails model name s (sets edit) named (ap (λ (x : StimulusDef). sets edit x.kind) (sym here) ∙ none_if (sets edit (get_or stimuli s d).kind) (with_numbers edit (get_or stimuli s d).kind) chosen)

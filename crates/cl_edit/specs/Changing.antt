@@ -1,0 +1,82 @@
+-- A change of a model by numbers, and which change an edit is. Times are in ticks.
+use Rattle.std.specs.Prelude.{ℕ, ◌<◌, List, length, unwrap_or}
+use Rattle.cl_model.specs.declared.model.SystemModel.{SystemModel}
+use Rattle.cl_model.specs.declared.stimulus.StimulusKind.{StimulusKind}
+use Rattle.cl_model.specs.ByNumber.{stimulus_number, task_named, chain_named}
+use Rattle.cl_model.specs.Changes.{stimulus_at, with_range, with_whole, with_kind, with_period, with_offset, with_jitter, with_distances, with_burst, with_deadline, with_swap, with_place, with_access, with_new_task, without_task, with_new_chain, without_chain}
+use Rattle.cl_model.specs.Groups.{step_named, IsStepOf}
+use Rattle.cl_model.specs.Ranges.{IsTaskInRange, IsChainInRange}
+use Rattle.cl_model.specs.Validity.{IsValid}
+use Rattle.cl_edit.specs.declared.change.Change.{Change}
+use Rattle.cl_edit.specs.declared.change.Change.TheVariants as changes
+use Rattle.cl_edit.specs.declared.edit.Edit.{Edit}
+use Rattle.cl_edit.specs.declared.edit.Edit.TheVariants.{Range, Whole, Period, Offset, Jitter, Distances, Burst, Deadline, Swap, Move, Kind, AddTask, DropTask, AddChain, DropChain, Report}
+
+-- ---- changes
+
+-- the model after a change
+abbrev pub with_change : SystemModel → Change → SystemModel
+with_change model (changes.Range step least greatest) = with_range model step least greatest
+with_change model (changes.Whole step whole) = with_whole model step whole
+with_change model (changes.Stimulus stimulus kind) = with_kind model stimulus (λ _. kind)
+with_change model (changes.Deadline task deadline) = with_deadline model task deadline
+with_change model (changes.Swap one other) = with_swap model one other
+with_change model (changes.Move task core priority) = with_place model task core priority
+with_change model (changes.Access task access) = with_access model task access
+with_change model (changes.AddTask task) = with_new_task model task
+with_change model (changes.DropTask task) = without_task model task
+with_change model (changes.AddChain chain) = with_new_chain model chain
+with_change model (changes.DropChain chain) = without_chain model chain
+with_change model changes.Nothing = model
+
+-- what a change names is there, and what it adds is in range
+abbrev pub IsChangeOf : SystemModel → Change → Type 0
+IsChangeOf model (changes.Range step least greatest) = IsStepOf model step
+IsChangeOf model (changes.Whole step whole) = IsStepOf model step
+IsChangeOf model (changes.Stimulus stimulus kind) = stimulus < length model.stimuli
+IsChangeOf model (changes.Deadline task deadline) = task < length model.tasks
+IsChangeOf model (changes.Swap one other) = (one < length model.tasks) × (other < length model.tasks)
+IsChangeOf model (changes.Move task core priority) = task < length model.tasks
+IsChangeOf model (changes.Access task access) = task < length model.tasks
+IsChangeOf model (changes.AddTask task) = IsTaskInRange task
+IsChangeOf model (changes.DropTask task) = task < length model.tasks
+IsChangeOf model (changes.AddChain chain) = IsChainInRange chain
+IsChangeOf model (changes.DropChain chain) = chain < length model.chains
+IsChangeOf model changes.Nothing = Unit {0}
+
+-- a change may be made of a model: it is one of the model, and leaves a valid one
+pub record MayBeMade (model : SystemModel) (change : Change) : Type 0 where
+  pub of_model : IsChangeOf model change
+  pub valid : IsValid (with_change model change)
+
+-- ---- edits
+
+-- the number of the task, the chain of that name: 0 where there is none
+abbrev pub task_number : SystemModel → List ℕ → ℕ
+task_number model name = unwrap_or (task_named model name) 0
+
+abbrev pub chain_number : SystemModel → List ℕ → ℕ
+chain_number model name = unwrap_or (chain_named model name) 0
+
+-- the change of the kind of the stimulus of that name
+abbrev pub kind_change : SystemModel → (stimulus : List ℕ) → (StimulusKind → StimulusKind) → Change
+kind_change model stimulus set = changes.Stimulus (stimulus_number model stimulus) (set (stimulus_at model (stimulus_number model stimulus)).kind)
+
+-- the change that an edit is, where the names that it looks up are there
+unfoldable pub change_of : SystemModel → Edit → Change
+change_of model (Range runnable least greatest) = changes.Range (step_named model runnable) least greatest
+change_of model (Whole runnable whole) = changes.Whole (step_named model runnable) whole
+change_of model (Period stimulus period) = kind_change model stimulus (with_period period)
+change_of model (Offset stimulus offset) = kind_change model stimulus (with_offset offset)
+change_of model (Jitter stimulus jitter) = kind_change model stimulus (with_jitter jitter)
+change_of model (Distances stimulus least greatest) = kind_change model stimulus (with_distances least greatest)
+change_of model (Burst stimulus period count distance) = kind_change model stimulus (with_burst period count distance)
+change_of model (Deadline task deadline) = changes.Deadline (task_number model task) deadline
+change_of model (Swap one other) = changes.Swap (task_number model one) (task_number model other)
+change_of model (Move task core priority) = changes.Move (task_number model task) core priority
+change_of model (Kind task access) = changes.Access (task_number model task) access
+change_of model (AddTask task) = changes.AddTask task
+change_of model (DropTask task) = changes.DropTask (task_number model task)
+change_of model (AddChain chain) = changes.AddChain chain
+change_of model (DropChain chain) = changes.DropChain (chain_number model chain)
+change_of model Report = changes.Nothing

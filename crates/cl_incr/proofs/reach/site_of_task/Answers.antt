@@ -1,8 +1,0 @@
-use Rattle.std.proofs.Common.{sym}
-use Rattle.cl_model.specs.Named.{task_names}
-use Rattle.cl_edit.proofs.FoundFacts.{found_absent}
-use Rattle.cl_incr.proofs.reach.site_of_task.Goals as goal
-
--- the task is somewhere
-pub unreachable-requires : goal.unreachable-requires
-unreachable-requires c = found_absent c.args.task.now (task_names c.args.old.now) c.requires (sym c.in_default.ensures.number)
