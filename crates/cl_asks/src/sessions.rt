@@ -4,7 +4,7 @@ ghost use Rattle.cl_edit.specs.Ranges.{IsEditInRange};
 use crate::asking::unfetched;
 use crate::words::{put_number, refused, said, unread, word};
 use cl_analyse::analyse;
-use cl_edit::{Edit, apply_edit, read_edits};
+use cl_edit::{Edit, ListedEdit, apply_edit, read_edits};
 use cl_incr::Session;
 use cl_io::{Shelf, Words};
 use cl_model::{ModelFault, SystemModel, ValidModel};
@@ -54,7 +54,7 @@ fn of_edits<L: Ledger>(
     alloc: Global,
     words: &Words,
     model: &ValidModel,
-    edits: &[Edit],
+    edits: &[ListedEdit],
     steps: &mut Steps<L>,
 ) -> Result<Text, NoMemory> {
     match model.copy(alloc) {
@@ -67,7 +67,7 @@ fn of_copy<L: Ledger>(
     alloc: Global,
     words: &Words,
     model: ValidModel,
-    edits: &[Edit],
+    edits: &[ListedEdit],
     steps: &mut Steps<L>,
 ) -> Result<Text, NoMemory> {
     match Session::start(alloc, model, steps) {
@@ -80,7 +80,7 @@ fn of_started<L: Ledger>(
     alloc: Global,
     words: &Words,
     session: Session,
-    edits: &[Edit],
+    edits: &[ListedEdit],
     steps: &mut Steps<L>,
 ) -> Result<Text, NoMemory> {
     let mut session = session;
@@ -91,7 +91,7 @@ fn of_session<L: Ledger>(
     alloc: Global,
     words: &Words,
     session: &mut Session,
-    edits: &[Edit],
+    edits: &[ListedEdit],
     steps: &mut Steps<L>,
 ) -> Result<Text, NoMemory> {
     match word(words, 1) {
@@ -104,10 +104,11 @@ fn of_session<L: Ledger>(
 fn edited<L: Ledger>(
     alloc: Global,
     session: &mut Session,
-    edits: &[Edit],
+    edits: &[ListedEdit],
     steps: &mut Steps<L>,
 ) -> Result<Text, NoMemory> {
-    for edit in edits {
+    for listed in edits {
+        let edit = &listed.edit;
         if !edit.in_range() {
             return said(alloc, "out of range");
         }
@@ -121,11 +122,12 @@ fn edited<L: Ledger>(
 fn kept<L: Ledger>(
     alloc: Global,
     session: &mut Session,
-    edits: &[Edit],
+    edits: &[ListedEdit],
     steps: &mut Steps<L>,
 ) -> Result<Text, NoMemory> {
     let mut text = Text::new(alloc);
-    for edit in edits {
+    for listed in edits {
+        let edit = &listed.edit;
         if !edit.in_range() {
             return said(alloc, "out of range");
         }
@@ -187,7 +189,7 @@ struct Tally {
 fn alike<L: Ledger>(
     alloc: Global,
     session: &mut Session,
-    edits: &[Edit],
+    edits: &[ListedEdit],
     steps: &mut Steps<L>,
 ) -> Result<Text, NoMemory> {
     let mut tally = Tally {
@@ -195,7 +197,8 @@ fn alike<L: Ledger>(
         refused: 0,
         apart: 0,
     };
-    for edit in edits {
+    for listed in edits {
+        let edit = &listed.edit;
         if !edit.in_range() {
             return said(alloc, "out of range");
         }

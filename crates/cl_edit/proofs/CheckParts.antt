@@ -9,7 +9,7 @@ use Rattle.cl_model.specs.declared.refusal.Code.TheVariants.{M20, M21, M22, M23,
 use Rattle.cl_model.specs.declared.refusal.Refusal.{Refusal}
 use Rattle.cl_model.specs.Named.{core_names, stimulus_names, label_names, task_names, chain_names, requirement_names}
 use Rattle.cl_model.specs.Place.{entry_of, at_key}
-use Rattle.cl_model.specs.Refusals.{in_order, each}
+use Rattle.cl_model.specs.Refusals.{each}
 use Rattle.cl_model.specs.ValidNames.{section_repeats, runnable_repeats, name_checks, stimulus_checks}
 use Rattle.cl_model.specs.ValidTasks.{task_checks, deadline_checks}
 use Rattle.cl_model.specs.Validity.{IsValid, lengths_check, step_check, hop_check, chain_check, requirement_check, refusals_of}
@@ -35,10 +35,6 @@ pub name_parts : (model : SystemModel) → IsValid model → AllNone (name_lists
 unfolding name_checks
 name_parts model valid = all_none (name_lists model) (names_pass model valid)
 
-pub names_are : (model : SystemModel) → name_checks model ≡ in_order (name_lists model)
-unfolding name_checks
-names_are model = refl
-
 -- ---- chains
 
 -- M43 to M45 of chain i, one by one
@@ -48,10 +44,6 @@ chain_lists model i chain =
     ∷ each (step_check model (at_key key.Runnables (entry_of part.Chain i))) chain.runnables
     ∷ each (hop_check model chain (at_key key.Labels (entry_of part.Chain i))) chain.labels
     ∷ []
-
-pub chain_is : (model : SystemModel) (i : ℕ) (chain : ChainDef) → chain_check model i chain ≡ in_order (chain_lists model i chain)
-unfolding chain_check
-chain_is model i chain = refl
 
 -- a chain that isn't refused isn't under another number
 pub chain_moves : (model : SystemModel) (i j : ℕ) (chain : ChainDef) → chain_check model i chain ≡ [] → chain_check model j chain ≡ []

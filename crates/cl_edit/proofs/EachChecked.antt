@@ -6,7 +6,7 @@ use Rattle.cl_model.specs.declared.refusal.Code.{Code}
 use Rattle.cl_model.specs.declared.refusal.Refusal.{Refusal}
 use Rattle.cl_model.specs.Refusals.{when, unless, each_from, each}
 use Rattle.cl_model.proofs.Refused.{none_before, none_behind, when_none}
-use Rattle.cl_edit.proofs.EachFacts.{each_alike, each_nothing}
+use Rattle.cl_model.proofs.EachFacts.{each_alike, each_nothing}
 
 -- ---- one item more
 

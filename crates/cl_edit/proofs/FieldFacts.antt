@@ -1,5 +1,5 @@
 -- What a single word is read as, and which words say a value.
-use Rattle.std.proofs.Common.{◌≡◌, ◌≢◌, ℕ, ◌^◌, ◌<◌, ◌≤◌, Bool, true, false, Option, Some, None, List, [], ◌∷◌, ◌++◌, length, length-append, refl, sym, ap, ◌∙◌, subst, get_or, arith}
+use Rattle.std.proofs.Common.{◌≡◌, ◌≢◌, ℕ, ◌^◌, ◌<◌, ◌≤◌, Bool, true, false, Option, Some, None, List, [], ◌∷◌, ◌++◌, length, refl, sym, ap, ◌∙◌, subst, get_or, arith}
 use Rattle.std.specs.Prelude.{decimal, codes, nat_le, ◌&&◌, cond, if◌then◌else◌, IfSome}
 use Rattle.std.specs.Str.{bytes_eq}
 use Rattle.std.specs.Str.Parse.{digits_value}
@@ -15,18 +15,22 @@ use Rattle.std.proofs.lemmas.List.Sums.{list_all-from_AllPass}
 use Rattle.cl_text.specs.Line.{is_graphic}
 use Rattle.cl_text.proofs.LineLemmas.{graphic_decimal}
 use Rattle.cl_text.proofs.DecimalLemmas.{grammar_of_decimal}
-use Rattle.cl_model.specs.declared.limits.TheConstants.{MOST_TICKS, MOST_PRIORITY, LEAST_JOBS_OF_BURST, MOST_JOBS_OF_BURST}
+use Rattle.cl_model.specs.declared.limits.TheConstants.{MOST_TICKS, MOST_PRIORITY, MOST_REQUIRED, LEAST_JOBS_OF_BURST, MOST_JOBS_OF_BURST}
 use Rattle.cl_model.specs.declared.task.AccessKind.{AccessKind}
 use Rattle.cl_model.specs.declared.task.AccessKind.TheVariants.{Explicit, Implicit, Timed}
 use Rattle.cl_model.specs.Ranges.{IsTime, IsBurstCount}
 use Rattle.cl_model.specs.Name.{is_name_byte, is_name, IsName}
-use Rattle.cl_model.specs.Kinds.{access_word}
+use Rattle.cl_model.specs.declared.chain.LengthKind.TheVariants.{Reaction, Age, Reduced}
+use Rattle.cl_model.specs.declared.chain.RequirementKind.{RequirementKind}
+use Rattle.cl_model.specs.declared.chain.RequirementKind.TheVariants.{Length, Delay}
+use Rattle.cl_model.specs.Kinds.{access_word, requirement_word}
 use Rattle.cl_model.specs.Reading.Checks.{meaning_of}
 use Rattle.cl_model.proofs.ListFacts.{both_pass}
 use Rattle.cl_model.proofs.Names.{name_bytes}
+use Rattle.cl_edit.specs.Said.{has_bytes}
 use Rattle.cl_edit.specs.Lines.{flag_word, deadline_word}
 use Rattle.cl_edit.specs.Inner.Parts.{parts}
-use Rattle.cl_edit.specs.Inner.Fields.{name_in, number_in, time_in, flag_in, access_in, deadline_in, names_in}
+use Rattle.cl_edit.specs.Inner.Fields.{name_in, number_in, time_in, flag_in, access_in, deadline_in, names_in, requirement_kind_in}
 
 -- a choice of a value or none
 pub chosen : {X : Type 0} (b : Bool) (x y : X) → cond b (Some x) None ≡ Some y → (b ≡ true) × (x ≡ y)
@@ -88,27 +92,6 @@ no_number least most word none =
 
 -- ---- lists of names
 
-pub no_names_said : (most : ℕ) (word : List ℕ) → bytes_eq word (codes "*") ≡ true → names_in most word ≡ Some []
-no_names_said most word star = rw star refl
-
--- a part that isn't a name
-pub bad_name : (most : ℕ) (word : List ℕ) (names : List (List ℕ)) (part : List ℕ) (more : List (List ℕ)) → bytes_eq word (codes "*") ≡ false
-    → parts 0x2C word ≡ names ++ part ∷ more → is_name part ≡ false → names_in most word ≡ None
-bad_name most word names part more star are bad =
-    let all : list_all is_name (parts 0x2C word) ≡ false = ap (list_all is_name) are ∙ list_all-append is_name names (part ∷ more) ∙ rw bad (both_false (list_all is_name names)) in
-    rw star (not_chosen (nat_le (length (parts 0x2C word)) most && list_all is_name (parts 0x2C word)) (parts 0x2C word) (λ passes. grind (arith, nat_tests, all, passes)))
-  where
-    both_false : (b : Bool) → (b && false) ≡ false
-    both_false true = refl
-    both_false false = refl
-
--- one part too many
-pub many_names : (most : ℕ) (word : List ℕ) (names : List (List ℕ)) (part : List ℕ) (more : List (List ℕ)) → bytes_eq word (codes "*") ≡ false
-    → parts 0x2C word ≡ names ++ part ∷ more → length names ≡ most → names_in most word ≡ None
-many_names most word names part more star are size =
-    let long : most < length (parts 0x2C word) = omega (arith, ap length are, length-append names (part ∷ more)) in
-    rw star (not_chosen (nat_le (length (parts 0x2C word)) most && list_all is_name (parts 0x2C word)) (parts 0x2C word) (λ passes. grind (arith, nat_tests, long, passes)))
-
 -- all parts are names, and few enough
 pub names_read : (most : ℕ) (word : List ℕ) (names : List (List ℕ)) → bytes_eq word (codes "*") ≡ false → parts 0x2C word ≡ names
     → list_all is_name names ≡ true → length names ≤ most → names_in most word ≡ Some names
@@ -123,31 +106,53 @@ names_more names name all one = list_all-append is_name names (name ∷ []) ∙ 
 
 -- ---- which words say a value
 
--- a value is read of one word alone, and that word is of graphic bytes
+-- a text has bytes, and all of them are graphic
+abbrev pub is_word : List ℕ → Bool
+is_word word = has_bytes word && list_all is_graphic word
+
+pub both_true : (a b : Bool) → a ≡ true → b ≡ true → (a && b) ≡ true
+both_true a b one other = rw (one, other) refl
+
+some_bytes : (text : List ℕ) → text ≢ [] → has_bytes text ≡ true
+some_bytes [] some = absurd (some refl)
+some_bytes (byte ∷ bytes) some = refl
+
+-- a value is read of one word alone
 pub record IsField {X : Type 0} (read : List ℕ → Option X) (write : X → List ℕ) (Good : X → Type 0) : Type 0 where
   pub said : (word : List ℕ) (x : X) → read word ≡ Some x → (word ≡ write x) × Good x
   pub back : (x : X) → Good x → read (write x) ≡ Some x
-  pub graphic : (x : X) → Good x → list_all is_graphic (write x) ≡ true
+  pub word : (x : X) → Good x → is_word (write x) ≡ true
 
 graphic_byte : (byte : ℕ) → is_name_byte byte ≡ true → is_graphic byte ≡ true
 graphic_byte byte is = grind (arith, nat_tests)
 
 graphic_bytes : (name : List ℕ) → list_all is_name_byte name ≡ true → list_all is_graphic name ≡ true
 graphic_bytes [] is = refl
-graphic_bytes (byte ∷ name) is = rw (graphic_byte byte (both_pass (is_name_byte byte) (list_all is_name_byte name) is).0, graphic_bytes name (both_pass (is_name_byte byte) (list_all is_name_byte name) is).1) refl
+graphic_bytes (byte ∷ name) is =
+    rw (
+      graphic_byte byte (both_pass (is_name_byte byte) (list_all is_name_byte name) is).0,
+      graphic_bytes name (both_pass (is_name_byte byte) (list_all is_name_byte name) is).1,
+    )
+    refl
+
+name_some : (name : List ℕ) → IsName name → has_bytes name ≡ true
+name_some [] named = absurd (cc)
+name_some (byte ∷ bytes) named = refl
 
 pub name_field : IsField name_in (λ name. name) IsName
 name_field = record {
   said = λ word name is. let said = name_said word name is in (said.1, subst (λ n. is_name n ≡ true) said.1 said.0);
   back = λ name named. rw named refl;
-  graphic = λ name named. graphic_bytes name (name_bytes name named);
+  word = λ name named. both_true (has_bytes name) (list_all is_graphic name) (name_some name named) (graphic_bytes name (name_bytes name named));
 }
 
 pub number_field : (least most : ℕ) → most < 2 ^ 64 → IsField (number_in least most) decimal (λ n. (least ≤ n) × (n ≤ most))
 number_field least most small = record {
   said = λ word n is. let said = number_said least most word n is in (said.0, (said.1, said.2));
   back = λ n within. number_read least most n (omega arith) within.0 within.1;
-  graphic = λ n within. list_all-from_AllPass is_graphic (decimal n) (graphic_decimal n (omega arith));
+  word =
+      λ n within. both_true (has_bytes (decimal n)) (list_all is_graphic (decimal n)) (some_bytes (decimal n) (grammar_of_decimal (decimal n) n (omega arith) refl).not_empty)
+      (list_all-from_AllPass is_graphic (decimal n) (graphic_decimal n (omega arith)));
 }
 
 pub time_field : IsField time_in decimal IsTime
@@ -158,6 +163,9 @@ ticks_field = number_field 0 MOST_TICKS (omega arith)
 
 pub priority_field : IsField (number_in 0 MOST_PRIORITY) decimal (λ n. (0 ≤ n) × (n ≤ MOST_PRIORITY))
 priority_field = number_field 0 MOST_PRIORITY (omega arith)
+
+pub most_field : IsField (number_in 0 MOST_REQUIRED) decimal (λ n. (0 ≤ n) × (n ≤ MOST_REQUIRED))
+most_field = number_field 0 MOST_REQUIRED (omega arith)
 
 pub count_field : IsField (number_in LEAST_JOBS_OF_BURST MOST_JOBS_OF_BURST) decimal IsBurstCount
 count_field = number_field LEAST_JOBS_OF_BURST MOST_JOBS_OF_BURST (omega arith)
@@ -174,12 +182,12 @@ flag_back : (flag : Bool) → Unit {0} → flag_in (flag_word flag) ≡ Some fla
 flag_back true _ = refl
 flag_back false _ = refl
 
-flag_graphic : (flag : Bool) → Unit {0} → list_all is_graphic (flag_word flag) ≡ true
-flag_graphic true _ = refl
-flag_graphic false _ = refl
+flag_is_word : (flag : Bool) → Unit {0} → is_word (flag_word flag) ≡ true
+flag_is_word true _ = refl
+flag_is_word false _ = refl
 
 pub flag_field : IsField flag_in flag_word (λ flag. Unit {0})
-flag_field = record { said = flag_said; back = flag_back; graphic = flag_graphic }
+flag_field = record { said = flag_said; back = flag_back; word = flag_is_word }
 
 access_said : (word : List ℕ) (access : AccessKind) → access_in word ≡ Some access → (word ≡ access_word access) × Unit {0}
 access_said word access is =
@@ -197,13 +205,44 @@ access_back Explicit _ = refl
 access_back Implicit _ = refl
 access_back Timed _ = refl
 
-access_graphic : (access : AccessKind) → Unit {0} → list_all is_graphic (access_word access) ≡ true
-access_graphic Explicit _ = refl
-access_graphic Implicit _ = refl
-access_graphic Timed _ = refl
+access_is_word : (access : AccessKind) → Unit {0} → is_word (access_word access) ≡ true
+access_is_word Explicit _ = refl
+access_is_word Implicit _ = refl
+access_is_word Timed _ = refl
 
 pub access_field : IsField access_in access_word (λ access. Unit {0})
-access_field = record { said = access_said; back = access_back; graphic = access_graphic }
+access_field = record { said = access_said; back = access_back; word = access_is_word }
+
+-- ---- kinds of requirement
+
+requirement_said : (word : List ℕ) (kind : RequirementKind) → requirement_kind_in word ≡ Some kind → (word ≡ requirement_word kind) × Unit {0}
+requirement_said word kind is =
+    choose (bytes_eq (codes "reaction") word) (Some (Length Reaction)) (meaning_of ((codes "age", Length Age) ∷ (codes "reduced", Length Reduced) ∷ (codes "delay", Delay) ∷ []) word)
+    (Some kind) ((word ≡ requirement_word kind) × Unit {0}) is
+    (λ here yes. (sym (of_word (codes "reaction") word here) ∙ ap requirement_word (some_same (Length Reaction) kind yes), tt))
+    (λ other. choose (bytes_eq (codes "age") word) (Some (Length Age)) (meaning_of ((codes "reduced", Length Reduced) ∷ (codes "delay", Delay) ∷ []) word)
+    (Some kind) ((word ≡ requirement_word kind) × Unit {0}) other
+    (λ here yes. (sym (of_word (codes "age") word here) ∙ ap requirement_word (some_same (Length Age) kind yes), tt))
+    (λ other. choose (bytes_eq (codes "reduced") word) (Some (Length Reduced)) (meaning_of ((codes "delay", Delay) ∷ []) word)
+    (Some kind) ((word ≡ requirement_word kind) × Unit {0}) other
+    (λ here yes. (sym (of_word (codes "reduced") word here) ∙ ap requirement_word (some_same (Length Reduced) kind yes), tt))
+    (λ last. let said = chosen (bytes_eq (codes "delay") word) Delay kind last in
+    (sym (of_word (codes "delay") word said.0) ∙ ap requirement_word said.1, tt))))
+
+requirement_back : (kind : RequirementKind) → Unit {0} → requirement_kind_in (requirement_word kind) ≡ Some kind
+requirement_back (Length Reaction) _ = refl
+requirement_back (Length Age) _ = refl
+requirement_back (Length Reduced) _ = refl
+requirement_back Delay _ = refl
+
+requirement_is_word : (kind : RequirementKind) → Unit {0} → is_word (requirement_word kind) ≡ true
+requirement_is_word (Length Reaction) _ = refl
+requirement_is_word (Length Age) _ = refl
+requirement_is_word (Length Reduced) _ = refl
+requirement_is_word Delay _ = refl
+
+pub requirement_field : IsField requirement_kind_in requirement_word (λ kind. Unit {0})
+requirement_field = record { said = requirement_said; back = requirement_back; word = requirement_is_word }
 
 -- ---- a deadline
 
@@ -217,7 +256,8 @@ decimal_apart n small = false_from_ne_true _ (λ same.
     let digit = (grammar_of_decimal (decimal n) n small refl).digits 0 0 (omega (arith, ap length star)) in
     absurd (star_digit (subst (λ w. IsAsciiDigit (get_or w 0 0)) star digit)))
 
-deadline_of_time : (word : List ℕ) (deadline : Option ℕ) (o : Option ℕ) → time_in word ≡ o → option_map Some o ≡ Some deadline → (word ≡ deadline_word deadline) × IfSome deadline IsTime
+deadline_of_time : (word : List ℕ) (deadline : Option ℕ) (o : Option ℕ) → time_in word ≡ o → option_map Some o ≡ Some deadline
+    → (word ≡ deadline_word deadline) × IfSome deadline IsTime
 deadline_of_time word deadline None time is = absurd (cc)
 deadline_of_time word deadline (Some ticks) time is =
     let said = time_field.said word ticks time in
@@ -233,9 +273,9 @@ deadline_back : (deadline : Option ℕ) → IfSome deadline IsTime → deadline_
 deadline_back None _ = refl
 deadline_back (Some ticks) time = rw (decimal_apart ticks (omega (arith, time.1)), time_field.back ticks time) refl
 
-deadline_graphic : (deadline : Option ℕ) → IfSome deadline IsTime → list_all is_graphic (deadline_word deadline) ≡ true
-deadline_graphic None _ = refl
-deadline_graphic (Some ticks) time = time_field.graphic ticks time
+deadline_is_word : (deadline : Option ℕ) → IfSome deadline IsTime → is_word (deadline_word deadline) ≡ true
+deadline_is_word None _ = refl
+deadline_is_word (Some ticks) time = time_field.word ticks time
 
 pub deadline_field : IsField deadline_in deadline_word (λ deadline. IfSome deadline IsTime)
-deadline_field = record { said = deadline_said; back = deadline_back; graphic = deadline_graphic }
+deadline_field = record { said = deadline_said; back = deadline_back; word = deadline_is_word }

@@ -57,10 +57,6 @@ pub kind_passes : (model : SystemModel) (name : List ℕ) (s : ℕ) (sets : Stim
     → sets (stimulus_at model s).kind ≡ true → kind_found (kind_named model name) sets ≡ []
 kind_passes model name s sets e good = ap (λ o. kind_found o sets) (kind_there model name s e) ∙ ap (λ b. unless b E3 top) good
 
-pub kind_fails : (model : SystemModel) (name : List ℕ) (s : ℕ) (sets : StimulusKind → Bool) → index_of name (stimulus_names model) ≡ Some s
-    → sets (stimulus_at model s).kind ≡ false → first (kind_found (kind_named model name) sets) ≡ Some (record { code = E3; place = top })
-kind_fails model name s sets e bad = ap (λ o. first (kind_found o sets)) (kind_there model name s e) ∙ ap (λ b. first (unless b E3 top)) bad
-
 pub kind_missing : (model : SystemModel) (name : List ℕ) (sets : StimulusKind → Bool) → index_of name (stimulus_names model) ≡ None
     → first (kind_found (kind_named model name) sets) ≡ Some (record { code = E2; place = top })
 kind_missing model name sets e = ap (λ o. first (kind_found (option_map (λ stimulus. stimulus.kind) (option_and_then (slice_get model.stimuli) o)) sets)) e

@@ -16,8 +16,8 @@ use Rattle.cl_model.proofs.ListFacts.{same_tests}
 use Rattle.cl_edit.specs.declared.pace.Retiming.TheVariants as change
 use Rattle.cl_edit.specs.Inner.Paces.{with_retiming}
 use Rattle.cl_edit.specs.Inner.Places.{is_beyond, IsFirstBeyond}
-use Rattle.cl_edit.proofs.OutpacedTasks.{IsKnown, names_same}
-use Rattle.cl_edit.proofs.PairFacts.{change_known, core_is, tasks_kept}
+use Rattle.cl_edit.proofs.RefusedTasks.{IsKnown, names_same}
+use Rattle.cl_edit.proofs.RetimedTasks.{change_known, core_is, tasks_kept}
 
 -- ---- counts
 

@@ -17,22 +17,18 @@ use Rattle.cl_model.specs.Refusals.{when, in_order}
 use Rattle.cl_model.specs.Timing.{least_distance, greatest_jitter}
 use Rattle.cl_model.specs.ValidTasks.{task_key, late_check, release_check, is_outpaced_by, deadline_check, deadline_checks}
 use Rattle.cl_model.specs.Validity.{IsValid, refusals_of}
-use Rattle.cl_model.proofs.ListFacts.{same_tests}
+use Rattle.cl_model.proofs.ListFacts.{both_pass, both_true, same_tests}
 use Rattle.cl_edit.specs.declared.pace.Retiming.{Retiming}
 use Rattle.cl_edit.specs.declared.pace.Retiming.TheVariants as change
 use Rattle.cl_edit.specs.FewChecks.{is_on_stimulus, number_refusals, limit_refusals, kind_deadline_refusals, kind_refusals}
-use Rattle.cl_edit.specs.Inner.Paces.{is_on, IsPair, is_outpaced, pace_after, limit_checks, limits_on, all_limits_on}
-use Rattle.cl_edit.proofs.EachFacts.{each_alike}
+use Rattle.cl_edit.specs.declared.pairs.PairFault.TheVariants.{Outpaced}
+use Rattle.cl_edit.specs.Inner.Paces.{is_on, pace_after, limit_checks, limits_on, all_limits_on}
+use Rattle.cl_edit.specs.Inner.Pairs.{IsPair, is_refused}
+use Rattle.cl_model.proofs.EachFacts.{each_alike}
 use Rattle.cl_edit.proofs.LimitChecks.{kind_left}
-use Rattle.cl_edit.proofs.OutpacedTasks.{any_among, among, pair_of}
-use Rattle.cl_edit.proofs.PairFacts.{change_known, pair_touched}
-
-and_parts : (a b : Bool) → (a && b) ≡ true → (a ≡ true) × (b ≡ true)
-and_parts true b h = (refl, h)
-and_parts false b h = absurd cc
-
-and_both : (a b : Bool) → a ≡ true → b ≡ true → (a && b) ≡ true
-and_both a b e f = cc
+use Rattle.cl_edit.proofs.RefusedPairs.{pair_touched}
+use Rattle.cl_edit.proofs.RefusedTasks.{any_among, among, pair_of}
+use Rattle.cl_edit.proofs.RetimedTasks.{change_known}
 
 module _ (model : SystemModel) (valid : IsValid model) (s : ℕ) (kind : StimulusKind) (within : s < length model.stimuli) where
   one_limit : (k : ℕ) → limits_on model (change.Kind s kind) s k
@@ -51,7 +47,7 @@ module _ (model : SystemModel) (valid : IsValid model) (s : ℕ) (kind : Stimulu
 
   -- where M42 refuses a task, it or one above it names the stimulus
   touched_pair : (k : ℕ) → k < length model.tasks
-      → is_outpaced (with_kind model s (λ _. kind)) k
+      → is_refused Outpaced (with_kind model s (λ _. kind)) k
       ≡ list_any (λ other. (is_on_stimulus model s (task_at model k) || is_on_stimulus model s other) && is_outpaced_by (with_kind model s (λ _. kind)) (task_at model k) other) (tasks_on (task_at model k).core model.tasks)
   touched_pair k known =
       let c : Retiming = change.Kind s kind in
@@ -63,12 +59,12 @@ module _ (model : SystemModel) (valid : IsValid model) (s : ℕ) (kind : Stimulu
       same_tests (list_any out (tasks_on task.core model.tasks)) (list_any both (tasks_on task.core model.tasks))
       (λ h.
       let a = among out own model.tasks no_task h in
-      let pair : IsPair new k a.place = pair_of new (change_known model valid c within) k a.place known a.within a.passes ((bytes_decides task.core (task_at model a.place).core).0 a.kept) in
+      let pair : IsPair Outpaced new k a.place = pair_of new (change_known model valid c within) k a.place known a.within a.passes ((bytes_decides task.core (task_at model a.place).core).0 a.kept) in
       any_among both own model.tasks a.place no_task a.within a.kept
-      (and_both (is_on_stimulus model s task || is_on_stimulus model s (task_at model a.place)) (out (task_at model a.place)) (pair_touched model valid c within k a.place pair) a.passes))
+      (both_true (is_on_stimulus model s task || is_on_stimulus model s (task_at model a.place)) (out (task_at model a.place)) (pair_touched Outpaced model valid c within k a.place pair) a.passes))
       (λ h.
       let a = among both own model.tasks no_task h in
-      any_among out own model.tasks a.place no_task a.within a.kept (and_parts (is_on_stimulus model s task || is_on_stimulus model s (task_at model a.place)) (out (task_at model a.place)) a.passes).1)
+      any_among out own model.tasks a.place no_task a.within a.kept (both_pass (is_on_stimulus model s task || is_on_stimulus model s (task_at model a.place)) (out (task_at model a.place)) a.passes).1)
 
   deadlines_are_few : deadline_checks (with_kind model s (λ _. kind)) ≡ kind_deadline_refusals model s kind
   deadlines_are_few =

@@ -27,12 +27,13 @@ use Rattle.cl_edit.specs.declared.pace.Retiming.{Retiming}
 use Rattle.cl_edit.specs.declared.pace.Retiming.TheVariants as change
 use Rattle.cl_edit.specs.FewChecks.{number_refusals}
 use Rattle.cl_edit.specs.Inner.Paces.{with_retiming, IsRetimingOf, is_on, kind_after, pace_after, limit_checks, limits_on, all_limits_on}
-use Rattle.cl_edit.proofs.EachFacts.{each_alike, each_only}
-use Rattle.cl_edit.proofs.BareModels.{IsAlike}
-use Rattle.cl_edit.proofs.TaskChecks.{times_checks, timing_check, task_passes, stimuli_pass, times_left_of}
+use Rattle.cl_model.proofs.EachFacts.{each_alike, each_only}
+use Rattle.cl_model.specs.NamedAlike.{AreNamedAlike}
+use Rattle.cl_model.proofs.PassedChecks.{stimuli_pass}
+use Rattle.cl_model.proofs.ChecksLeft.{times_checks, timing_check, task_passes, times_left_of}
 use Rattle.cl_edit.proofs.TaskSetters.{map_set_same, task_times}
 use Rattle.cl_edit.proofs.ChangedTasks.{kind_known, kind_after_change}
-use Rattle.cl_edit.proofs.PairFacts.{kind_is, given_is}
+use Rattle.cl_edit.proofs.RetimedTasks.{kind_is, given_is}
 
 -- M32 and M33 of a task after a change
 pub limits_are : (model : SystemModel) → IsValid model → (c : Retiming) → IsRetimingOf model c → (k : ℕ) → k < length model.tasks
@@ -74,7 +75,7 @@ module _ (model : SystemModel) (valid : IsValid model) (s : ℕ) (kind : Stimulu
   changed : StimulusDef
   changed = record (stimulus_at model s) { kind = kind }
 
-  pub kind_alike : IsAlike model (with_kind model s (λ _. kind))
+  pub kind_alike : AreNamedAlike model (with_kind model s (λ _. kind))
   kind_alike = record {
     cores = refl;
     stimuli = map_set_same (λ (x : StimulusDef). x.name) model.stimuli s (record (stimulus_at model s) { kind = kind }) no_stimulus_def refl;

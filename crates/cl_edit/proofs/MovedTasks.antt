@@ -24,9 +24,9 @@ use Rattle.cl_edit.specs.FewChecks.{place_refusals}
 use Rattle.cl_edit.specs.Inner.Paces.{with_retiming}
 use Rattle.cl_edit.specs.Inner.Places.{place_checks}
 use Rattle.cl_edit.proofs.FoundFacts.{missing_unknown}
-use Rattle.cl_edit.proofs.OutpacedTasks.{each_first}
+use Rattle.cl_edit.proofs.RefusedTasks.{each_first}
 use Rattle.cl_edit.proofs.PlaceLaws.{move_needs_few}
-use Rattle.cl_edit.proofs.TaskChecks.{task_passes}
+use Rattle.cl_model.proofs.ChecksLeft.{task_passes}
 
 move_left : (model : SystemModel) → IsValid model → (i : ℕ) (core : List ℕ) (priority : ℕ)
     → refusals_of (with_place model i core priority) ≡ place_checks (with_place model i core priority) ++ deadline_checks (with_place model i core priority)

@@ -1,6 +1,6 @@
 -- Edits whose names are of the name grammar keep the names of a model so.
-use Rattle.std.proofs.Common.{◌≡◌, ℕ, List, [], ◌∷◌, ◌++◌, subst, get_or, set}
-use Rattle.std.specs.Prelude.{All, remove, Ok}
+use Rattle.std.proofs.Common.{◌≡◌, ℕ, List, [], ◌∷◌, ◌++◌, map, subst, get_or, set}
+use Rattle.std.specs.Prelude.{Option, Some, None, unwrap_or, All, remove, Ok}
 use Rattle.std.proofs.lemmas.List.Elements.{All-nil, All-cons, All-append}
 use Rattle.cl_model.specs.declared.model.SystemModel.{SystemModel}
 use Rattle.cl_model.specs.declared.stimulus.StimulusDef.{StimulusDef}
@@ -8,14 +8,16 @@ use Rattle.cl_model.specs.declared.stimulus.StimulusKind.{StimulusKind}
 use Rattle.cl_model.specs.declared.task.RunnableDef.{RunnableDef}
 use Rattle.cl_model.specs.declared.task.TaskDef.{TaskDef}
 use Rattle.cl_model.specs.declared.chain.ChainDef.{ChainDef}
-use Rattle.cl_model.specs.AreNamed.{IsRunnableNamed, IsTaskNamed, IsChainNamed, AreNamed}
-use Rattle.cl_model.specs.ByNumber.{stimulus_number, no_task, no_runnable}
+use Rattle.cl_model.specs.declared.chain.RequirementDef.{RequirementDef}
+use Rattle.cl_model.specs.declared.changes.TaskPriority.{TaskPriority}
+use Rattle.cl_model.specs.AreNamed.{IsRunnableNamed, IsTaskNamed, IsChainNamed, IsRequirementNamed, AreNamed}
+use Rattle.cl_model.specs.ByNumber.{stimulus_number, requirement_named, no_task, no_runnable}
 use Rattle.cl_model.specs.Groups.{step_named}
 use Rattle.cl_model.specs.Name.{IsName}
 use Rattle.cl_edit.specs.declared.edit.Edit.{Edit}
-use Rattle.cl_edit.specs.declared.edit.Edit.TheVariants.{Range, Whole, Period, Offset, Jitter, Distances, Burst, Deadline, Swap, Move, Kind, AddTask, DropTask, AddChain, DropChain, Report}
-use Rattle.cl_model.specs.Changes.{no_stimulus_def, with_period, with_offset, with_jitter, with_distances, with_burst}
-use Rattle.cl_edit.specs.Changing.{change_of, task_number, chain_number}
+use Rattle.cl_edit.specs.declared.edit.Edit.TheVariants.{Range, Whole, Period, Offset, Jitter, Distances, Burst, Deadline, Swap, Priorities, Move, Kind, AddTask, DropTask, AddChain, DropChain, Requirement, DropRequirement, Report, Tighten, Verify}
+use Rattle.cl_model.specs.Changes.{no_stimulus_def, with_period, with_offset, with_jitter, with_distances, with_burst, with_priority, with_priorities}
+use Rattle.cl_edit.specs.Changing.{with_change, change_of, task_number, chain_number, by_number, exchanged, requirement_change}
 use Rattle.cl_edit.specs.Edited.{with_edit, edited}
 use Rattle.cl_edit.specs.Reading.{IsEditNamed}
 use Rattle.cl_edit.proofs.EditedValid.{made_is}
@@ -23,12 +25,15 @@ use Rattle.cl_edit.proofs.RangeFacts.{changed_all, removed_all}
 
 -- ---- sections
 
--- other tasks, stimuli and chains
+-- other tasks, chains and requirements
 other_tasks : (model : SystemModel) (tasks : List TaskDef) → All IsTaskNamed tasks → AreNamed model → AreNamed (record model { tasks = tasks })
 other_tasks model tasks all h = record { cores = h.cores; stimuli = h.stimuli; labels = h.labels; tasks = all; chains = h.chains; requirements = h.requirements }
 
 other_chains : (model : SystemModel) (chains : List ChainDef) → All IsChainNamed chains → AreNamed model → AreNamed (record model { chains = chains })
 other_chains model chains all h = record { cores = h.cores; stimuli = h.stimuli; labels = h.labels; tasks = h.tasks; chains = all; requirements = h.requirements }
+
+other_requirements : (model : SystemModel) (requirements : List RequirementDef) → All IsRequirementNamed requirements → AreNamed model → AreNamed (record model { requirements = requirements })
+other_requirements model requirements all h = record { cores = h.cores; stimuli = h.stimuli; labels = h.labels; tasks = h.tasks; chains = h.chains; requirements = all }
 
 -- a stimulus of another kind
 other_kind : (model : SystemModel) (s : ℕ) (f : StimulusKind → StimulusKind) → AreNamed model
@@ -57,8 +62,19 @@ other_runnable p f keep t h = record {
   runnables = changed_all IsRunnableNamed f keep t.runnables p no_runnable h.runnables;
 }
 
-other_priority : (priority : ℕ) (t : TaskDef) → IsTaskNamed t → IsTaskNamed (record t { priority = priority })
-other_priority priority t h = record { name = h.name; core = h.core; stimulus = h.stimulus; runnables = h.runnables }
+-- tasks of other priorities
+other_priorities : (model : SystemModel) (priorities : List TaskPriority) → AreNamed model → AreNamed (with_priorities model priorities)
+other_priorities model [] h = h
+other_priorities model (it ∷ priorities) h =
+    other_priorities (with_priority model it.task it.priority) priorities
+    (other_task model it.task (λ t. record t { priority = it.priority }) (λ t k. record { name = k.name; core = k.core; stimulus = k.stimulus; runnables = k.runnables }) h)
+
+-- a requirement that is set
+other_requirement : (model : SystemModel) (requirement : RequirementDef) (place : Option ℕ) → IsRequirementNamed requirement → AreNamed model → AreNamed (with_change model (requirement_change place requirement))
+other_requirement model requirement (Some r) good h =
+    other_requirements model (set model.requirements r requirement) (changed_all IsRequirementNamed (λ _. requirement) (λ _ _. good) model.requirements r requirement h.requirements) h
+other_requirement model requirement None good h = other_requirements model (model.requirements ++ requirement ∷ [])
+    (All-append IsRequirementNamed model.requirements (requirement ∷ []) h.requirements (All-cons IsRequirementNamed requirement [] good (All-nil IsRequirementNamed))) h
 
 -- ---- edits
 
@@ -78,12 +94,8 @@ edits_keep_names model (Burst stimulus period count distance) h good = other_kin
 edits_keep_names model (Deadline task deadline) h good =
     other_task model (task_number model task) (λ t. record t { deadline = deadline })
     (λ t k. record { name = k.name; core = k.core; stimulus = k.stimulus; runnables = k.runnables }) h
-edits_keep_names model (Swap one other) h good =
-    let i : ℕ = task_number model one in
-    let b : ℕ = (get_or model.tasks (task_number model other) no_task).priority in
-    let a : ℕ = (get_or model.tasks i no_task).priority in
-    other_task (record model { tasks = set model.tasks i (record (get_or model.tasks i no_task) { priority = b }) }) (task_number model other)
-    (λ t. record t { priority = a }) (other_priority a) (other_task model i (λ t. record t { priority = b }) (other_priority b) h)
+edits_keep_names model (Swap one other) h good = other_priorities model (exchanged model (task_number model one) (task_number model other)) h
+edits_keep_names model (Priorities priorities) h good = other_priorities model (map (by_number model) priorities) h
 edits_keep_names model (Move task core priority) h good =
     other_task model (task_number model task) (λ t. record t { core = core; priority = priority })
     (λ t k. record { name = k.name; core = good.1; stimulus = k.stimulus; runnables = k.runnables }) h
@@ -96,7 +108,13 @@ edits_keep_names model (DropTask task) h good = other_tasks model (remove model.
 edits_keep_names model (AddChain chain) h good = other_chains model (model.chains ++ chain ∷ [])
     (All-append IsChainNamed model.chains (chain ∷ []) h.chains (All-cons IsChainNamed chain [] good (All-nil IsChainNamed))) h
 edits_keep_names model (DropChain chain) h good = other_chains model (remove model.chains (chain_number model chain)) (removed_all IsChainNamed model.chains (chain_number model chain) h.chains) h
+edits_keep_names model (Requirement requirement) h good = other_requirement model requirement (requirement_named model requirement.name) good h
+edits_keep_names model (DropRequirement requirement) h good =
+    let r = unwrap_or (requirement_named model requirement) 0 in
+    other_requirements model (remove model.requirements r) (removed_all IsRequirementNamed model.requirements r h.requirements) h
 edits_keep_names model Report h good = h
+edits_keep_names model Tighten h good = h
+edits_keep_names model Verify h good = h
 
 pub edited_named : (model : SystemModel) (edit : Edit) (changed : SystemModel) → AreNamed model → IsEditNamed edit → edited model edit ≡ Ok changed → AreNamed changed
 edited_named model edit changed named good is = subst AreNamed (made_is model edit changed is) (edits_keep_names model edit named good)

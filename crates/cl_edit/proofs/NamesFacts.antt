@@ -11,11 +11,12 @@ use Rattle.cl_text.specs.Line.{is_graphic}
 use Rattle.cl_model.proofs.Names.{name_bytes}
 use Rattle.cl_model.specs.Name.{is_name_byte, is_name, IsName}
 use Rattle.cl_model.proofs.ListFacts.{both_pass}
+use Rattle.cl_edit.specs.Said.{has_bytes}
 use Rattle.cl_edit.specs.Lines.{names_word}
 use Rattle.cl_edit.specs.Inner.Parts.{parts}
 use Rattle.cl_edit.specs.Inner.Fields.{names_in}
 use Rattle.cl_edit.proofs.PartFacts.{Lacks, some_part, joined_parts, parts_joined}
-use Rattle.cl_edit.proofs.FieldFacts.{IsField, name_field, choose, chosen, some_same, of_word, le_of, names_read}
+use Rattle.cl_edit.proofs.FieldFacts.{IsField, is_word, both_true, name_field, choose, chosen, some_same, of_word, le_of, names_read}
 
 -- what passes a test that a byte fails lacks the byte
 pub lacks_of : (c : ℕ) (p : ℕ → Bool) (word : List ℕ) → p c ≡ false → list_all p word ≡ true → Lacks c word
@@ -26,12 +27,28 @@ lacks_of c p word fails passes = λ k d within. false_from_ne_true _ (λ same.
     cc)
 
 -- words, joined, are of graphic bytes
-pub graphic_joined : (s : ℕ) (words : List (List ℕ)) → is_graphic s ≡ true → list_all (list_all is_graphic) words ≡ true → list_all is_graphic (join_with_byte s words) ≡ true
+pub graphic_joined : (s : ℕ) (words : List (List ℕ)) → is_graphic s ≡ true → list_all (list_all is_graphic) words ≡ true
+    → list_all is_graphic (join_with_byte s words) ≡ true
 graphic_joined s [] graphic all = refl
 graphic_joined s (word ∷ []) graphic all = (both_pass (list_all is_graphic word) true all).0
 graphic_joined s (word ∷ next ∷ words) graphic all =
     let two = both_pass (list_all is_graphic word) (list_all (list_all is_graphic) (next ∷ words)) all in
     list_all-append is_graphic word (s ∷ join_with_byte s (next ∷ words)) ∙ rw (two.0, graphic, graphic_joined s (next ∷ words) graphic two.1) refl
+
+-- words have bytes, all of them graphic
+pub words_parts : (words : List (List ℕ)) → list_all is_word words ≡ true → (list_all has_bytes words ≡ true) × (list_all (list_all is_graphic) words ≡ true)
+words_parts [] all = (refl, refl)
+words_parts (word ∷ words) all =
+    let two = both_pass (is_word word) (list_all is_word words) all in
+    let one = both_pass (has_bytes word) (list_all is_graphic word) two.0 in
+    let more = words_parts words two.1 in
+    (both_true (has_bytes word) (list_all has_bytes words) one.0 more.0, both_true (list_all is_graphic word) (list_all (list_all is_graphic) words) one.1 more.1)
+
+-- so words, joined, have bytes
+pub some_joined : (s : ℕ) (word : List ℕ) (words : List (List ℕ)) → list_all has_bytes (word ∷ words) ≡ true → has_bytes (join_with_byte s (word ∷ words)) ≡ true
+some_joined s [] words all = absurd (cc)
+some_joined s (byte ∷ bytes) [] all = refl
+some_joined s (byte ∷ bytes) (next ∷ words) all = refl
 
 -- ---- names
 
@@ -53,7 +70,8 @@ names_said most word names is =
 
 comma_free : (names : List (List ℕ)) → All IsName names → All (Lacks 0x2C) names
 comma_free [] named = All-nil (Lacks 0x2C)
-comma_free (name ∷ names) named = All-cons (Lacks 0x2C) name names (lacks_of 0x2C is_name_byte name refl (name_bytes name (All-head IsName name names named))) (comma_free names (All-tail IsName name names named))
+comma_free (name ∷ names) named =
+    All-cons (Lacks 0x2C) name names (lacks_of 0x2C is_name_byte name refl (name_bytes name (All-head IsName name names named))) (comma_free names (All-tail IsName name names named))
 
 star_parts : parts 0x2C (codes "*") ≡ codes "*" ∷ []
 unfolding parts
@@ -75,13 +93,17 @@ names_back most (name ∷ names) good =
     names_read most (join_with_byte 0x2C (name ∷ names)) (name ∷ names) (no_star name names good.1) (parts_joined 0x2C name names (comma_free (name ∷ names) good.1))
     (list_all-from_AllPass is_name (name ∷ names) good.1) good.0
 
-names_graphic : (most : ℕ) (names : List (List ℕ)) → (length names ≤ most) × All IsName names → list_all is_graphic (names_word names) ≡ true
-names_graphic most [] good = refl
-names_graphic most (name ∷ names) good = graphic_joined 0x2C (name ∷ names) refl (all_graphic (name ∷ names) good.1)
-  where
-    all_graphic : (words : List (List ℕ)) → All IsName words → list_all (list_all is_graphic) words ≡ true
-    all_graphic [] named = refl
-    all_graphic (word ∷ words) named = rw (name_field.graphic word (All-head IsName word words named), all_graphic words (All-tail IsName word words named)) refl
+names_are_words : (names : List (List ℕ)) → All IsName names → list_all is_word names ≡ true
+names_are_words [] named = refl
+names_are_words (name ∷ names) named =
+    both_true (is_word name) (list_all is_word names) (name_field.word name (All-head IsName name names named)) (names_are_words names (All-tail IsName name names named))
+
+names_are_word : (most : ℕ) (names : List (List ℕ)) → (length names ≤ most) × All IsName names → is_word (names_word names) ≡ true
+names_are_word most [] good = refl
+names_are_word most (name ∷ names) good =
+    let words = names_are_words (name ∷ names) good.1 in
+    both_true (has_bytes (join_with_byte 0x2C (name ∷ names))) (list_all is_graphic (join_with_byte 0x2C (name ∷ names)))
+    (some_joined 0x2C name names (words_parts (name ∷ names) words).0) (graphic_joined 0x2C (name ∷ names) refl (words_parts (name ∷ names) words).1)
 
 pub names_field : (most : ℕ) → IsField (names_in most) names_word (λ names. (length names ≤ most) × All IsName names)
-names_field most = record { said = names_said most; back = names_back most; graphic = names_graphic most }
+names_field most = record { said = names_said most; back = names_back most; word = names_are_word most }

@@ -1,23 +1,28 @@
--- What is left to check of an exchange of two priorities, and of another place of a task.
+-- What is left to check of other priorities of tasks, and of another place of a task.
 use Rattle.std.proofs.Common.{◌≡◌, ℕ, ◌<◌, Bool, List, [], ◌∷◌, ◌++◌, length, map, take, get_or, refl, sym, ap, ◌∙◌, arith}
-use Rattle.std.specs.Prelude.{filter}
+use Rattle.std.specs.Prelude.{Option, filter}
 use Rattle.std.proofs.lemmas.List.{append-nil}
+use Rattle.cl_model.specs.declared.changes.TaskPriority.{TaskPriority}
 use Rattle.cl_model.specs.declared.model.SystemModel.{SystemModel}
 use Rattle.cl_model.specs.declared.refusal.Refusal.{Refusal}
+use Rattle.cl_model.specs.declared.stimulus.StimulusKind.{StimulusKind}
 use Rattle.cl_model.specs.declared.task.TaskDef.{TaskDef}
 use Rattle.cl_model.specs.ByNumber.{no_task, task_at}
-use Rattle.cl_model.specs.Changes.{with_swap, with_place}
+use Rattle.cl_model.specs.Changes.{with_priorities, with_place}
 use Rattle.cl_model.specs.Named.{same_name, core_names, kind_named, tasks_on}
 use Rattle.cl_model.specs.Refusals.{in_order, each}
 use Rattle.cl_model.specs.ValidNames.{stimulus_checks}
 use Rattle.cl_model.specs.ValidTasks.{core_check, priority_check, late_check, release_check, room_check, deadline_checks}
 use Rattle.cl_model.specs.Validity.{IsValid, refusals_of}
-use Rattle.cl_edit.specs.FewChecks.{swap_refusals, place_refusals, move_refusals}
-use Rattle.cl_edit.specs.Inner.Clashes.{clash_checks}
-use Rattle.cl_edit.proofs.EachFacts.{each_alike}
-use Rattle.cl_edit.proofs.BareModels.{bare_task, IsAlike, at_same, length_same, take_same, tasks_long}
-use Rattle.cl_edit.proofs.TaskChecks.{times_checks, rest_check, refusals_left, task_passes, stimuli_pass, filter-map}
-use Rattle.cl_edit.proofs.PairFacts.{swap_same}
+use Rattle.cl_edit.specs.FewChecks.{priority_refusals, place_refusals, move_refusals}
+use Rattle.cl_edit.specs.declared.pairs.PairFault.TheVariants.{Clash, Outpaced}
+use Rattle.cl_edit.specs.Inner.Pairs.{pair_check, pair_checks}
+use Rattle.cl_model.proofs.EachFacts.{each_alike}
+use Rattle.cl_model.specs.NamedAlike.{named_task, AreNamedAlike}
+use Rattle.cl_model.proofs.NamedAlike.{at_same, length_same, take_same, tasks_long}
+use Rattle.cl_model.proofs.PassedChecks.{stimuli_pass}
+use Rattle.cl_model.proofs.ChecksLeft.{times_checks, rest_check, refusals_left, task_passes, filter-map}
+use Rattle.cl_edit.proofs.SetPriorities.{only_tasks, unranked_same, ranked_long, priorities_alike}
 use Rattle.cl_edit.proofs.TaskSetters.{map_set_same}
 
 -- a task without its priority
@@ -32,39 +37,41 @@ on_core_unranked core xs ys same =
     let test : TaskDef → Bool = λ (t : TaskDef). same_name core t.core in
     length_same unranked (tasks_on core xs) (tasks_on core ys) (sym (filter-map unranked test xs) ∙ ap (filter test) same ∙ filter-map unranked test ys)
 
-module _ (model : SystemModel) (valid : IsValid model) (one other : ℕ) where
-  swap_alike : IsAlike model (with_swap model one other)
-  swap_alike = record { cores = refl; stimuli = refl; labels = refl; tasks = swap_same bare_task model one other (λ t p. refl); chains = refl; requirements = refl }
+module _ (model : SystemModel) (valid : IsValid model) (priorities : List TaskPriority) where
+  abbrev ranked : SystemModel
+  ranked = with_priorities model priorities
 
-  one_left : (k : ℕ) → k < length (with_swap model one other).tasks
-      → rest_check (with_swap model one other) k (get_or (with_swap model one other).tasks k no_task)
-      ≡ priority_check (tasks_on (get_or (with_swap model one other).tasks k no_task).core (take k (with_swap model one other).tasks)) k (get_or (with_swap model one other).tasks k no_task)
+  one_left : (k : ℕ) → k < length ranked.tasks → rest_check ranked k (get_or ranked.tasks k no_task) ≡ pair_check Clash ranked k (get_or ranked.tasks k no_task)
   one_left k lt =
-      let new : SystemModel = with_swap model one other in
-      let known : k < length model.tasks = omega (arith, lt, tasks_long model new swap_alike) in
-      let task = get_or new.tasks k no_task in
+      let known : k < length model.tasks = omega (arith, lt, ranked_long model priorities) in
+      let task = get_or ranked.tasks k no_task in
       let before = get_or model.tasks k no_task in
-      let all : map unranked new.tasks ≡ map unranked model.tasks = swap_same unranked model one other (λ t p. refl) in
-      let same : unranked task ≡ unranked before = at_same unranked new.tasks model.tasks k no_task all lt in
+      let all : map unranked ranked.tasks ≡ map unranked model.tasks = unranked_same unranked (λ t p. refl) model priorities in
+      let same : unranked task ≡ unranked before = at_same unranked ranked.tasks model.tasks k no_task all lt in
       let passes = task_passes model valid k known in
-      only_priority (core_check (core_names model) k task) (priority_check (tasks_on task.core (take k new.tasks)) k task) (late_check (kind_named model task.stimulus) k task)
-      (release_check (kind_named model task.stimulus) k task) (room_check (length (tasks_on task.core (take k new.tasks))) k) (times_checks k task)
-      (ap (core_check (core_names model) k) same ∙ passes.core)
-      (ap (λ (t : TaskDef). late_check (kind_named model t.stimulus) k t) same ∙ passes.late)
-      (ap (λ (t : TaskDef). release_check (kind_named model t.stimulus) k t) same ∙ passes.release)
-      (ap (λ (t : TaskDef). room_check (length (tasks_on t.core (take k new.tasks))) k) same
-      ∙ ap (λ n. room_check n k) (on_core_unranked before.core (take k new.tasks) (take k model.tasks) (take_same unranked k new.tasks model.tasks all)) ∙ passes.room)
+      let kinds : TaskDef → Option StimulusKind = λ t. kind_named ranked t.stimulus in
+      only_priority (core_check (core_names ranked) k task) (priority_check (tasks_on task.core (take k ranked.tasks)) k task) (late_check (kinds task) k task)
+      (release_check (kinds task) k task) (room_check (length (tasks_on task.core (take k ranked.tasks))) k) (times_checks k task)
+      (ap (λ names. core_check names k task) (ap core_names (only_tasks model priorities)) ∙ ap (core_check (core_names model) k) same ∙ passes.core)
+      (ap (λ (m : SystemModel). late_check (kind_named m task.stimulus) k task) (only_tasks model priorities) ∙ ap (λ (t : TaskDef). late_check (kind_named model t.stimulus) k t) same ∙ passes.late)
+      (ap (λ (m : SystemModel). release_check (kind_named m task.stimulus) k task) (only_tasks model priorities) ∙ ap (λ (t : TaskDef). release_check (kind_named model t.stimulus) k t) same ∙ passes.release)
+      (ap (λ (t : TaskDef). room_check (length (tasks_on t.core (take k ranked.tasks))) k) same
+      ∙ ap (λ n. room_check n k) (on_core_unranked before.core (take k ranked.tasks) (take k model.tasks) (take_same unranked k ranked.tasks model.tasks all)) ∙ passes.room)
       (ap (times_checks k) same ∙ passes.times)
 
-  -- the priorities of each core, and deadlines against tasks above
-  pub swap_needs_few : refusals_of (with_swap model one other) ≡ clash_checks (with_swap model one other) ++ deadline_checks (with_swap model one other)
+  stimuli_stay : stimulus_checks ranked ≡ stimulus_checks model
   unfolding stimulus_checks
-  swap_needs_few =
-      let new : SystemModel = with_swap model one other in
-      refusals_left model new valid swap_alike
-      ∙ ap (λ stimuli. stimuli ++ (each (rest_check new) new.tasks ++ deadline_checks new)) (stimuli_pass model valid)
-      ∙ ap (λ tasks. tasks ++ deadline_checks new)
-      (each_alike (rest_check new) (λ k task. priority_check (tasks_on task.core (take k new.tasks)) k task) new.tasks new.tasks no_task no_task refl one_left)
+  stimuli_stay = ap stimulus_checks (only_tasks model priorities)
+
+  -- the priorities of each core, and deadlines against tasks above
+  pub priorities_need_few : refusals_of ranked ≡ pair_checks Clash ranked ++ pair_checks Outpaced ranked
+  priorities_need_few =
+      refusals_left model ranked valid (priorities_alike model priorities)
+      ∙ ap (λ stimuli. stimuli ++ (each (rest_check ranked) ranked.tasks ++ deadline_checks ranked)) (stimuli_stay ∙ stimuli_pass model valid)
+      ∙ ap (λ tasks. tasks ++ deadline_checks ranked) (each_alike (rest_check ranked) (pair_check Clash ranked) ranked.tasks ranked.tasks no_task no_task refl one_left)
+
+  pub priorities_need_these : refusals_of ranked ≡ priority_refusals model priorities
+  priorities_need_these = priorities_need_few ∙ ap (λ deadlines. pair_checks Clash ranked ++ deadlines) (sym (append-nil (deadline_checks ranked)))
 
 -- ---- another core and priority
 
@@ -79,8 +86,8 @@ module _ (model : SystemModel) (valid : IsValid model) (i : ℕ) (core : List �
   move_same : {Y : Type 0} (f : TaskDef → Y) → f (record (task_at model i) { core = core; priority = priority }) ≡ f (task_at model i) → map f (with_place model i core priority).tasks ≡ map f model.tasks
   move_same f same = map_set_same f model.tasks i (record (task_at model i) { core = core; priority = priority }) no_task same
 
-  move_alike : IsAlike model (with_place model i core priority)
-  move_alike = record { cores = refl; stimuli = refl; labels = refl; tasks = move_same bare_task refl; chains = refl; requirements = refl }
+  move_alike : AreNamedAlike model (with_place model i core priority)
+  move_alike = record { cores = refl; stimuli = refl; labels = refl; tasks = move_same named_task refl; chains = refl; requirements = refl }
 
   one_place : (k : ℕ) → k < length (with_place model i core priority).tasks
       → rest_check (with_place model i core priority) k (get_or (with_place model i core priority).tasks k no_task) ≡ place_refusals (with_place model i core priority) k (get_or (with_place model i core priority).tasks k no_task)
@@ -105,8 +112,3 @@ module _ (model : SystemModel) (valid : IsValid model) (i : ℕ) (core : List �
       ∙ ap (λ stimuli. stimuli ++ (each (rest_check new) new.tasks ++ deadline_checks new)) (stimuli_pass model valid)
       ∙ ap (λ tasks. tasks ++ deadline_checks new) (each_alike (rest_check new) (place_refusals new) new.tasks new.tasks no_task no_task refl one_place)
       ∙ ap (λ deadlines. each (place_refusals new) new.tasks ++ deadlines) (sym (append-nil (deadline_checks new)))
-
--- exchanged priorities
-pub swap_needs_these : (model : SystemModel) → IsValid model → (one other : ℕ) → refusals_of (with_swap model one other) ≡ swap_refusals model one other
-swap_needs_these model valid one other =
-    swap_needs_few model valid one other ∙ ap (λ deadlines. clash_checks (with_swap model one other) ++ deadlines) (sym (append-nil (deadline_checks (with_swap model one other))))

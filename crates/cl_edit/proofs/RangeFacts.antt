@@ -1,10 +1,10 @@
 -- Edits in range keep a model in range.
-use Rattle.std.proofs.Common.{◌≡◌, ℕ, zero, suc, ◌<◌, ◌≤◌, List, [], ◌∷◌, ◌++◌, length, sym, subst, arith, get_or, set}
-use Rattle.std.specs.Prelude.{All, nat_lt, remove}
+use Rattle.std.proofs.Common.{◌≡◌, ℕ, zero, suc, ◌<◌, ◌≤◌, ◌||◌, List, [], ◌∷◌, ◌++◌, length, map, refl, sym, ap, ◌∙◌, subst, arith, get_or, set}
+use Rattle.std.specs.Prelude.{Option, Some, None, unwrap_or, All, nat_lt, remove}
 use Rattle.std.proofs.lemmas.List.{length-set, length-append}
-use Rattle.std.proofs.lemmas.List.Elements.{All-nil, All-cons, All-tail, All-append}
+use Rattle.std.proofs.lemmas.List.Elements.{All-nil, All-cons, All-tail, All-append, All-map}
 use Rattle.std.proofs.lemmas.Bool.Decides.{nat_tests}
-use Rattle.cl_model.specs.declared.limits.TheConstants.{MOST_TICKS, MOST_PRIORITY, MOST_STIMULI, MOST_TASKS, MOST_RUNNABLES, MOST_CHAINS}
+use Rattle.cl_model.specs.declared.limits.TheConstants.{MOST_TICKS, MOST_PRIORITY, MOST_STIMULI, MOST_TASKS, MOST_RUNNABLES, MOST_CHAINS, MOST_REQUIRED, MOST_REQUIREMENTS}
 use Rattle.cl_model.specs.declared.refusal.Code.TheVariants.{M10}
 use Rattle.cl_model.specs.declared.place.Part.TheVariants as part
 use Rattle.cl_model.specs.declared.place.Place.{Place}
@@ -15,17 +15,21 @@ use Rattle.cl_model.specs.declared.stimulus.StimulusDef.{StimulusDef}
 use Rattle.cl_model.specs.declared.task.RunnableDef.{RunnableDef}
 use Rattle.cl_model.specs.declared.task.TaskDef.{TaskDef}
 use Rattle.cl_model.specs.declared.chain.ChainDef.{ChainDef}
-use Rattle.cl_model.specs.ByNumber.{stimulus_number, no_task, no_runnable}
+use Rattle.cl_model.specs.declared.chain.RequirementDef.{RequirementDef}
+use Rattle.cl_model.specs.declared.changes.TaskPriority.{TaskPriority}
+use Rattle.cl_model.specs.ByNumber.{stimulus_number, requirement_named, no_task, no_runnable}
 use Rattle.cl_model.specs.Groups.{step_named}
+use Rattle.cl_model.specs.Named.{has_name, requirement_names}
 use Rattle.cl_model.specs.Place.{section_place}
 use Rattle.cl_model.specs.Ranges.{IsTime, IsBurstCount, IsKindInRange, IsRunnableInRange, IsTaskInRange, IsChainInRange, IsInRange}
 use Rattle.cl_model.specs.Refusals.{unless}
 use Rattle.cl_edit.specs.declared.edit.Edit.{Edit}
-use Rattle.cl_edit.specs.declared.edit.Edit.TheVariants.{Range, Whole, Period, Offset, Jitter, Distances, Burst, Deadline, Swap, Move, Kind, AddTask, DropTask, AddChain, DropChain, Report}
+use Rattle.cl_edit.specs.declared.edit.Edit.TheVariants.{Range, Whole, Period, Offset, Jitter, Distances, Burst, Deadline, Swap, Priorities, Move, Kind, AddTask, DropTask, AddChain, DropChain, Requirement, DropRequirement, Report, Tighten, Verify}
 use Rattle.cl_edit.specs.Ranges.{IsEditInRange}
-use Rattle.cl_model.specs.Changes.{no_stimulus_def, with_period, with_offset, with_jitter, with_distances, with_burst}
-use Rattle.cl_edit.specs.Changing.{change_of, task_number, chain_number}
+use Rattle.cl_model.specs.Changes.{no_stimulus_def, with_period, with_offset, with_jitter, with_distances, with_burst, with_priority, with_priorities}
+use Rattle.cl_edit.specs.Changing.{with_change, change_of, task_number, chain_number, by_number, requirement_change}
 use Rattle.cl_edit.specs.Edited.{edit_checks, with_edit}
+use Rattle.cl_edit.proofs.FoundFacts.{missing_unknown}
 
 -- ---- lists
 
@@ -50,6 +54,10 @@ removed_length (x ∷ xs) (suc i) = let rest : length (remove xs i) ≤ length x
 -- there is room where M10 passes
 room : (n most : ℕ) (place : Place) → unless (nat_lt n most) M10 place ≡ [] → n < most
 room n most place e = grind (arith, nat_tests)
+
+-- what a requirement asks is in range
+abbrev IsRequirementInRange : RequirementDef → Type 0
+IsRequirementInRange requirement = requirement.most ≤ MOST_REQUIRED
 
 -- ---- sections
 
@@ -85,6 +93,16 @@ chains_in_range model chains count all h = record {
   requirements = h.requirements;
 }
 
+requirements_in_range : (model : SystemModel) (requirements : List RequirementDef) → length requirements ≤ MOST_REQUIREMENTS → All IsRequirementInRange requirements → IsInRange model
+    → IsInRange (record model { requirements = requirements })
+requirements_in_range model requirements count all h = record {
+  counts = record { cores = h.counts.cores; stimuli = h.counts.stimuli; labels = h.counts.labels; tasks = h.counts.tasks; chains = h.counts.chains; requirements = count };
+  stimuli = h.stimuli;
+  tasks = h.tasks;
+  chains = h.chains;
+  requirements = all;
+}
+
 -- one task changed in a way that keeps it in range
 task_in_range : (model : SystemModel) (i : ℕ) (f : TaskDef → TaskDef) → ((t : TaskDef) → IsTaskInRange t → IsTaskInRange (f t)) → IsInRange model
     → IsInRange (record model { tasks = set model.tasks i (f (get_or model.tasks i no_task)) })
@@ -112,6 +130,33 @@ unfolding no_task
 priority_in_range [] i h = omega arith
 priority_in_range (t ∷ tasks) zero h = (h zero t (omega arith)).priority
 priority_in_range (t ∷ tasks) (suc i) h = priority_in_range tasks i (All-tail IsTaskInRange t tasks h)
+
+-- tasks with other priorities
+abbrev IsRankInRange : TaskPriority → Type 0
+IsRankInRange it = it.priority ≤ MOST_PRIORITY
+
+priorities_in_range : (model : SystemModel) (priorities : List TaskPriority) → All IsRankInRange priorities → IsInRange model → IsInRange (with_priorities model priorities)
+priorities_in_range model [] each h = h
+priorities_in_range model (it ∷ priorities) each h =
+    priorities_in_range (with_priority model it.task it.priority) priorities (All-tail IsRankInRange it priorities each)
+    (task_in_range model it.task (λ t. record t { priority = it.priority }) (with_priority_in_range it.priority (each zero it (omega arith))) h)
+
+-- ---- requirements
+
+-- a requirement that is set
+requirement_in_range : (model : SystemModel) (requirement : RequirementDef) (place : Option ℕ) → requirement_named model requirement.name ≡ place → IsInRange model → IsRequirementInRange requirement
+    → edit_checks model (Requirement requirement) ≡ [] → IsInRange (with_change model (requirement_change place requirement))
+unfolding edit_checks
+requirement_in_range model requirement (Some r) is h good e =
+    requirements_in_range model (set model.requirements r requirement) (subst (λ n. n ≤ MOST_REQUIREMENTS) (sym (length-set model.requirements r requirement)) h.counts.requirements)
+    (changed_all IsRequirementInRange (λ _. requirement) (λ _ _. good) model.requirements r requirement h.requirements) h
+requirement_in_range model requirement None is h good e =
+    let name = has_name requirement.name (requirement_names model) in
+    let space : length model.requirements < MOST_REQUIREMENTS =
+    room (length model.requirements) MOST_REQUIREMENTS (section_place part.Requirement)
+    (ap (λ b. unless (b || nat_lt (length model.requirements) MOST_REQUIREMENTS) M10 (section_place part.Requirement)) (sym (missing_unknown requirement.name (requirement_names model) is)) ∙ e) in
+    requirements_in_range model (model.requirements ++ requirement ∷ []) (omega (arith, length-append model.requirements (requirement ∷ [])))
+    (All-append IsRequirementInRange model.requirements (requirement ∷ []) h.requirements (All-cons IsRequirementInRange requirement [] good (All-nil IsRequirementInRange))) h
 
 -- ---- kinds
 
@@ -161,12 +206,12 @@ edits_keep_range model (Deadline task deadline) h good e =
 edits_keep_range model (Swap one other) h good e =
     let i : ℕ = task_number model one in
     let j : ℕ = task_number model other in
-    let a : ℕ = (get_or model.tasks i no_task).priority in
-    let b : ℕ = (get_or model.tasks j no_task).priority in
-    let first : IsInRange (record model { tasks = set model.tasks i (record (get_or model.tasks i no_task) { priority = b }) }) =
-    task_in_range model i (λ t. record t { priority = b }) (with_priority_in_range b (priority_in_range model.tasks j h.tasks)) h in
-    task_in_range (record model { tasks = set model.tasks i (record (get_or model.tasks i no_task) { priority = b }) }) j (λ t. record t { priority = a })
-    (with_priority_in_range a (priority_in_range model.tasks i h.tasks)) first
+    let mine : TaskPriority = record { task = i; priority = (get_or model.tasks j no_task).priority } in
+    let its : TaskPriority = record { task = j; priority = (get_or model.tasks i no_task).priority } in
+    priorities_in_range model (mine ∷ its ∷ [])
+    (All-cons IsRankInRange mine (its ∷ []) (priority_in_range model.tasks j h.tasks) (All-cons IsRankInRange its [] (priority_in_range model.tasks i h.tasks) (All-nil IsRankInRange))) h
+edits_keep_range model (Priorities priorities) h good e =
+    priorities_in_range model (map (by_number model) priorities) (All-map IsRankInRange (by_number model) priorities good.each) h
 edits_keep_range model (Move task core priority) h good e =
     task_in_range model (task_number model task) (λ t. record t { core = core; priority = priority }) (λ t k. record { priority = good; deadline = k.deadline; count = k.count; runnables = k.runnables }) h
 edits_keep_range model (Kind task access) h good e =
@@ -185,4 +230,12 @@ edits_keep_range model (DropChain chain) h good e =
     let fewer : length (remove model.chains (chain_number model chain)) ≤ length model.chains = removed_length model.chains (chain_number model chain) in
     let few : length model.chains ≤ MOST_CHAINS = h.counts.chains in
     chains_in_range model (remove model.chains (chain_number model chain)) (omega arith) (removed_all IsChainInRange model.chains (chain_number model chain) h.chains) h
+edits_keep_range model (Requirement requirement) h good e = requirement_in_range model requirement (requirement_named model requirement.name) refl h good e
+edits_keep_range model (DropRequirement requirement) h good e =
+    let r : ℕ = unwrap_or (requirement_named model requirement) 0 in
+    let fewer : length (remove model.requirements r) ≤ length model.requirements = removed_length model.requirements r in
+    let few : length model.requirements ≤ MOST_REQUIREMENTS = h.counts.requirements in
+    requirements_in_range model (remove model.requirements r) (omega arith) (removed_all IsRequirementInRange model.requirements r h.requirements) h
 edits_keep_range model Report h good e = h
+edits_keep_range model Tighten h good e = h
+edits_keep_range model Verify h good e = h

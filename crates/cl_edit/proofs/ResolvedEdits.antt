@@ -1,37 +1,44 @@
 -- Which change of a model an edit is, and what is answered of it.
-use Rattle.std.proofs.Common.{◌≡◌, ℕ, zero, suc, ◌<◌, ◌∙◌, Bool, true, false, cond, get_or, List, [], ◌∷◌, ◌++◌, length, refl, sym, ap, subst, arith}
-use Rattle.std.specs.Prelude.{Result, Option, Some, None, unwrap_or}
+use Rattle.std.proofs.Common.{◌≡◌, ℕ, zero, suc, ◌<◌, ◌≤◌, ◌∙◌, Bool, true, false, cond, get_or, List, [], ◌∷◌, ◌++◌, length, map, refl, sym, ap, subst, arith}
+use Rattle.std.specs.Prelude.{Result, Option, Some, None, unwrap_or, All}
+use Rattle.std.specs.List.{flat_map}
 use Rattle.std.proofs.lemmas.List.{length-map}
+use Rattle.std.proofs.lemmas.List.Elements.{All-nil, All-cons, All-map}
 use Rattle.cl_model.specs.declared.chain.ChainDef.{ChainDef}
+use Rattle.cl_model.specs.declared.chain.RequirementDef.{RequirementDef}
+use Rattle.cl_model.specs.declared.changes.TaskPriority.{TaskPriority}
+use Rattle.cl_model.specs.declared.limits.TheConstants.{MOST_PRIORITY, MOST_REQUIRED}
 use Rattle.cl_model.specs.declared.model.SystemModel.{SystemModel}
 use Rattle.cl_model.specs.declared.model_fault.ModelFault.{ModelFault}
-use Rattle.cl_model.specs.declared.refusal.Code.TheVariants.{E2, E3}
+use Rattle.cl_model.specs.declared.refusal.Code.TheVariants.{E2}
 use Rattle.cl_model.specs.declared.refusal.Refusal.{Refusal}
 use Rattle.cl_model.specs.declared.stimulus.StimulusDef.{StimulusDef}
 use Rattle.cl_model.specs.declared.stimulus.StimulusKind.{StimulusKind}
 use Rattle.cl_model.specs.declared.task.TaskDef.{TaskDef}
 use Rattle.cl_model.specs.Answers.{Answers, IsFaultOf}
-use Rattle.cl_model.specs.ByNumber.{stimulus_number}
+use Rattle.cl_model.specs.ByNumber.{stimulus_number, task_at, no_task, no_requirement, requirement_named}
 use Rattle.cl_model.specs.Changes.{no_stimulus_def, stimulus_at}
 use Rattle.cl_model.specs.Groups.{step_named, IsStepOf}
-use Rattle.cl_model.specs.Named.{has_name, index_of, task_names, chain_names, stimulus_names, kind_named}
+use Rattle.cl_model.specs.Named.{has_name, index_of, task_names, chain_names, requirement_names, stimulus_names, kind_named}
 use Rattle.cl_model.specs.Place.{top}
+use Rattle.cl_model.specs.Ranges.{IsTaskInRange, IsInRange}
 use Rattle.cl_model.specs.Refusals.{first}
 use Rattle.cl_model.specs.Validity.{IsValid, refusals_of}
 use Rattle.cl_model.proofs.FirstRefusals.{fault_of_back, none_of_both}
-use Rattle.cl_model.proofs.NamePlaces.{place_within, found_below}
+use Rattle.cl_model.proofs.NamePlaces.{place_within, found_below, entry_found}
 use Rattle.cl_model.proofs.Refused.{unless_none}
 use Rattle.cl_model.proofs.StepFacts.{step_stands_in}
 use Rattle.cl_edit.specs.declared.change.Change.{Change}
 use Rattle.cl_edit.specs.declared.change.Change.TheVariants as changes
+use Rattle.cl_edit.specs.declared.edit.NamedPriority.{NamedPriority}
 use Rattle.cl_edit.specs.declared.edit.Edit.{Edit}
-use Rattle.cl_edit.specs.declared.edit.Edit.TheVariants.{Range, Whole, Period, Offset, Jitter, Distances, Burst, Deadline, Swap, Move, Kind, AddTask, DropTask, AddChain, DropChain, Report}
-use Rattle.cl_edit.specs.Changing.{with_change, IsChangeOf, MayBeMade, task_number, chain_number, kind_change, change_of}
+use Rattle.cl_edit.specs.declared.edit.Edit.TheVariants.{Range, Whole, Period, Offset, Jitter, Distances, Burst, Deadline, Swap, Priorities, Move, Kind, AddTask, DropTask, AddChain, DropChain, Requirement, DropRequirement, Report, Tighten, Verify}
+use Rattle.cl_edit.specs.Changing.{with_change, IsPriorityOf, IsChangeOf, MayBeMade, task_number, chain_number, kind_change, by_number, exchanged, requirement_change, change_of}
 use Rattle.cl_edit.specs.Edited.{found, kind_found, all_names, edit_checks, with_edit}
 use Rattle.cl_edit.specs.Inner.Kinds.{sets, with_numbers}
 use Rattle.cl_edit.specs.Ranges.{IsEditInRange}
 use Rattle.cl_edit.proofs.EditedValid.{first_none, valid_unless}
-use Rattle.cl_edit.proofs.FoundFacts.{kind_passes, kind_fails, kind_missing, none_is_first, number_from}
+use Rattle.cl_edit.proofs.FoundFacts.{missing_unknown, kind_passes, kind_missing, none_is_first, number_from}
 
 -- ---- what is found
 
@@ -58,34 +65,74 @@ kind_within model name sets none = by (index_of name (stimulus_names model)) ref
     by (Some s) is =
         omega (arith, number_from (index_of name (stimulus_names model)) s is, found_below name (stimulus_names model) s is, length-map model.stimuli (λ (x : StimulusDef). x.name))
 
+-- a requirement
+found_requirement_within : (model : SystemModel) (name : List ℕ) → found name (requirement_names model) ≡ [] → unwrap_or (requirement_named model name) 0 < length model.requirements
+found_requirement_within model name none =
+    omega (arith, place_within name (requirement_names model) (unless_none (has_name name (requirement_names model)) E2 top none), length-map model.requirements (λ (x : RequirementDef). x.name))
+
+-- a requirement that is set is there, and one that is added is new
+requirement_known : (model : SystemModel) (requirement : RequirementDef) (place : Option ℕ) → requirement_named model requirement.name ≡ place → requirement.most ≤ MOST_REQUIRED
+    → IsChangeOf model (requirement_change place requirement)
+requirement_known model requirement (Some r) is few = (
+  omega (arith, found_below requirement.name (requirement_names model) r is, length-map model.requirements (λ (x : RequirementDef). x.name)),
+  sym (entry_found (λ (x : RequirementDef). x.name) model.requirements requirement.name r no_requirement is),
+  few,
+)
+requirement_known model requirement None is few = (missing_unknown requirement.name (requirement_names model) is, few)
+
+-- priorities that are exchanged
+exchange_known : (model : SystemModel) → All IsTaskInRange model.tasks → (i j : ℕ) → i < length model.tasks → j < length model.tasks → All (IsPriorityOf model) (exchanged model i j)
+exchange_known model tasks i j hi hj =
+    let mine : TaskPriority = record { task = i; priority = (task_at model j).priority } in
+    let its : TaskPriority = record { task = j; priority = (task_at model i).priority } in
+    All-cons (IsPriorityOf model) mine (its ∷ []) (record { task = hi; priority = (tasks j no_task hj).priority })
+    (All-cons (IsPriorityOf model) its [] (record { task = hj; priority = (tasks i no_task hi).priority }) (All-nil (IsPriorityOf model)))
+
+-- where nothing is refused of all, nothing is of each
+none_of_all : {X : Type 0} (check : X → List Refusal) (xs : List X) → flat_map check xs ≡ [] → All (λ x. check x ≡ []) xs
+none_of_all {X = X} check [] none = All-nil (λ (y : X). check y ≡ [])
+none_of_all {X = X} check (x ∷ xs) none =
+    let parts = first_none (check x) (flat_map check xs) none in All-cons (λ (y : X). check y ≡ []) x xs parts.0 (none_of_all check xs parts.1)
+
+priorities_known : (model : SystemModel) (priorities : List NamedPriority) → All (λ (p : NamedPriority). p.priority ≤ MOST_PRIORITY) priorities
+    → flat_map (λ (p : NamedPriority). found p.task (task_names model)) priorities ≡ [] → All (IsPriorityOf model) (map (by_number model) priorities)
+priorities_known model priorities few none =
+    let there = none_of_all (λ (p : NamedPriority). found p.task (task_names model)) priorities none in
+    All-map (IsPriorityOf model) (by_number model) priorities (λ k d lt. record { task = found_within model (get_or priorities k d).task (there k d lt); priority = few k d lt })
+
 -- where the first checks pass, what the edit names is there
-change_is_of_model : (model : SystemModel) (edit : Edit) → IsEditInRange edit → edit_checks model edit ≡ [] → IsChangeOf model (change_of model edit)
+change_is_of_model : (model : SystemModel) → IsInRange model → (edit : Edit) → IsEditInRange edit → edit_checks model edit ≡ [] → IsChangeOf model (change_of model edit)
 unfolding edit_checks change_of
-change_is_of_model model (Range runnable least greatest) range none = found_step_within model runnable none
-change_is_of_model model (Whole runnable whole) range none = found_step_within model runnable none
-change_is_of_model model (Period stimulus period) range none = kind_within model stimulus _ none
-change_is_of_model model (Offset stimulus offset) range none = kind_within model stimulus _ none
-change_is_of_model model (Jitter stimulus jitter) range none = kind_within model stimulus _ none
-change_is_of_model model (Distances stimulus least greatest) range none = kind_within model stimulus _ none
-change_is_of_model model (Burst stimulus period count distance) range none = kind_within model stimulus _ none
-change_is_of_model model (Deadline task deadline) range none = found_within model task none
-change_is_of_model model (Swap one other) range none =
+change_is_of_model model known (Range runnable least greatest) range none = found_step_within model runnable none
+change_is_of_model model known (Whole runnable whole) range none = found_step_within model runnable none
+change_is_of_model model known (Period stimulus period) range none = kind_within model stimulus _ none
+change_is_of_model model known (Offset stimulus offset) range none = kind_within model stimulus _ none
+change_is_of_model model known (Jitter stimulus jitter) range none = kind_within model stimulus _ none
+change_is_of_model model known (Distances stimulus least greatest) range none = kind_within model stimulus _ none
+change_is_of_model model known (Burst stimulus period count distance) range none = kind_within model stimulus _ none
+change_is_of_model model known (Deadline task deadline) range none = found_within model task none
+change_is_of_model model known (Swap one other) range none =
     let parts = first_none (found one (task_names model)) (found other (task_names model)) none in
-    (found_within model one parts.0, found_within model other parts.1)
-change_is_of_model model (Move task core priority) range none = found_within model task none
-change_is_of_model model (Kind task access) range none = found_within model task none
-change_is_of_model model (AddTask task) range none = range
-change_is_of_model model (DropTask task) range none = found_within model task none
-change_is_of_model model (AddChain chain) range none = range
-change_is_of_model model (DropChain chain) range none = found_chain_within model chain none
-change_is_of_model model Report range none = tt
+    exchange_known model known.tasks (task_number model one) (task_number model other) (found_within model one parts.0) (found_within model other parts.1)
+change_is_of_model model known (Priorities priorities) range none = priorities_known model priorities range.each none
+change_is_of_model model known (Move task core priority) range none = found_within model task none
+change_is_of_model model known (Kind task access) range none = found_within model task none
+change_is_of_model model known (AddTask task) range none = range
+change_is_of_model model known (DropTask task) range none = found_within model task none
+change_is_of_model model known (AddChain chain) range none = range
+change_is_of_model model known (DropChain chain) range none = found_chain_within model chain none
+change_is_of_model model known (Requirement requirement) range none = requirement_known model requirement (requirement_named model requirement.name) refl range
+change_is_of_model model known (DropRequirement requirement) range none = found_requirement_within model requirement none
+change_is_of_model model known Report range none = tt
+change_is_of_model model known Tighten range none = tt
+change_is_of_model model known Verify range none = tt
 
 -- ---- edits
 
-module _ (model : SystemModel) (edit : Edit) (change : Change) (range : IsEditInRange edit) (none : edit_checks model edit ≡ []) (is : change ≡ change_of model edit) where
+module _ (model : SystemModel) (valid : IsValid model) (edit : Edit) (change : Change) (range : IsEditInRange edit) (none : edit_checks model edit ≡ []) (is : change ≡ change_of model edit) where
   -- the change that it is is one of the model
   pub known_change : IsChangeOf model change
-  known_change = subst (IsChangeOf model) (sym is) (change_is_of_model model edit range none)
+  known_change = subst (IsChangeOf model) (sym is) (change_is_of_model model valid.in_range edit range none)
 
   -- the changed model is the edited one
   pub changed_is : refusals_of (with_change model change) ≡ refusals_of (with_edit model edit)
@@ -93,9 +140,9 @@ module _ (model : SystemModel) (edit : Edit) (change : Change) (range : IsEditIn
   changed_is = ap (λ (c : Change). refusals_of (with_change model c)) is
 
   -- where the checks of the changed model pass too, the change may be made
-  pub may_be_made : IsValid model → refusals_of (with_change model change) ≡ [] → MayBeMade model change
+  pub may_be_made : refusals_of (with_change model change) ≡ [] → MayBeMade model change
   unfolding with_edit
-  may_be_made valid passes =
+  may_be_made passes =
       let meant : IsValid (with_change model (change_of model edit)) =
       valid_unless model edit valid range (none_of_both (edit_checks model edit) (refusals_of (with_edit model edit)) none (sym changed_is ∙ passes)) in
       record { of_model = known_change; valid = subst (λ (c : Change). IsValid (with_change model c)) (sym is) meant }
@@ -141,20 +188,15 @@ pub burst_answers : (model : SystemModel) (edit : Edit) (result : Result Change 
 unfolding edit_checks change_of
 burst_answers model edit result name period count distance is h = subst (λ (x : Edit). SetsNumbers model x result name → IsItsChange model x result) (sym is) (λ own. own) h
 
-pub swap_answers : (model : SystemModel) (edit : Edit) (result : Result Change ModelFault) (one other : List ℕ) → edit ≡ Swap one other
-    → Answers result (found one (task_names model) ++ found other (task_names model)) (changes.Swap (task_number model one) (task_number model other)) → IsItsChange model edit result
-unfolding edit_checks change_of
-swap_answers model edit result one other is h = subst (λ (x : Edit). IsItsChange model x result) (sym is) h
+-- an edit of another kind
+pub edit_answers : (model : SystemModel) (edit other : Edit) (result : Result Change ModelFault) → edit ≡ other → IsItsChange model other result → IsItsChange model edit result
+edit_answers model edit other result is h = subst (λ (x : Edit). IsItsChange model x result) (sym is) h
 
 -- ---- the kind of a stimulus
 
 some_if : (b : Bool) (x y : StimulusKind) → Some x ≡ cond b (Some y) None → (b ≡ true) × (x ≡ y)
 some_if true x y e = (refl, ap (λ o. unwrap_or o x) e)
 some_if false x y e = absurd cc
-
-none_if : (b : Bool) (y : StimulusKind) → None ≡ cond b (Some y) None → b ≡ false
-none_if true y e = absurd cc
-none_if false y e = refl
 
 any_default : (xs : List StimulusDef) (i : ℕ) (d e : StimulusDef) → i < length xs → get_or xs i d ≡ get_or xs i e
 any_default [] i d e lt = absurd (omega arith)
@@ -179,9 +221,3 @@ module _ (model : SystemModel) (name : List ℕ) (edit : Edit) (stimuli : List S
         kind_passes model name s (sets edit) named (ap (λ (x : StimulusDef). sets edit x.kind) (sym here) ∙ parts.0),
         ap (changes.Stimulus s) same ∙ ap (λ (n : ℕ). changes.Stimulus n (with_numbers edit (stimulus_at model n).kind)) (sym numbered),
       )
-
-  -- it doesn't set this kind
-  pub stimulus_unset : None ≡ cond (sets edit (get_or stimuli s d).kind) (Some (with_numbers edit (get_or stimuli s d).kind)) None
-      → first (kind_found (kind_named model name) (sets edit)) ≡ Some (record { code = E3; place = top })
-  stimulus_unset chosen =
-      kind_fails model name s (sets edit) named (ap (λ (x : StimulusDef). sets edit x.kind) (sym here) ∙ none_if (sets edit (get_or stimuli s d).kind) (with_numbers edit (get_or stimuli s d).kind) chosen)

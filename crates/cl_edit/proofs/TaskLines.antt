@@ -1,10 +1,10 @@
 -- The line of a new task: it is read as a task exactly where its words are those of the task.
-use Rattle.std.proofs.Common.{◌≡◌, ℕ, zero, suc, ◌≤◌, true, false, Option, Some, None, List, [], ◌∷◌, ◌++◌, length, refl, sym, ap, ◌∙◌, subst, arith}
+use Rattle.std.proofs.Common.{◌≡◌, ℕ, ◌≤◌, true, false, Option, Some, None, List, [], ◌∷◌, ◌++◌, length, refl, sym, ap, ◌∙◌, subst, arith}
 use Rattle.std.specs.Prelude.{codes, decimal, All, IfSome}
 use Rattle.std.specs.List.{flat_map, list_all}
-use Rattle.std.specs.Option.{option_map, option_and_then}
+use Rattle.std.specs.Option.{option_and_then}
+use Rattle.std.proofs.lemmas.List.{append-nil}
 use Rattle.std.proofs.lemmas.List.Elements.{All-nil, All-cons, All-head, All-tail}
-use Rattle.cl_text.specs.Line.{is_graphic}
 use Rattle.cl_model.specs.declared.limits.TheConstants.{MOST_PRIORITY, MOST_RUNNABLES, MOST_ACCESSES}
 use Rattle.cl_model.specs.declared.task.RunnableDef.{RunnableDef}
 use Rattle.cl_model.specs.declared.task.TaskDef.{TaskDef}
@@ -15,23 +15,15 @@ use Rattle.cl_model.specs.Kinds.{access_word}
 use Rattle.cl_edit.specs.declared.edit.Edit.{Edit}
 use Rattle.cl_edit.specs.declared.edit.Edit.TheVariants.{AddTask}
 use Rattle.cl_edit.specs.Lines.{deadline_word, names_word, runnable_words, task_edit_words}
+use Rattle.cl_edit.specs.declared.version.Version.TheVariants.{One, Two}
 use Rattle.cl_edit.specs.Reading.{IsLineEdit}
 use Rattle.cl_edit.specs.Inner.Parts.{with_left, then_read}
 use Rattle.cl_edit.specs.Inner.LineReads.{runnable_in, runnables_in, with_runnables, task_head_in, task_in}
-use Rattle.cl_edit.proofs.FieldFacts.{name_field, time_field, priority_field, access_field, deadline_field, some_same}
+use Rattle.cl_edit.proofs.FieldFacts.{is_word, name_field, time_field, priority_field, access_field, deadline_field, some_same}
 use Rattle.cl_edit.proofs.NamesFacts.{names_field}
 use Rattle.cl_edit.proofs.WordsFacts.{took, gave}
+use Rattle.cl_edit.proofs.WordLists.{then_some, IsItem, AreGood, list_said, list_back}
 use Rattle.cl_edit.proofs.SimpleLines.{Says, so_says, answer_of}
-
--- something was read, and the rest behind it
-pub then_some : {X Y : Type 0} (o : Option (X × List (List ℕ))) (next : X → List (List ℕ) → Option Y) (y : Y) → then_read o next ≡ Some y
-    → (x : X) × (left : List (List ℕ)) × (o ≡ Some (x, left)) × (next x left ≡ Some y)
-then_some None next y is = absurd (cc)
-then_some (Some read) next y is = (read.0, read.1, refl, is)
-
-map_some : {X Y : Type 0} (f : X → Y) (o : Option X) (y : Y) → option_map f o ≡ Some y → (x : X) × (o ≡ Some x) × (f x ≡ y)
-map_some f None y is = absurd (cc)
-map_some f (Some x) y is = (x, refl, some_same (f x) y is)
 
 -- ---- runnables
 
@@ -73,33 +65,33 @@ runnable_back r left new =
     answer : RunnableDef → Option (RunnableDef × List (List ℕ))
     answer r = Some (r, left)
 
-abbrev AreNew : (most : ℕ) → List (List ℕ) → List RunnableDef → Type 0
-AreNew most words rs = (words ≡ flat_map runnable_words rs) × (length rs ≤ most) × All IsNewRunnable rs
+-- a runnable is read alike, whatever stands above it
+abbrev pub runnable_read : List RunnableDef → List (List ℕ) → Option (RunnableDef × List (List ℕ))
+runnable_read above words = runnable_in words
 
-none_new : (most : ℕ) (rs : List RunnableDef) → [] ≡ rs → AreNew most [] rs
-none_new most rs is = subst (AreNew most []) is (refl, omega arith, All-nil IsNewRunnable)
+runnable_item : IsItem runnable_read runnable_words (λ above r. IsNewRunnable r)
+runnable_item = record {
+  said = λ above words r left is. runnable_said words r left is;
+  back = λ above r left new. runnable_back r left new;
+  some = λ r left none. cc;
+}
 
-runnables_said : (most : ℕ) (words : List (List ℕ)) (rs : List RunnableDef) → runnables_in most words ≡ Some rs → AreNew most words rs
-unfolding runnables_in
-runnables_said zero [] rs is = none_new zero rs (some_same [] rs is)
-runnables_said (suc most) [] rs is = none_new (suc most) rs (some_same [] rs is)
-runnables_said zero (word ∷ words) rs is = absurd (cc)
-runnables_said (suc most) (word ∷ words) rs is =
-    let a = then_some (runnable_in (word ∷ words)) (λ r left. option_map (λ rs. r ∷ rs) (runnables_in most left)) rs is in
-    let b = map_some (λ rs. a.0 ∷ rs) (runnables_in most a.1) rs a.3 in
-    let first = runnable_said (word ∷ words) a.0 a.1 a.2 in
-    let more = runnables_said most a.1 b.0 b.1 in
-    subst (AreNew (suc most) (word ∷ words)) b.2
-    (first.0 ∙ ap (λ w. runnable_words a.0 ++ w) more.0, omega (arith, more.1), All-cons IsNewRunnable a.0 b.0 first.1 more.2)
+all_new : (rs above : List RunnableDef) → AreGood (λ above r. IsNewRunnable r) rs above → All IsNewRunnable rs
+all_new [] above good = All-nil IsNewRunnable
+all_new (r ∷ rs) above good = All-cons IsNewRunnable r rs good.0 (all_new rs (above ++ r ∷ []) good.1)
 
-runnables_back : (most : ℕ) (rs : List RunnableDef) → length rs ≤ most → All IsNewRunnable rs → runnables_in most (flat_map runnable_words rs) ≡ Some rs
-unfolding runnables_in
-runnables_back zero [] few new = refl
-runnables_back (suc most) [] few new = refl
-runnables_back zero (r ∷ rs) few new = absurd (omega arith)
-runnables_back (suc most) (r ∷ rs) few new =
-    ap (λ o. then_read o (λ r left. option_map (λ rs. r ∷ rs) (runnables_in most left))) (runnable_back r (flat_map runnable_words rs) (All-head IsNewRunnable r rs new))
-    ∙ ap (option_map (λ rs. r ∷ rs)) (runnables_back most rs (omega arith) (All-tail IsNewRunnable r rs new))
+good_each : (rs above : List RunnableDef) → All IsNewRunnable rs → AreGood (λ above r. IsNewRunnable r) rs above
+good_each [] above new = tt
+good_each (r ∷ rs) above new = (All-head IsNewRunnable r rs new, good_each rs (above ++ r ∷ []) (All-tail IsNewRunnable r rs new))
+
+runnables_said : (words : List (List ℕ)) (rs : List RunnableDef) → runnables_in words ≡ Some rs
+    → (words ≡ flat_map runnable_words rs) × (length rs ≤ MOST_RUNNABLES) × All IsNewRunnable rs
+runnables_said words rs is =
+    let said = list_said runnable_read runnable_words (λ above r. IsNewRunnable r) runnable_item MOST_RUNNABLES [] words rs is in
+    (said.0, said.1, all_new rs [] said.2)
+
+runnables_back : (rs : List RunnableDef) → length rs ≤ MOST_RUNNABLES → All IsNewRunnable rs → runnables_in (flat_map runnable_words rs) ≡ Some rs
+runnables_back rs few new = list_back runnable_read runnable_words (λ above r. IsNewRunnable r) runnable_item MOST_RUNNABLES [] rs few (good_each rs [] new)
 
 -- ---- the task
 
@@ -142,64 +134,61 @@ new_not_whole : (rs : List RunnableDef) → All IsNewRunnable rs → All (λ r. 
 new_not_whole rs new = λ k d within. (new k d within).not_whole
 
 with_said : (words : List (List ℕ)) (t : TaskDef) (left : List (List ℕ)) (o : Option (List RunnableDef)) (edit : Edit) (behind : List (List ℕ)) → IsHead words t left
-    → runnables_in MOST_RUNNABLES left ≡ o → with_left [] (option_and_then (with_runnables t) o) ≡ answer_of edit behind → Says (codes "task" ∷ words) edit behind
+    → runnables_in left ≡ o → with_left [] (option_and_then (with_runnables t) o) ≡ answer_of edit behind → Says One (codes "task" ∷ words) edit behind
 with_said words t left None edit behind head at is = absurd (cc)
 with_said words t left (Some []) edit behind head at is = absurd (cc)
 with_said words t left (Some (r ∷ rs)) edit behind head at is =
-    let said = runnables_said MOST_RUNNABLES left (r ∷ rs) at in
-    so_says (codes "task" ∷ words) (AddTask (record t { runnables = r ∷ rs })) [] edit behind is (
+    let said = runnables_said left (r ∷ rs) at in
+    so_says One (codes "task" ∷ words) (AddTask (record t { runnables = r ∷ rs })) [] edit behind is (
       record {
         in_range = record { priority = head.priority; deadline = head.deadline; count = said.1; runnables = new_in_range (r ∷ rs) said.2 };
         named = record { name = head.name; core = head.core; stimulus = head.stimulus; runnables = new_named (r ∷ rs) said.2 };
         sayable = (omega arith, new_not_whole (r ∷ rs) said.2);
+        kind = refl;
       },
       ap (λ w. codes "task" ∷ w) (head.words_are ∙ ap (λ w. t.name ∷ t.core ∷ t.stimulus ∷ decimal t.priority ∷ access_word t.access ∷ deadline_word t.deadline ∷ w)
-          (said.0 ∙ sym (append_none (flat_map runnable_words (r ∷ rs))))),
+          (said.0 ∙ sym (append-nil (flat_map runnable_words (r ∷ rs))))),
     )
-  where
-    append_none : (words : List (List ℕ)) → words ++ [] ≡ words
-    append_none [] = refl
-    append_none (word ∷ words) = ap (λ w. word ∷ w) (append_none words)
 
-pub task_said : (words : List (List ℕ)) (edit : Edit) (left : List (List ℕ)) → task_in words ≡ Some (edit, left) → Says (codes "task" ∷ words) edit left
+pub task_said : (words : List (List ℕ)) (edit : Edit) (left : List (List ℕ)) → task_in words ≡ Some (edit, left) → Says One (codes "task" ∷ words) edit left
 task_said words edit left is =
-    let a = then_some (task_head_in words) (λ task words. with_left [] (option_and_then (with_runnables task) (runnables_in MOST_RUNNABLES words))) _ is in
-    with_said words a.0 a.1 (runnables_in MOST_RUNNABLES a.1) edit left (head_said words a.0 a.1 a.2) refl a.3
+    let a = then_some (task_head_in words) (λ task words. with_left [] (option_and_then (with_runnables task) (runnables_in words))) _ is in
+    with_said words a.0 a.1 (runnables_in a.1) edit left (head_said words a.0 a.1 a.2) refl a.3
 
 some_runnables : (t : TaskDef) (rs : List RunnableDef) → 1 ≤ length rs → with_left [] (with_runnables t rs) ≡ Some (AddTask (record t { runnables = rs }), [])
 some_runnables t [] some = absurd (omega arith)
 some_runnables t (r ∷ rs) some = refl
 
-head_back : (t : TaskDef) (left : List (List ℕ)) → IsLineEdit (AddTask t)
+head_back : (t : TaskDef) (left : List (List ℕ)) → IsLineEdit Two (AddTask t)
     → task_head_in (t.name ∷ t.core ∷ t.stimulus ∷ decimal t.priority ∷ access_word t.access ∷ deadline_word t.deadline ∷ left) ≡ Some (record t { runnables = [] }, left)
 head_back t left good =
     gave name_field t.name _ _ good.named.name ∙ gave name_field t.core _ _ good.named.core ∙ gave name_field t.stimulus _ _ good.named.stimulus
     ∙ gave priority_field t.priority _ _ (omega arith, good.in_range.priority) ∙ gave access_field t.access _ _ tt ∙ gave deadline_field t.deadline _ _ good.in_range.deadline
 
-pub are_new : (t : TaskDef) → IsLineEdit (AddTask t) → All IsNewRunnable t.runnables
+pub are_new : (t : TaskDef) → IsLineEdit Two (AddTask t) → All IsNewRunnable t.runnables
 are_new t good = λ k d within. record {
   in_range = good.in_range.runnables k d within;
   named = good.named.runnables k d within;
   not_whole = good.sayable.1 k d within;
 }
 
-pub task_back : (t : TaskDef) → IsLineEdit (AddTask t) → task_in (task_edit_words t) ≡ Some (AddTask t, [])
+pub task_back : (t : TaskDef) → IsLineEdit Two (AddTask t) → task_in (task_edit_words t) ≡ Some (AddTask t, [])
 task_back t good =
-    ap (λ o. then_read o (λ task words. with_left [] (option_and_then (with_runnables task) (runnables_in MOST_RUNNABLES words)))) (head_back t (flat_map runnable_words t.runnables) good)
-    ∙ ap (λ o. with_left [] (option_and_then (with_runnables (record t { runnables = [] })) o)) (runnables_back MOST_RUNNABLES t.runnables good.in_range.count (are_new t good))
+    ap (λ o. then_read o (λ task words. with_left [] (option_and_then (with_runnables task) (runnables_in words)))) (head_back t (flat_map runnable_words t.runnables) good)
+    ∙ ap (λ o. with_left [] (option_and_then (with_runnables (record t { runnables = [] })) o)) (runnables_back t.runnables good.in_range.count (are_new t good))
     ∙ some_runnables (record t { runnables = [] }) t.runnables good.sayable.0
 
--- ---- its words are of graphic bytes
+-- ---- its words
 
-pub runnables_graphic : (rs : List RunnableDef) → All IsNewRunnable rs → list_all (list_all is_graphic) (flat_map runnable_words rs) ≡ true
-runnables_graphic [] new = refl
-runnables_graphic (r ∷ rs) new =
+pub runnables_are_words : (rs : List RunnableDef) → All IsNewRunnable rs → list_all is_word (flat_map runnable_words rs) ≡ true
+runnables_are_words [] new = refl
+runnables_are_words (r ∷ rs) new =
     let first = All-head IsNewRunnable r rs new in
     rw (
-      name_field.graphic r.name first.named.name,
-      time_field.graphic r.least first.in_range.least,
-      time_field.graphic r.greatest first.in_range.greatest,
-      (names_field MOST_ACCESSES).graphic r.reads (first.in_range.reads, first.named.reads),
-      (names_field MOST_ACCESSES).graphic r.writes (first.in_range.writes, first.named.writes),
-      runnables_graphic rs (All-tail IsNewRunnable r rs new),
+      name_field.word r.name first.named.name,
+      time_field.word r.least first.in_range.least,
+      time_field.word r.greatest first.in_range.greatest,
+      (names_field MOST_ACCESSES).word r.reads (first.in_range.reads, first.named.reads),
+      (names_field MOST_ACCESSES).word r.writes (first.in_range.writes, first.named.writes),
+      runnables_are_words rs (All-tail IsNewRunnable r rs new),
     ) refl

@@ -22,9 +22,10 @@ use Rattle.cl_model.specs.Validity.{IsValid, refusals_of}
 use Rattle.cl_model.proofs.Refused.{each_none}
 use Rattle.cl_model.specs.Changes.{with_range, with_whole, with_task, with_deadline, with_access}
 use Rattle.cl_edit.specs.FewChecks.{range_refusals, deadline_refusals}
-use Rattle.cl_edit.proofs.EachFacts.{each_only}
-use Rattle.cl_edit.proofs.BareModels.{bare_runnable, bare_task, IsAlike}
-use Rattle.cl_edit.proofs.TaskChecks.{placed, on_core_same, outpaced_same, times_checks, timing_check, task_passes, stimuli_pass, deadline_none, times_left_of}
+use Rattle.cl_model.proofs.EachFacts.{each_only}
+use Rattle.cl_model.specs.NamedAlike.{named_runnable, named_task, AreNamedAlike}
+use Rattle.cl_model.proofs.PassedChecks.{stimuli_pass}
+use Rattle.cl_model.proofs.ChecksLeft.{placed, on_core_same, outpaced_same, times_checks, timing_check, task_passes, deadline_none, times_left_of}
 
 -- ---- lists
 
@@ -45,8 +46,8 @@ timing_parts : (late release times : List Refusal) → late ≡ [] → release �
 timing_parts late release times nl nr nt = rw (nl, nr, nt) refl
 
 module _ (model : SystemModel) (valid : IsValid model) (i : ℕ) (within : i < length model.tasks) (task : TaskDef) where
-  task_alike : bare_task task ≡ bare_task (task_at model i) → IsAlike model (with_task model i task)
-  task_alike bare = record { cores = refl; stimuli = refl; labels = refl; tasks = map_set_same bare_task model.tasks i task no_task bare; chains = refl; requirements = refl }
+  task_alike : named_task task ≡ named_task (task_at model i) → AreNamedAlike model (with_task model i task)
+  task_alike named = record { cores = refl; stimuli = refl; labels = refl; tasks = map_set_same named_task model.tasks i task no_task named; chains = refl; requirements = refl }
 
   other_stays : (k : ℕ) → k < length (set model.tasks i task) → (k ≡ i → ⊥) → timing_check model k (get_or (set model.tasks i task) k no_task) ≡ []
   other_stays k lt apart =
@@ -56,23 +57,23 @@ module _ (model : SystemModel) (valid : IsValid model) (i : ℕ) (within : i < l
       (times_checks k (task_at model k)) passes.late passes.release passes.times
 
   -- the task that is set alone is checked for its times, and all for their deadlines
-  pub task_times : bare_task task ≡ bare_task (task_at model i) → placed task ≡ placed (task_at model i)
+  pub task_times : named_task task ≡ named_task (task_at model i) → placed task ≡ placed (task_at model i)
       → refusals_of (with_task model i task) ≡ timing_check model i task ++ deadline_checks (with_task model i task)
   unfolding stimulus_checks
-  task_times bare own =
+  task_times named own =
       let new : SystemModel = with_task model i task in
       let long : i < length new.tasks = omega (arith, within, length-set model.tasks i task) in
-      times_left_of model new valid (task_alike bare) (map_set_same placed model.tasks i task no_task own)
+      times_left_of model new valid (task_alike named) (map_set_same placed model.tasks i task no_task own)
       ∙ ap (λ stimuli. stimuli ++ (each (timing_check new) new.tasks ++ deadline_checks new)) (stimuli_pass model valid)
       ∙ ap (λ tasks. tasks ++ deadline_checks new) (each_only (timing_check new) new.tasks i no_task long other_stays ∙ ap (timing_check model i) (get_or-set_same model.tasks i task no_task within))
 
   -- and for its deadline
-  pub task_set : bare_task task ≡ bare_task (task_at model i) → placed task ≡ placed (task_at model i) → refusals_of (with_task model i task) ≡ timing_check model i task ++ deadline_check model i task
-  task_set bare own =
+  pub task_set : named_task task ≡ named_task (task_at model i) → placed task ≡ placed (task_at model i) → refusals_of (with_task model i task) ≡ timing_check model i task ++ deadline_check model i task
+  task_set named own =
       let new : SystemModel = with_task model i task in
       let same : map placed new.tasks ≡ map placed model.tasks = map_set_same placed model.tasks i task no_task own in
       let long : i < length new.tasks = omega (arith, within, length-set model.tasks i task) in
-      task_times bare own
+      task_times named own
       ∙ ap (λ deadlines. timing_check model i task ++ deadlines)
       (each_only (deadline_check new) new.tasks i no_task long
       (λ k lt apart.
@@ -111,10 +112,10 @@ module _ (model : SystemModel) (valid : IsValid model) (i : ℕ) (within : i < l
 
 module _ (model : SystemModel) (valid : IsValid model) (step : Step) (is : IsStepOf model step) where
   -- the task with another runnable of the same name and labels
-  runnable_set : (runnable : RunnableDef) → bare_runnable runnable ≡ bare_runnable (runnable_at model step)
+  runnable_set : (runnable : RunnableDef) → named_runnable runnable ≡ named_runnable (runnable_at model step)
       → refusals_of (with_task model step.task (record (task_at model step.task) { runnables = set (task_at model step.task).runnables step.place runnable }))
       ≡ times_check (at_sub step.place (entry_of part.Task step.task)) runnable
-  runnable_set runnable bare =
+  runnable_set runnable named =
       let i = step.task in
       let before = task_at model i in
       let runnables = set before.runnables step.place runnable in
@@ -122,7 +123,7 @@ module _ (model : SystemModel) (valid : IsValid model) (step : Step) (is : IsSte
       let passes = task_passes model valid i is.known in
       let times : ℕ → RunnableDef → List Refusal = λ p r. times_check (at_sub p (entry_of part.Task i)) r in
       let long : step.place < length runnables = omega (arith, is.place, length-set before.runnables step.place runnable) in
-      task_set model valid i is.known task (ap (λ rs. record (bare_task before) { runnables = rs }) (map_set_same bare_runnable before.runnables step.place runnable no_runnable bare)) refl
+      task_set model valid i is.known task (ap (λ rs. record (named_task before) { runnables = rs }) (map_set_same named_runnable before.runnables step.place runnable no_runnable named)) refl
       ∙ times_only (late_check (kind_named model before.stimulus) i before) (release_check (kind_named model before.stimulus) i before) (times_checks i task) (deadline_check model i before)
       passes.late passes.release (deadline_none model valid i is.known)
       ∙ each_only times runnables step.place no_runnable long

@@ -1,5 +1,5 @@
 -- Words that are read one after another: what was read of them, and that what was written is read again.
-use Rattle.std.proofs.Common.{◌≡◌, Option, Some, None, List, ℕ, ◌∷◌, [], refl, ap}
+use Rattle.std.proofs.Common.{◌≡◌, Option, Some, None, List, ℕ, ◌∷◌, [], refl, ap, ◌∙◌}
 use Rattle.cl_edit.specs.Inner.Parts.{with_left, first_read, then_read}
 use Rattle.cl_edit.proofs.FieldFacts.{IsField}
 
@@ -19,3 +19,8 @@ took {X} {Y} {read} {write} {Good} field (word ∷ words) next y is = of_word (r
 pub gave : {X Y : Type 0} {read : List ℕ → Option X} {write : X → List ℕ} {Good : X → Type 0} → IsField read write Good
     → (x : X) (left : List (List ℕ)) (next : X → List (List ℕ) → Option Y) → Good x → then_read (first_read read (write x ∷ left)) next ≡ next x left
 gave field x left next good = ap (λ o. then_read (with_left left o) next) (field.back x good)
+
+-- three words in front of others
+pub three_words : (words more rest left : List (List ℕ)) (one two three : List ℕ) → words ≡ one ∷ more → more ≡ two ∷ rest → rest ≡ three ∷ left
+    → words ≡ one ∷ two ∷ three ∷ left
+three_words words more rest left one two three first second third = first ∙ ap (λ w. one ∷ w) (second ∙ ap (λ w. two ∷ w) third)

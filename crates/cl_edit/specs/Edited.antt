@@ -1,19 +1,21 @@
 -- What an edit makes of a model: the changed model, or the first refusal.
-use Rattle.std.specs.Prelude.{Bool, true, false, nat_lt, List, [], ◌∷◌, ◌++◌, length, Option, Some, None, Result, Ok, Err, ℕ}
-use Rattle.cl_model.specs.declared.limits.TheConstants.{MOST_TASKS, MOST_CHAINS}
+use Rattle.std.specs.Prelude.{Bool, true, false, ◌||◌, nat_lt, List, [], ◌∷◌, ◌++◌, length, Option, Some, None, Result, Ok, Err, ℕ}
+use Rattle.std.specs.List.{flat_map}
+use Rattle.cl_model.specs.declared.limits.TheConstants.{MOST_TASKS, MOST_CHAINS, MOST_REQUIREMENTS}
 use Rattle.cl_model.specs.declared.place.Part.TheVariants as part
 use Rattle.cl_model.specs.declared.refusal.Code.TheVariants.{M10, E2, E3}
 use Rattle.cl_model.specs.declared.refusal.Refusal.{Refusal}
 use Rattle.cl_model.specs.declared.model.SystemModel.{SystemModel}
 use Rattle.cl_model.specs.declared.stimulus.StimulusKind.{StimulusKind}
 use Rattle.cl_model.specs.declared.stimulus.StimulusKind.TheVariants as pattern
-use Rattle.cl_model.specs.Named.{has_name, task_names, chain_names, runnable_names, all_runnables, kind_named}
+use Rattle.cl_model.specs.Named.{has_name, task_names, chain_names, requirement_names, runnable_names, all_runnables, kind_named}
 use Rattle.cl_model.specs.Place.{top, section_place}
 use Rattle.cl_model.specs.Refusals.{refuse, unless, answer}
 use Rattle.cl_model.specs.Validity.{refusals_of}
 use Rattle.cl_model.specs.Kinds.{is_periodic}
+use Rattle.cl_edit.specs.declared.edit.NamedPriority.{NamedPriority}
 use Rattle.cl_edit.specs.declared.edit.Edit.{Edit}
-use Rattle.cl_edit.specs.declared.edit.Edit.TheVariants.{Range, Whole, Period, Offset, Jitter, Distances, Burst, Deadline, Swap, Move, Kind, AddTask, DropTask, AddChain, DropChain, Report}
+use Rattle.cl_edit.specs.declared.edit.Edit.TheVariants.{Range, Whole, Period, Offset, Jitter, Distances, Burst, Deadline, Swap, Priorities, Move, Kind, AddTask, DropTask, AddChain, DropChain, Requirement, DropRequirement, Report, Tighten, Verify}
 use Rattle.cl_edit.specs.Changing.{with_change, change_of}
 
 -- ---- what an edit looks up
@@ -57,13 +59,18 @@ edit_checks model (Distances stimulus least greatest) = kind_found (kind_named m
 edit_checks model (Burst stimulus period count distance) = kind_found (kind_named model stimulus) is_burst
 edit_checks model (Deadline task deadline) = found task (task_names model)
 edit_checks model (Swap one other) = found one (task_names model) ++ found other (task_names model)
+edit_checks model (Priorities priorities) = flat_map (λ (p : NamedPriority). found p.task (task_names model)) priorities
 edit_checks model (Move task core priority) = found task (task_names model)
 edit_checks model (Kind task access) = found task (task_names model)
 edit_checks model (AddTask task) = unless (nat_lt (length model.tasks) MOST_TASKS) M10 (section_place part.Task)
 edit_checks model (DropTask task) = found task (task_names model)
 edit_checks model (AddChain chain) = unless (nat_lt (length model.chains) MOST_CHAINS) M10 (section_place part.Chain)
 edit_checks model (DropChain chain) = found chain (chain_names model)
+edit_checks model (Requirement requirement) = unless (has_name requirement.name (requirement_names model) || nat_lt (length model.requirements) MOST_REQUIREMENTS) M10 (section_place part.Requirement)
+edit_checks model (DropRequirement requirement) = found requirement (requirement_names model)
 edit_checks model Report = []
+edit_checks model Tighten = []
+edit_checks model Verify = []
 
 -- ---- the change
 

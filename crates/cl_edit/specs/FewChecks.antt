@@ -2,6 +2,7 @@
 -- Each stands at the place that it has in the changed model. Times are in ticks.
 use Rattle.std.specs.Prelude.{ℕ, Bool, ◌&&◌, ◌||◌, nat_lt, if◌then◌else◌, List, [], ◌∷◌, length, take, Option, Some}
 use Rattle.std.specs.List.{list_any}
+use Rattle.cl_model.specs.declared.changes.TaskPriority.{TaskPriority}
 use Rattle.cl_model.specs.declared.group.Step.{Step}
 use Rattle.cl_model.specs.declared.model.SystemModel.{SystemModel}
 use Rattle.cl_model.specs.declared.place.Key.TheVariants as key
@@ -11,7 +12,7 @@ use Rattle.cl_model.specs.declared.refusal.Refusal.{Refusal}
 use Rattle.cl_model.specs.declared.stimulus.StimulusKind.{StimulusKind}
 use Rattle.cl_model.specs.declared.task.TaskDef.{TaskDef}
 use Rattle.cl_model.specs.ByNumber.{task_at}
-use Rattle.cl_model.specs.Changes.{stimulus_at, with_kind, with_swap, with_place}
+use Rattle.cl_model.specs.Changes.{stimulus_at, with_kind, with_priorities, with_place}
 use Rattle.cl_model.specs.Named.{same_name, core_names, kind_named, tasks_on}
 use Rattle.cl_model.specs.Place.{entry_of, at_key, at_sub}
 use Rattle.cl_model.specs.Refusals.{when, in_order, each}
@@ -58,11 +59,11 @@ kind_deadline_refusals model s kind =
 abbrev pub kind_refusals : SystemModel → (s : ℕ) → StimulusKind → List Refusal
 kind_refusals model s kind = in_order (number_refusals s kind ∷ limit_refusals model s kind ∷ kind_deadline_refusals model s kind ∷ [])
 
--- exchanged priorities of two tasks: no task has the priority of an earlier one of its core, and no deadline spans too many
+-- other priorities of tasks: no task has the priority of an earlier one of its core, and no deadline spans too many
 -- distances of a task above
-abbrev pub swap_refusals : SystemModel → (one other : ℕ) → List Refusal
-swap_refusals model one other =
-    let changed = with_swap model one other in
+abbrev pub priority_refusals : SystemModel → List TaskPriority → List Refusal
+priority_refusals model priorities =
+    let changed = with_priorities model priorities in
     in_order (each (λ i task. priority_check (tasks_on task.core (take i changed.tasks)) i task) changed.tasks ∷ deadline_checks changed ∷ [])
 
 -- whether a task may stand where it does: its core is known, no earlier task of the core has its priority, and the core

@@ -3,7 +3,9 @@ pub mod Changing
 pub mod Edited
 pub mod FewListChecks
 pub mod Lines
+pub mod Said
 pub mod Reading
 pub mod Listed
+pub mod FirstLists
 pub mod Inner
 pub mod FewChecks

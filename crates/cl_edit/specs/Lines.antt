@@ -1,13 +1,14 @@
 -- How each edit is written: its words, separated by one blank, on a line of its own. Times are in ticks.
 use Rattle.std.specs.Prelude.{ℕ, Bool, true, false, Option, Some, None, List, [], ◌∷◌, codes, decimal}
 use Rattle.std.specs.List.{flat_map, join_with_byte}
-use Rattle.cl_text.specs.Line.{line}
 use Rattle.cl_model.specs.declared.task.RunnableDef.{RunnableDef}
 use Rattle.cl_model.specs.declared.task.TaskDef.{TaskDef}
 use Rattle.cl_model.specs.declared.chain.ChainDef.{ChainDef}
-use Rattle.cl_model.specs.Kinds.{access_word}
+use Rattle.cl_model.specs.declared.chain.RequirementDef.{RequirementDef}
+use Rattle.cl_model.specs.Kinds.{access_word, requirement_word}
+use Rattle.cl_edit.specs.declared.edit.NamedPriority.{NamedPriority}
 use Rattle.cl_edit.specs.declared.edit.Edit.{Edit}
-use Rattle.cl_edit.specs.declared.edit.Edit.TheVariants.{Range, Whole, Period, Offset, Jitter, Distances, Burst, Deadline, Swap, Move, Kind, AddTask, DropTask, AddChain, DropChain, Report}
+use Rattle.cl_edit.specs.declared.edit.Edit.TheVariants.{Range, Whole, Period, Offset, Jitter, Distances, Burst, Deadline, Swap, Priorities, Move, Kind, AddTask, DropTask, AddChain, DropChain, Requirement, DropRequirement, Report, Tighten, Verify}
 
 -- ---- single words: a name is its bytes, and a number its decimal
 
@@ -41,6 +42,14 @@ task_edit_words t = t.name ∷ t.core ∷ t.stimulus ∷ decimal t.priority ∷ 
 abbrev pub chain_edit_words : ChainDef → List (List ℕ)
 chain_edit_words c = c.name ∷ names_word c.runnables ∷ names_word c.labels ∷ []
 
+-- a task and the priority that it gets
+abbrev pub priority_words : NamedPriority → List (List ℕ)
+priority_words p = p.task ∷ decimal p.priority ∷ []
+
+-- a requirement
+abbrev pub requirement_words : RequirementDef → List (List ℕ)
+requirement_words r = r.name ∷ r.chain ∷ requirement_word r.kind ∷ decimal r.most ∷ []
+
 abbrev pub edit_words : Edit → List (List ℕ)
 edit_words (Range runnable least greatest) = codes "range" ∷ runnable ∷ decimal least ∷ decimal greatest ∷ []
 edit_words (Whole runnable whole) = codes "whole" ∷ runnable ∷ flag_word whole ∷ []
@@ -51,24 +60,19 @@ edit_words (Distances stimulus least greatest) = codes "distances" ∷ stimulus 
 edit_words (Burst stimulus period count distance) = codes "burst" ∷ stimulus ∷ decimal period ∷ decimal count ∷ decimal distance ∷ []
 edit_words (Deadline task deadline) = codes "deadline" ∷ task ∷ deadline_word deadline ∷ []
 edit_words (Swap one other) = codes "swap" ∷ one ∷ other ∷ []
+edit_words (Priorities priorities) = codes "priorities" ∷ flat_map priority_words priorities
 edit_words (Move task core priority) = codes "move" ∷ task ∷ core ∷ decimal priority ∷ []
 edit_words (Kind task access) = codes "access" ∷ task ∷ access_word access ∷ []
 edit_words (AddTask task) = codes "task" ∷ task_edit_words task
 edit_words (DropTask task) = codes "drop-task" ∷ task ∷ []
 edit_words (AddChain chain) = codes "chain" ∷ chain_edit_words chain
 edit_words (DropChain chain) = codes "drop-chain" ∷ chain ∷ []
+edit_words (Requirement requirement) = codes "requirement" ∷ requirement_words requirement
+edit_words (DropRequirement requirement) = codes "drop-requirement" ∷ requirement ∷ []
 edit_words Report = codes "report" ∷ []
+edit_words Tighten = codes "tighten" ∷ []
+edit_words Verify = codes "verify" ∷ []
 
--- the line of an edit, with its end
-unfoldable pub edit_line : Edit → List ℕ
-edit_line edit = line (join_with_byte 0x20 (edit_words edit))
-
--- ---- a list of edits
-
--- the first line
-abbrev pub title_line : List ℕ
-title_line = line (codes "chainlat edits 1")
-
--- the lines of edits, one after another
-abbrev pub edit_lines : List Edit → List ℕ
-edit_lines edits = flat_map edit_line edits
+-- the line of an edit, without its end
+unfoldable pub edit_text : Edit → List ℕ
+edit_text edit = join_with_byte 0x20 (edit_words edit)

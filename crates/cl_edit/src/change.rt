@@ -1,5 +1,7 @@
 //! Changes of a model, by the numbers of what they change. Times are in ticks.
-use cl_model::{AccessKind, ChainDef, Name, Step, StimulusKind, TaskDef};
+use cl_model::{
+    AccessKind, ChainDef, List, Name, RequirementDef, Step, StimulusKind, TaskDef, TaskPriority,
+};
 
 /// A change of a model, by the numbers of what it changes. Times are in ticks.
 #[derive(Debug, PartialEq, Eq, Drop)]
@@ -25,11 +27,8 @@ pub enum Change {
         task: u32,
         deadline: Option<u64>,
     },
-    /// Exchanges the priorities of two tasks.
-    Swap {
-        one: u32,
-        other: u32,
-    },
+    /// Sets the priorities of tasks, one after the other.
+    Priorities(List<TaskPriority>),
     /// Sets the core and the priority of a task.
     Move {
         task: u32,
@@ -52,6 +51,17 @@ pub enum Change {
     /// Removes a chain. The others keep their order.
     DropChain {
         chain: u32,
+    },
+    /// Sets a requirement, which keeps its name.
+    Requirement {
+        requirement: u32,
+        to: RequirementDef,
+    },
+    /// Appends a requirement.
+    AddRequirement(RequirementDef),
+    /// Removes a requirement. The others keep their order.
+    DropRequirement {
+        requirement: u32,
     },
     /// Changes nothing.
     Nothing,

@@ -10,8 +10,9 @@ use crate::change::Change;
 use crate::check_lists::{check_dropped_chain, check_dropped_task, check_new_chain};
 use crate::check_move::check_move;
 use crate::check_new_task::check_new_task;
+use crate::check_priorities::check_priorities;
+use crate::check_requirements::{check_new_requirement, check_requirement};
 use crate::check_sets::{check_deadline, check_kind, check_range};
-use crate::clash::check_swapped;
 use crate::edit::Edit;
 use crate::resolve::change_of;
 use cl_model::{ModelFault, ValidModel};
@@ -31,7 +32,7 @@ fn check_change(alloc: Global, model: &ValidModel, change: &Change) -> Result<()
         } => check_range(model, *step, *least, *greatest),
         Change::Stimulus { stimulus, kind } => check_kind(model, *stimulus, *kind),
         Change::Deadline { task, deadline } => check_deadline(model, *task, *deadline),
-        Change::Swap { one, other } => check_swapped(model, *one, *other),
+        Change::Priorities(priorities) => check_priorities(alloc, model, priorities.as_slice()),
         Change::Move {
             task,
             core,
@@ -41,7 +42,12 @@ fn check_change(alloc: Global, model: &ValidModel, change: &Change) -> Result<()
         Change::DropTask { task } => check_dropped_task(model, *task),
         Change::AddChain(chain) => check_new_chain(model, chain),
         Change::DropChain { chain } => check_dropped_chain(model, *chain),
-        Change::Whole { .. } | Change::Access { .. } | Change::Nothing => Ok(()),
+        Change::Requirement { requirement, to } => check_requirement(model, *requirement, to),
+        Change::AddRequirement(requirement) => check_new_requirement(model, requirement),
+        Change::Whole { .. } => Ok(()),
+        Change::Access { .. } => Ok(()),
+        Change::DropRequirement { .. } => Ok(()),
+        Change::Nothing => Ok(()),
     }
 }
 
@@ -49,9 +55,10 @@ fn check_change(alloc: Global, model: &ValidModel, change: &Change) -> Result<()
 /// is. Changes nothing.
 ///
 /// The edit is refused with E2 where it looks up a name that isn't there, with E3 where the
-/// stimulus is of a kind that it doesn't set, with M10 where it adds a task or a chain to a full
-/// section, and else exactly where the changed model isn't valid, with the first refusal of that
-/// model. Only a task or a chain that is added takes memory; `NoMemory` comes where there is none.
+/// stimulus is of a kind that it doesn't set, with M10 where it adds a task, a chain or a
+/// requirement to a full section, and else exactly where the changed model isn't valid, with the
+/// first refusal of that model. Only priorities, a task or a chain that is added, and a requirement
+/// that is set take memory; `NoMemory` comes where there is none.
 pub fn check_edit(alloc: Global, model: &ValidModel, edit: &Edit) -> Result<Change, ModelFault>
     requires { IsEditInRange edit.now }
     ensures change { Answers result

@@ -154,7 +154,7 @@ fn check_chain(model: &ValidModel, i: usize, chain: &ChainDef) -> Result<(), Mod
     Ok(())
 }
 
-fn has_chain(model: &ValidModel, name: &Name) -> bool
+pub(crate) fn has_chain(model: &ValidModel, name: &Name) -> bool
     ensures { result ≡ has_name name.now (chain_names model.now) }
 {
     model.chain_named(name).is_some()

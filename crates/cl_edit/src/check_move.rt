@@ -1,6 +1,6 @@
 //! Whether a task of a valid model may be moved to another core and priority, checked before any
 //! change.
-ghost use Rattle.std.specs.Prelude.{◌≡◌, ℕ, ◌<◌, ◌++◌, length};
+ghost use Rattle.std.specs.Prelude.{◌≡◌, ℕ, ◌<◌, ◌++◌, nat_lt, if◌then◌else◌, length};
 ghost use Rattle.cl_model.specs.Answers.{Answers, Passes};
 ghost use Rattle.cl_model.specs.Changes.{with_place};
 ghost use Rattle.cl_model.specs.ValidTasks as keys;
@@ -11,9 +11,16 @@ ghost use Rattle.cl_edit.specs.Inner.Paces.{with_retiming};
 ghost use Rattle.cl_edit.specs.Inner.Places.{place_checks, IsFirstBeyond, first_checks};
 
 use crate::check_new_task::task_key;
-use crate::clash::later_of;
 use crate::pace::Retiming;
+use crate::pairs::PairFault;
 use cl_model::{Code, Key, MOST_TASKS_OF_CORE, ModelFault, Name, ValidModel};
+
+/// The later of two tasks in file order.
+fn later_of(task: u32, other: u32) -> u32
+    ensures { result ≡ (if nat_lt task other then other else task) }
+{
+    if task < other { other } else { task }
+}
 
 /// Finds the first task that M34 refuses after a task is moved to this core: the later in file
 /// order of the moved task and the last task of the core. There is none exactly where the task is
@@ -73,7 +80,7 @@ fn check_places(model: &ValidModel, task: u32, core: u32, priority: u64) -> Resu
         core,
         priority,
     };
-    let clash = change.clash_beside(model, None, task, core);
+    let clash = change.first_refused(model, PairFault::Clash);
     check_first(clash, first_beyond(model, task, core))
 }
 
@@ -92,7 +99,7 @@ fn check_moved(model: &ValidModel, task: u32, core: u32, priority: u64) -> Resul
         core,
         priority,
     };
-    change.check_deadlines(model)
+    change.check_pairs(model, PairFault::Outpaced)
 }
 
 /// Checks whether a task may be moved to another core and priority: M29 where no core has the name,

@@ -1,5 +1,15 @@
 //! Edits: small changes of a model. Times are in ticks.
-use cl_model::{AccessKind, ChainDef, Name, TaskDef};
+ghost use Rattle.std.specs.Prelude.{◌≡◌};
+ghost use Rattle.cl_edit.specs.Reading.{is_written};
+
+use cl_model::{AccessKind, ChainDef, List, Name, RequirementDef, TaskDef};
+
+/// The priority that the task of a name gets.
+#[derive(Debug, PartialEq, Eq, Drop)]
+pub struct NamedPriority {
+    pub task: Name,
+    pub priority: u64,
+}
 
 /// A change of a model. Times are in ticks.
 #[derive(Debug, PartialEq, Eq, Drop)]
@@ -55,6 +65,8 @@ pub enum Edit {
         one: Name,
         other: Name,
     },
+    /// Sets the priorities of one or more tasks at once. No task stands twice.
+    Priorities(List<NamedPriority>),
     /// Sets the core and the priority of a task.
     Move {
         task: Name,
@@ -78,6 +90,25 @@ pub enum Edit {
     DropChain {
         chain: Name,
     },
+    /// Sets the requirement of that name, or appends it where there is none.
+    Requirement(RequirementDef),
+    /// Removes a requirement. The others keep their order.
+    DropRequirement {
+        requirement: Name,
+    },
     /// Changes nothing. The findings are reported here.
     Report,
+    /// Changes nothing. The tight bounds are written here.
+    Tighten,
+    /// Changes nothing. The verdicts are written here.
+    Verify,
+}
+
+impl Edit {
+    /// Whether nothing is changed and something is written.
+    pub(crate) fn is_written(&self) -> bool
+        ensures { result ≡ is_written self.now }
+    {
+        matches!(self, Edit::Report | Edit::Tighten | Edit::Verify)
+    }
 }

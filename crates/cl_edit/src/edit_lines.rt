@@ -1,115 +1,103 @@
 //! Reading the edits of a text one at a time.
-ghost use Rattle.std.specs.Prelude.{◌≡◌, ◌≢◌, ℕ, List, ◌++◌, Err, IfOk, IfSome, IfNone, OnErr};
+ghost use Rattle.std.specs.Prelude.{◌≡◌, IfOk, OnErr};
 ghost use Rattle.cl_text.specs.LinesFault.{IfBadLine};
-ghost use Rattle.cl_text.specs.Standing.{NoneStands};
-ghost use Rattle.cl_edit.specs.declared.edit.Edit.{Edit};
-ghost use Rattle.cl_edit.specs.declared.fault.Unread.TheVariants.{Bad};
-ghost use Rattle.cl_edit.specs.Inner.LineReads.{MayFollow, StandsNext};
-ghost use Rattle.cl_edit.specs.Lines.{edit_line, title_line, edit_lines};
-ghost use Rattle.cl_edit.specs.Reading.{AreEditsOf, IsBadEditLine};
 ghost use Rattle.cl_edit.specs.Listed.{GivesNext};
+ghost use Rattle.cl_edit.specs.Reading.{AreEditsOf, IsBadEditLine};
+ghost use Rattle.cl_edit.specs.Inner.Counts.{counted_with};
 
+use crate::cursor::Cursor;
 use crate::edit::Edit;
-use crate::fault::{EditsFault, Unread};
-use crate::reading::{edit_after, is_report, listed_after};
+use crate::fault::EditsFault;
+use crate::limits::{MOST_EDITS, MOST_REPORTS};
 use cl_time::NoMemory;
 use std::alloc::Global;
 use std::marker::Model;
 
-/// Returns what follows the title line. There is none exactly where the text doesn't begin with
-/// that line.
-fn behind_title(text: &[u8]) -> Option<&[u8]>
-    ensures some { IfSome result (λ lines. text.now ≡ title_line ++ lines.now) }
-    ensures none { IfNone result ((rest : List ℕ) → text.now ≢ title_line ++ rest) }
-{
-    text.strip_prefix(b"chainlat edits 1\n".as_slice())
+/// An edit of a list, by the number of its line in the text, counted from 1.
+#[derive(Debug, PartialEq, Eq, Drop)]
+pub struct ListedEdit {
+    pub line: u64,
+    pub edit: Edit,
 }
 
-/// Reads the edit line that the text begins with, and returns whether the edit is a report, and
-/// what follows the line. `Bad` where there is no such line, or no room for the edit below `edits`
-/// edits, of which `reports` are reports.
-fn line_after(
-    alloc: Global,
-    text: &[u8],
-    edits: usize,
-    reports: usize,
-) -> Result<(bool, &[u8]), Unread>
-    ensures some { IfOk result (λ read. StandsNext edits reports text.now read.0 read.1.now) }
-    ensures none { result ≡ Err Bad → NoneStands edit_line (MayFollow edits reports) text.now }
-{
-    let (edit, rest) = listed_after(alloc, text, edits, reports)?;
-    Ok((is_report(&edit), rest))
+/// How many edits were listed, and for how many of them something is written.
+#[derive(Clone, Copy)]
+pub(crate) struct Counted {
+    pub(crate) edits: usize,
+    pub(crate) written: usize,
 }
 
-/// The edit lines that are left to read, of a text that lists edits. Contracts see their bytes.
+impl Counted {
+    /// Counts one more edit. `BadLine` where it is one too many.
+    fn count(self, listed: &ListedEdit) -> Result<Counted, EditsFault>
+        ensures { result ≡ counted_with self listed.now }
+    {
+        let is_written = listed.edit.is_written();
+        if MOST_EDITS <= self.edits || (is_written && MOST_REPORTS <= self.written) {
+            return Err(EditsFault::BadLine { line: listed.line });
+        }
+        Ok(Counted {
+            edits: self.edits + 1,
+            written: self.written + usize::from(is_written),
+        })
+    }
+}
+
+/// The edits that are left to read, of a text that lists edits. Contracts see these edits.
 #[derive(Drop)]
 pub struct EditLines<'a> {
-    left: &'a [u8],
+    left: Cursor<'a>,
 }
 
 impl<'a> Model for EditLines<'a> {
-    ghost use Rattle.std.specs.Prelude.{List, ℕ};
-    ghost use Rattle.cl_edit.specs.Listed.{ListsSome};
+    ghost use Rattle.std.specs.Prelude.{List};
+    ghost use Rattle.cl_edit.specs.declared.edit_lines.ListedEdit.{ListedEdit};
+    ghost use Rattle.cl_edit.specs.Inner.Left.{edits_left, AreLeft};
 
-    ghost Value = { List ℕ };
+    ghost Value = { List ListedEdit };
 
-    ghost view = { λ lines. lines.left.now };
+    ghost view = { λ lines. edits_left lines.left };
 
-    ghost invariant = { λ lines. ListsSome lines.left.now };
+    ghost invariant = { λ lines. AreLeft lines.left };
 }
 
 impl<'a> EditLines<'a> {
-    /// Checks that a text lists edits, and returns the lines of all of them. Each line is read once
+    /// Checks that a text lists edits, and returns all of them, to be read. Each line is read once
     /// as a check, and no edit is kept.
     ///
     /// `BadLine` comes exactly where the text lists no edits. It has the number of the first line
-    /// that is outside the grammar, that is one too many, or that has no end, counted from 1.
-    /// `NoMemory` comes where there is no memory for an edit. Either error leaves nothing.
+    /// that is outside the grammar or that is one too many, counted from 1. `NoMemory` comes where
+    /// there is no memory for an edit. Either error leaves nothing.
     pub fn of(alloc: Global, text: &'a [u8]) -> Result<EditLines<'a>, EditsFault>
-        ensures lines { IfOk result
-            (λ lines. (edits : List Edit) × AreEditsOf text.now edits
-            × (lines ≡ edit_lines edits)) }
+        ensures lines { IfOk result (AreEditsOf text.now) }
         ensures bad_line { IfBadLine result (IsBadEditLine text.now) }
     {
-        let Some(lines) = behind_title(text) else {
-            return Err(EditsFault::BadLine { line: 1 });
+        let left = Cursor::of(alloc, text)?;
+        let mut lines = left;
+        let mut counted = Counted {
+            edits: 0,
+            written: 0,
         };
-        let mut edits = 0;
-        let mut reports = 0;
-        let mut left = lines;
-        while !left.is_empty() {
-            let (report, rest) = match line_after(alloc, left, edits, reports) {
-                Ok(read) => read,
-                Err(Unread::NoMemory) => return Err(EditsFault::NoMemory),
-                Err(Unread::Bad) => {
-                    return Err(EditsFault::BadLine {
-                        line: edits as u64 + 2,
-                    });
-                }
-            };
-            reports += usize::from(report);
-            edits += 1;
-            left = rest;
+        while let Some(listed) = lines.next(alloc)? {
+            counted = counted.count(&listed)?;
         }
-        Ok(EditLines { left: lines })
+        Ok(EditLines { left })
     }
 
-    /// Reads the next edit. `None` comes exactly where no line is left. `NoMemory` comes where
-    /// there is no memory for the edit, and leaves the lines as they were.
-    pub fn next(&mut self, alloc: Global) -> Result<Option<Edit>, NoMemory>
+    /// Reads the next edit. `None` comes exactly where no edit is left. `NoMemory` comes where
+    /// there is no memory for the edit, and leaves the edits as they were.
+    pub fn next(&mut self, alloc: Global) -> Result<Option<ListedEdit>, NoMemory>
         ensures next { IfOk result (λ next. GivesNext next self.old self.new) }
         ensures unread { OnErr result (self.new ≡ self.old) }
     {
-        if self.left.is_empty() {
-            return Ok(None);
-        }
-        match edit_after(alloc, self.left) {
-            Ok((edit, rest)) => {
-                self.left = rest;
-                Ok(Some(edit))
+        let mut left = self.left;
+        match left.next(alloc) {
+            Ok(next) => {
+                self.left = left;
+                Ok(next)
             }
-            Err(Unread::NoMemory) => Err(NoMemory),
-            Err(Unread::Bad) => unreachable!(),
+            Err(EditsFault::NoMemory) => Err(NoMemory),
+            Err(EditsFault::BadLine { .. }) => unreachable!(),
         }
     }
 }

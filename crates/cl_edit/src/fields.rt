@@ -2,11 +2,11 @@
 ghost use Rattle.std.specs.Prelude.{◌≡◌, [], ◌∷◌, IfOk, IfErr};
 ghost use Rattle.cl_edit.specs.declared.fault.Unread.TheVariants.{Bad};
 ghost use Rattle.cl_edit.specs.Inner.Parts.{first_read, ReadsPart, ReadsUpTo};
-ghost use Rattle.cl_edit.specs.Inner.Fields.{name_in, number_in, time_in, flag_in, access_in, deadline_in, names_in};
+ghost use Rattle.cl_edit.specs.Inner.Fields.{name_in, number_in, time_in, flag_in, access_in, deadline_in, names_in, requirement_kind_in};
 
 use crate::fault::Unread;
 use crate::words::Parts;
-use cl_model::{AccessKind, List, MOST_TICKS, Name};
+use cl_model::{AccessKind, List, MOST_TICKS, Name, RequirementKind};
 use cl_text::read_decimal;
 use std::alloc::Global;
 
@@ -49,6 +49,12 @@ fn access_of(word: &[u8]) -> Result<AccessKind, Unread>
     ensures { ReadsPart result (access_in word.now) }
 {
     AccessKind::of_word(word).ok_or(Unread::Bad)
+}
+
+fn requirement_kind_of(word: &[u8]) -> Result<RequirementKind, Unread>
+    ensures { ReadsPart result (requirement_kind_in word.now) }
+{
+    RequirementKind::of_word(3, word).ok_or(Unread::Bad)
 }
 
 fn deadline_of(word: &[u8]) -> Result<Option<u64>, Unread>
@@ -118,6 +124,13 @@ pub(crate) fn access(words: &mut Parts<'_>) -> Result<AccessKind, Unread>
     ensures { ReadsUpTo result words.new (first_read access_in words.old) }
 {
     access_of(word(words)?)
+}
+
+/// Reads what a requirement limits.
+pub(crate) fn requirement_kind(words: &mut Parts<'_>) -> Result<RequirementKind, Unread>
+    ensures { ReadsUpTo result words.new (first_read requirement_kind_in words.old) }
+{
+    requirement_kind_of(word(words)?)
 }
 
 /// Reads a deadline in ticks, or `*`, which stands for no deadline.

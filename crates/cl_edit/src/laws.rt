@@ -5,34 +5,36 @@ ghost use Rattle.cl_model.specs.declared.model.SystemModel.{SystemModel};
 ghost use Rattle.cl_model.specs.AreNamed.{AreNamed};
 ghost use Rattle.cl_model.specs.Validity.{IsValid};
 ghost use Rattle.cl_edit.specs.declared.edit.Edit.{Edit};
+ghost use Rattle.cl_edit.specs.declared.edit_lines.ListedEdit.{ListedEdit};
 ghost use Rattle.cl_edit.specs.Edited.{edited};
 ghost use Rattle.cl_edit.specs.Ranges.{IsEditInRange};
-ghost use Rattle.cl_edit.specs.Reading.{AreEditsOf, IsBadEditLine, IsEditNamed};
+ghost use Rattle.cl_edit.specs.Reading.{AreEditsOf, IsBadEditLine, IsEditNamed, edits_of};
 
 pub mod few_checks;
 pub mod lists;
+pub mod versions;
 
 /// A text lists edits, or it has a first bad line.
 pub fn texts_have_an_answer()
-    ensures { (text : List ℕ) → ((edits : List Edit) × AreEditsOf text edits)
+    ensures { (text : List ℕ) → ((listed : List ListedEdit) × AreEditsOf text listed)
         ⊎ ((line : ℕ) × IsBadEditLine text line) }
 {}
 
 /// A text lists at most one list of edits, and it has at most one first bad line. A text that lists
 /// edits has no bad line.
 pub fn texts_have_one_answer()
-    ensures edits { (text : List ℕ) (one other : List Edit) → AreEditsOf text one
+    ensures edits { (text : List ℕ) (one other : List ListedEdit) → AreEditsOf text one
         → AreEditsOf text other → one ≡ other }
     ensures line { (text : List ℕ) (one other : ℕ) → IsBadEditLine text one
         → IsBadEditLine text other → one ≡ other }
-    ensures apart { (text : List ℕ) (edits : List Edit) (line : ℕ) → AreEditsOf text edits
+    ensures apart { (text : List ℕ) (listed : List ListedEdit) (line : ℕ) → AreEditsOf text listed
         → IsBadEditLine text line → ⊥ }
 {}
 
 /// All edits that a text lists are in range.
 pub fn listed_edits_are_in_range()
-    ensures { (text : List ℕ) (edits : List Edit) → AreEditsOf text edits
-        → All IsEditInRange edits }
+    ensures { (text : List ℕ) (listed : List ListedEdit) → AreEditsOf text listed
+        → All IsEditInRange (edits_of listed) }
 {}
 
 /// An edit in range makes a valid model of a valid model, unless it is refused.

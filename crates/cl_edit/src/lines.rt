@@ -3,16 +3,18 @@
 ghost use Rattle.std.specs.Prelude.{◌≡◌};
 ghost use Rattle.std.specs.Str.{bytes_eq};
 ghost use Rattle.cl_edit.specs.Inner.Parts.{ReadsPart, ReadsUpTo};
-ghost use Rattle.cl_edit.specs.Inner.LineReads.{range_in, whole_in, period_in, offset_in, jitter_in, distances_in, burst_in, deadline_line_in, swap_in, move_in, access_line_in, drop_task_in, drop_chain_in, chain_in, fields_in, edit_in};
+ghost use Rattle.cl_edit.specs.Inner.LineReads.{range_in, whole_in, period_in, offset_in, jitter_in, distances_in, burst_in, deadline_line_in, swap_in, move_in, access_line_in, drop_task_in, drop_chain_in, chain_in, fields_in, requirement_in, drop_requirement_in, later_fields_in, fields_of, edit_in};
 
 use crate::edit::Edit;
 use crate::fault::Unread;
-use crate::fields::{access, deadline, flag, name, names, number, time};
+use crate::fields::{access, deadline, flag, name, names, number, requirement_kind, time};
+use crate::priorities_line::priorities;
 use crate::task_line::task;
+use crate::version::Version;
 use crate::words::Parts;
 use cl_model::{
-    ChainDef, LEAST_JOBS_OF_BURST, MOST_HOPS, MOST_JOBS_OF_BURST, MOST_PRIORITY, MOST_STEPS,
-    MOST_TICKS,
+    ChainDef, LEAST_JOBS_OF_BURST, MOST_HOPS, MOST_JOBS_OF_BURST, MOST_PRIORITY, MOST_REQUIRED,
+    MOST_STEPS, MOST_TICKS, RequirementDef,
 };
 use std::alloc::Global;
 
@@ -153,6 +155,28 @@ fn drop_chain(words: &mut Parts<'_>) -> Result<Edit, Unread>
     Ok(Edit::DropChain { chain })
 }
 
+fn requirement(words: &mut Parts<'_>) -> Result<Edit, Unread>
+    ensures { ReadsUpTo result words.new (requirement_in words.old) }
+{
+    let requirement = name(words)?;
+    let chain = name(words)?;
+    let kind = requirement_kind(words)?;
+    let most = number(words, 0, MOST_REQUIRED)?;
+    Ok(Edit::Requirement(RequirementDef {
+        name: requirement,
+        chain,
+        kind,
+        most,
+    }))
+}
+
+fn drop_requirement(words: &mut Parts<'_>) -> Result<Edit, Unread>
+    ensures { ReadsUpTo result words.new (drop_requirement_in words.old) }
+{
+    let requirement = name(words)?;
+    Ok(Edit::DropRequirement { requirement })
+}
+
 fn is_word(word: &[u8], text: &str) -> bool
     ensures { result ≡ bytes_eq word.now text.now }
 {
@@ -200,15 +224,49 @@ fn fields(alloc: Global, keyword: &[u8], words: &mut Parts<'_>) -> Result<Edit, 
     }
 }
 
-/// Reads the edit of a line, given without its line feed.
-pub(crate) fn edit_of(alloc: Global, line: &[u8]) -> Result<Edit, Unread>
-    ensures { ReadsPart result (edit_in line.now) }
+/// Reads the edit of a keyword of version 2 from the words after it.
+fn later_fields(alloc: Global, keyword: &[u8], words: &mut Parts<'_>) -> Result<Edit, Unread>
+    ensures { ReadsUpTo result words.new (later_fields_in keyword.now words.old) }
+{
+    if is_word(keyword, "priorities") {
+        priorities(alloc, words)
+    } else if is_word(keyword, "requirement") {
+        requirement(words)
+    } else if is_word(keyword, "drop-requirement") {
+        drop_requirement(words)
+    } else if is_word(keyword, "tighten") {
+        Ok(Edit::Tighten)
+    } else if is_word(keyword, "verify") {
+        Ok(Edit::Verify)
+    } else {
+        fields(alloc, keyword, words)
+    }
+}
+
+/// Reads the edit of a keyword of a version from the words after it.
+fn fields_of(
+    alloc: Global,
+    version: Version,
+    keyword: &[u8],
+    words: &mut Parts<'_>,
+) -> Result<Edit, Unread>
+    ensures { ReadsUpTo result words.new (fields_of version keyword.now words.old) }
+{
+    match version {
+        Version::One => fields(alloc, keyword, words),
+        Version::Two => later_fields(alloc, keyword, words),
+    }
+}
+
+/// Reads the edit of a line of a version, given without its line feed.
+pub(crate) fn edit_of(alloc: Global, version: Version, line: &[u8]) -> Result<Edit, Unread>
+    ensures { ReadsPart result (edit_in version line.now) }
 {
     let mut words = Parts::of(line, b' ');
     let Some(keyword) = words.next() else {
         return Err(Unread::Bad);
     };
-    let edit = fields(alloc, keyword, &mut words)?;
+    let edit = fields_of(alloc, version, keyword, &mut words)?;
     if words.is_done() {
         Ok(edit)
     } else {

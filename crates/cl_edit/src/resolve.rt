@@ -1,22 +1,25 @@
 //! Which change of a valid model an edit is: the names that it looks up become numbers. Times are
 //! in ticks.
-ghost use Rattle.std.specs.Prelude.{◌≡◌, ◌++◌, nat_lt, length};
+ghost use Rattle.std.specs.Prelude.{◌≡◌, ◌++◌, ◌||◌, nat_lt, length, map, unwrap_or};
+ghost use Rattle.std.specs.List.{flat_map};
 ghost use Rattle.cl_model.specs.Answers.{Answers};
 ghost use Rattle.cl_model.specs.Groups.{step_named};
-ghost use Rattle.cl_model.specs.Named.{task_names, chain_names, kind_named};
+ghost use Rattle.cl_model.specs.ByNumber.{requirement_named};
+ghost use Rattle.cl_model.specs.Named.{has_name, task_names, chain_names, requirement_names, kind_named};
 ghost use Rattle.cl_model.specs.Place.{top, section_place};
 ghost use Rattle.cl_model.specs.Refusals.{unless};
 ghost use Rattle.cl_edit.specs.declared.change.Change.TheVariants as changes;
-ghost use Rattle.cl_edit.specs.Changing.{task_number, chain_number, kind_change, change_of};
+ghost use Rattle.cl_edit.specs.declared.edit.NamedPriority.{NamedPriority};
+ghost use Rattle.cl_edit.specs.Changing.{task_number, chain_number, kind_change, by_number, exchanged, requirement_change, change_of};
 ghost use Rattle.cl_edit.specs.Edited.{found, all_names, kind_found, edit_checks};
 ghost use Rattle.cl_edit.specs.Inner.Kinds.{sets, with_numbers};
 
 use crate::change::Change;
-use crate::edit::Edit;
+use crate::edit::{Edit, NamedPriority};
 use crate::kinds::kind_with;
 use cl_model::{
-    AccessKind, ChainDef, Code, MOST_CHAINS, MOST_TASKS, ModelFault, Name, Part, Place, Step,
-    TaskDef, TryCopy, ValidModel, refuse_unless,
+    AccessKind, ChainDef, Code, List, MOST_CHAINS, MOST_REQUIREMENTS, MOST_TASKS, ModelFault, Name,
+    Part, Place, RequirementDef, Step, TaskDef, TaskPriority, TryCopy, ValidModel, refuse_unless,
 };
 use std::alloc::Global;
 
@@ -110,14 +113,54 @@ fn deadline(model: &ValidModel, task: &Name, deadline: Option<u64>) -> Result<Ch
     Ok(Change::Deadline { task, deadline })
 }
 
-fn swap(model: &ValidModel, one: &Name, other: &Name) -> Result<Change, ModelFault>
+/// The change in which two tasks exchange their priorities.
+fn swap(alloc: Global, model: &ValidModel, one: &Name, other: &Name) -> Result<Change, ModelFault>
     ensures { Answers result
         (found one.now (task_names model.now) ++ found other.now (task_names model.now))
-        (changes.Swap (task_number model.now one.now) (task_number model.now other.now)) }
+        (changes.Priorities (exchanged model.now (task_number model.now one.now) (task_number model.now other.now))) }
 {
     let one = found_task(model, one)?;
     let other = found_task(model, other)?;
-    Ok(Change::Swap { one, other })
+    let mut priorities = List::new(alloc);
+    priorities.push(TaskPriority {
+        task: one,
+        priority: model.task(other).priority,
+    })?;
+    priorities.push(TaskPriority {
+        task: other,
+        priority: model.task(one).priority,
+    })?;
+    Ok(Change::Priorities(priorities))
+}
+
+/// The priority that the task of a name gets, by its number. E2 where no task has the name.
+fn found_priority(model: &ValidModel, named: &NamedPriority) -> Result<TaskPriority, ModelFault>
+    ensures { Answers result (found named.now.task (task_names model.now)) (by_number model.now named.now) }
+{
+    let task = found_task(model, &named.task)?;
+    Ok(TaskPriority {
+        task,
+        priority: named.priority,
+    })
+}
+
+/// The change that sets these priorities. E2 where no task has one of the names.
+fn priorities(
+    alloc: Global,
+    model: &ValidModel,
+    named: &List<NamedPriority>,
+) -> Result<Change, ModelFault>
+    ensures { Answers result
+        (flat_map (λ (p : NamedPriority). found p.task (task_names model.now)) named.now)
+        (changes.Priorities (map (by_number model.now) named.now)) }
+{
+    let all = named.as_slice();
+    let mut priorities = List::new(alloc);
+    for one in all {
+        let it = found_priority(model, one)?;
+        priorities.push(it)?;
+    }
+    Ok(Change::Priorities(priorities))
 }
 
 fn move_task(
@@ -183,9 +226,51 @@ fn drop_chain(model: &ValidModel, chain: &Name) -> Result<Change, ModelFault>
     Ok(Change::DropChain { chain })
 }
 
+/// The change that appends a requirement. M10 where there is no room for it.
+fn new_requirement(model: &ValidModel, requirement: RequirementDef) -> Result<Change, ModelFault>
+    ensures { Answers result
+        (unless (nat_lt (length model.now.requirements) MOST_REQUIREMENTS) Code.M10 (section_place Part.Requirement))
+        (changes.AddRequirement requirement) }
+{
+    let has_room = (model.requirements() as usize) < MOST_REQUIREMENTS;
+    refuse_unless(has_room, Code::M10, Part::Requirement.section_place())?;
+    Ok(Change::AddRequirement(requirement))
+}
+
+/// The change that sets the requirement of its name, or appends it. M10 where there is no room for
+/// it.
+fn requirement(
+    alloc: Global,
+    model: &ValidModel,
+    requirement: &RequirementDef,
+) -> Result<Change, ModelFault>
+    ensures { Answers result
+        (unless (has_name requirement.now.name (requirement_names model.now)
+        || nat_lt (length model.now.requirements) MOST_REQUIREMENTS) Code.M10 (section_place Part.Requirement))
+        (requirement_change (requirement_named model.now requirement.now.name) requirement.now) }
+{
+    let to = requirement.try_copy(alloc)?;
+    match model.requirement_named(&to.name) {
+        Some(requirement) => Ok(Change::Requirement { requirement, to }),
+        None => new_requirement(model, to),
+    }
+}
+
+/// The change that removes the requirement of a name. E2 where no requirement has it.
+fn drop_requirement(model: &ValidModel, requirement: &Name) -> Result<Change, ModelFault>
+    ensures { Answers result (found requirement.now (requirement_names model.now))
+        (changes.DropRequirement (unwrap_or (requirement_named model.now requirement.now) 0)) }
+{
+    match model.requirement_named(requirement) {
+        Some(requirement) => Ok(Change::DropRequirement { requirement }),
+        None => Err(not_found()),
+    }
+}
+
 /// Finds which change of a valid model an edit is: E2 where it looks up a name that isn't there, E3
-/// where the stimulus is of a kind that it doesn't set, and M10 where it adds a task or a chain to
-/// a full section. Only an added task or chain takes memory; `NoMemory` comes where there is none.
+/// where the stimulus is of a kind that it doesn't set, and M10 where it adds a task, a chain or a
+/// requirement to a full section. Only priorities, a task or a chain that is added, and a
+/// requirement that is set take memory; `NoMemory` comes where there is none.
 #[tactic(auto, unfolding(crate::specs::Edited::edit_checks, crate::specs::Changing::change_of))]
 pub(crate) fn change_of(
     alloc: Global,
@@ -213,7 +298,8 @@ pub(crate) fn change_of(
             task,
             deadline: given,
         } => deadline(model, task, *given),
-        Edit::Swap { one, other } => swap(model, one, other),
+        Edit::Swap { one, other } => swap(alloc, model, one, other),
+        Edit::Priorities(named) => priorities(alloc, model, named),
         Edit::Move {
             task,
             core,
@@ -224,6 +310,8 @@ pub(crate) fn change_of(
         Edit::DropTask { task } => drop_task(model, task),
         Edit::AddChain(chain) => add_chain(alloc, model, chain),
         Edit::DropChain { chain } => drop_chain(model, chain),
-        Edit::Report => Ok(Change::Nothing),
+        Edit::Requirement(to) => requirement(alloc, model, to),
+        Edit::DropRequirement { requirement: name } => drop_requirement(model, name),
+        Edit::Report | Edit::Tighten | Edit::Verify => Ok(Change::Nothing),
     }
 }

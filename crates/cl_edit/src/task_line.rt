@@ -3,7 +3,6 @@
 ghost use Rattle.std.specs.Prelude.{◌≡◌, [], IfOk};
 ghost use Rattle.cl_edit.specs.Inner.Parts.{ReadsPart, ReadsUpTo};
 ghost use Rattle.cl_edit.specs.Inner.LineReads.{runnable_in, runnables_in, task_head_in, task_in};
-ghost use Rattle.cl_model.specs.declared.limits.TheConstants.{MOST_RUNNABLES};
 
 use crate::edit::Edit;
 use crate::fault::Unread;
@@ -34,7 +33,7 @@ fn runnable(alloc: Global, words: &mut Parts<'_>) -> Result<RunnableDef, Unread>
 /// Reads all words that are left as runnables. `Bad` where they are more than a task may have.
 fn runnables(alloc: Global, words: &mut Parts<'_>) -> Result<List<RunnableDef>, Unread>
     ensures all { IfOk result (λ _. words.new ≡ []) }
-    ensures read { ReadsPart result (runnables_in MOST_RUNNABLES words.old) }
+    ensures read { ReadsPart result (runnables_in words.old) }
 {
     let mut runnables = List::new(alloc);
     while !words.is_done() {

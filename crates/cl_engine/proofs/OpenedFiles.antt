@@ -55,6 +55,18 @@ module _ (words : List (List ℕ)) where
       let leaves = fetches_two one two joins (word words 1) (word words 2) alone later in
       record { same = leaves.same; others = λ name beside. leaves.others name beside.0 beside.1.0 }
 
+-- ---- the second file
+
+-- what isn't given stops the command
+pub second_stops : (shelf : ShelfCall) (name : List ℕ) (limit : ℕ) (model : SystemModel) (fetched : FileFetch) → MayGive shelf name limit (given fetched)
+    → (other : FileFetch) (found : Outcome) → fetched ≡ other → OpensTo 2 (given other) NoNext found
+    → HasOpenedSecond shelf name limit model (opened.Stopped found)
+second_stops shelf name limit model fetched may other found is stops = record {
+  fetch = given fetched;
+  may = may;
+  is = subst (λ (f : FileFetch). OpensTo 2 (given f) NoNext found) (sym is) stops;
+}
+
 -- ---- what is given
 
 module _ (words : List (List ℕ)) (shelf : ShelfCall) where

@@ -1,17 +1,17 @@
 -- What the changes that keep all numbers touch, by their kinds.
-use Rattle.std.proofs.Common.{◌≡◌, ℕ, ◌<◌, ◌⊎◌, inl, Bool, List, [], ◌∷◌, length, refl, sym, ap, ◌∙◌, subst}
-use Rattle.std.proofs.lemmas.List.Elements.{All-nil}
-use Rattle.std.specs.Prelude.{All, Contains, Option}
+use Rattle.std.proofs.Common.{◌≡◌, ℕ, ◌<◌, ◌⊎◌, Bool, List, [], ◌∷◌, length, refl, sym, ap, ◌∙◌, subst}
+use Rattle.std.specs.Prelude.{map, All, Contains, Option}
+use Rattle.cl_model.specs.declared.changes.TaskPriority.{TaskPriority}
 use Rattle.cl_model.specs.declared.model.SystemModel.{SystemModel}
 use Rattle.cl_model.specs.declared.stimulus.StimulusKind.{StimulusKind}
 use Rattle.cl_model.specs.declared.task.AccessKind.{AccessKind}
 use Rattle.cl_model.specs.declared.group.Step.{Step}
 use Rattle.cl_model.specs.ByNumber.{task_at, runnable_at, stimulus_of}
 use Rattle.cl_edit.specs.declared.change.Change.{Change}
-use Rattle.cl_edit.specs.declared.change.Change.TheVariants.{Range, Whole, Stimulus, Deadline, Swap, Move, Access, Nothing}
+use Rattle.cl_edit.specs.declared.change.Change.TheVariants.{Range, Whole, Stimulus, Deadline, Priorities, Move, Access, Nothing}
 use Rattle.cl_edit.specs.Changing.{with_change, IsChangeOf}
 use Rattle.cl_incr.specs.Touched.{Touches}
-use Rattle.cl_incr.proofs.Touching.{task_touches, runnable_touches, swap_touches, kind_touches}
+use Rattle.cl_incr.proofs.Touching.{task_touches, runnable_touches, kind_touches, none_touched, priorities_touch}
 
 module _ (old new : SystemModel) (change : Change) (of_model : IsChangeOf old change) (made : new ≡ with_change old change) where
   -- what it is made by
@@ -25,11 +25,7 @@ module _ (old new : SystemModel) (change : Change) (of_model : IsChangeOf old ch
       (subst (Touches old (with_change old kind)) (sym listed) (touches (subst (IsChangeOf old) is of_model)))
 
   pub nothing_touches : change ≡ Nothing → (tasks : List ℕ) → tasks ≡ [] → Touches old new tasks
-  nothing_touches is tasks none = touches_by Nothing [] tasks is none (λ known. record {
-    keeps = record { cores = refl; tasks = refl; runnables = refl; chains = refl; requirements = refl };
-    known = All-nil (λ task. task < length old.tasks);
-    others = λ task within. inl refl;
-  })
+  nothing_touches is tasks none = touches_by Nothing [] tasks is none (λ known. none_touched old)
 
   -- ---- runnables
 
@@ -57,9 +53,10 @@ module _ (old new : SystemModel) (change : Change) (of_model : IsChangeOf old ch
   move_touches task core priority is tasks listed = touches_by (Move task core priority) (task ∷ []) tasks is listed
       (λ known. task_touches old task (record (task_at old task) { core = core; priority = priority }) known refl refl)
 
-  pub swap_made : (one other : ℕ) → change ≡ Swap one other → (tasks : List ℕ) → tasks ≡ one ∷ other ∷ [] → Touches old new tasks
-  swap_made one other is tasks listed = touches_by (Swap one other) (one ∷ other ∷ []) tasks is listed
-      (λ known. swap_touches old one other known.0 known.1)
+  pub priorities_made : (set : List TaskPriority) → change ≡ Priorities set → (tasks : List ℕ) → tasks ≡ map (λ (it : TaskPriority). it.task) set
+      → Touches old new tasks
+  priorities_made set is tasks listed = touches_by (Priorities set) (map (λ (it : TaskPriority). it.task) set) tasks is listed
+      (λ known. priorities_touch set old (λ k d within. (known k d within).task))
 
   -- ---- stimuli
 

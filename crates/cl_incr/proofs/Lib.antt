@@ -17,6 +17,7 @@ pub mod Listing
 pub mod PassesKept
 pub mod Puts
 pub mod NewFindings
+pub mod OwnCores
 pub mod Touching
 pub mod ChangeTouches
 pub mod Mended
@@ -26,5 +27,6 @@ pub mod MovedChains
 pub mod Beside
 pub mod MovedLists
 pub mod ChainLists
+pub mod OtherRequirements
 pub mod MovedPasses
 pub mod MovedAnswers

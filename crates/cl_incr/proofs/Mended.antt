@@ -6,7 +6,7 @@ use Rattle.std.specs.Cmp.{nat_eq_equiv}
 use Rattle.std.proofs.Math.ListN.{length-map}
 use Rattle.std.proofs.lemmas.Bool.{ne_eqb, ltb-true, ltb-false}
 use Rattle.std.proofs.lemmas.Bool.Decides.{eqb_tells}
-use Rattle.std.proofs.lemmas.List.{get_or_default, get_or_past}
+use Rattle.std.proofs.lemmas.List.{get_or_past}
 use Rattle.std.proofs.lemmas.List.Elements.{All-append, All-nil, All-cons, All-head, All-tail, All-contains, Contains-push, Contains-append_left}
 use Rattle.std.proofs.lemmas.Map.Views.{Contains-from_any, list_any-from_Contains, exact_unsigned_eq}
 use Rattle.cl_model.specs.declared.model.SystemModel.{SystemModel}
@@ -20,13 +20,13 @@ use Rattle.cl_runs.specs.TaskTiming.{Timing, no_timing, timing_at}
 use Rattle.cl_runs.proofs.ModelSystem.{timing_is, count_is}
 use Rattle.cl_resp.specs.Question.{question_of}
 use Rattle.cl_analyse.specs.Headline.{question_at}
-use Rattle.cl_edit.proofs.PairFacts.{listed as listed_on_core}
 use Rattle.cl_incr.specs.Touched.{KeepsNumbers, HasSameTiming, ChangesOnly, HasSameAnswer, KeepAnswersBut, StandsAsBefore, StandBut}
 use Rattle.cl_incr.specs.Inner.Listed.{listed}
 use Rattle.cl_incr.specs.Inner.Passes.{ListChains}
 use Rattle.cl_incr.specs.Inner.News.{StaysFound, StayFoundBut}
 use Rattle.cl_incr.proofs.EqualAnswers.{same_answers}
 use Rattle.cl_incr.proofs.KeptAnswers.{answer_is}
+use Rattle.cl_incr.proofs.OwnCores.{on_its_core}
 use Rattle.cl_incr.proofs.SameCores.{on_core, filter_same, same_question}
 use Rattle.cl_incr.proofs.SameGroups.{groups_same}
 use Rattle.cl_incr.proofs.SameChains.{chain_answer_same, exact_answer_same}
@@ -60,11 +60,6 @@ module _ (old new : SystemModel) (keeps : KeepsNumbers old new) where
 
 pub core_is : (model : SystemModel) (task : ℕ) → task < length model.tasks → (timing_at (system_of model) task).core ≡ core_of model task
 core_is model task within = ap (λ (timing : Timing). timing.core) (timing_is model task within)
-
-pub on_its_core : (model : SystemModel) (task : ℕ) → task < length model.tasks → Contains (tasks_of_core model (core_of model task)) task
-on_its_core model task within =
-    let found = listed_on_core model (core_of model task) task within refl in
-    (found.0, found.1, get_or_default (tasks_of_core model (core_of model task)) found.0 task 0 found.1 ∙ found.2)
 
 module _ (old new : SystemModel) (keeps : KeepsNumbers old new) (cores touched : List ℕ) (others : ChangesOnly touched old new)
     (all : All (λ task. Contains cores (core_of old task) × Contains cores (core_of new task)) touched) where

@@ -13,7 +13,7 @@ use Rattle.cl_incr.specs.Touched.{AreAnswersBut}
 use Rattle.cl_incr.specs.Inner.Reach.{number_before, moved, moved_count, MovesTasks}
 use Rattle.cl_incr.proofs.EqualAnswers.{same_answers}
 use Rattle.cl_incr.proofs.KeptAnswers.{answer_is, answer_count}
-use Rattle.cl_incr.proofs.Mended.{on_its_core}
+use Rattle.cl_incr.proofs.OwnCores.{on_its_core}
 use Rattle.cl_incr.proofs.MovedLists.{length-moved, moved_at}
 
 module _ (core gone : ℕ) (old new : SystemModel) (moves : MovesTasks core gone old new) where

@@ -1,10 +1,11 @@
 -- What each kind of edit touches.
-use Rattle.std.proofs.Common.{◌≡◌, ◌≢◌, ℕ, ◌<◌, ◌⊎◌, inl, inr, List, [], ◌∷◌, length, refl, sym, ap, ◌∙◌, arith}
+use Rattle.std.proofs.Common.{◌≡◌, ◌≢◌, ℕ, ◌<◌, ◌⊎◌, inl, inr, List, [], ◌∷◌, ◌++◌, length, refl, sym, ap, ◌∙◌, arith}
 use Rattle.std.specs.Prelude.{map, All, Contains}
 use Rattle.std.proofs.lemmas.Bool.Decides.{eqb_tells}
-use Rattle.std.proofs.lemmas.List.Elements.{All-nil, All-cons}
+use Rattle.std.proofs.lemmas.List.Elements.{All-nil, All-cons, All-head, All-tail, All-append, Contains-append_left, Contains-append_right}
 use Rattle.std.proofs.Math.Seq.{map-set_same}
-use Rattle.std.proofs.lemmas.List.{get_or-set_other, length-set}
+use Rattle.std.proofs.lemmas.List.{get_or-set_other, length-set, length-map}
+use Rattle.cl_model.specs.declared.changes.TaskPriority.{TaskPriority}
 use Rattle.cl_model.specs.declared.model.SystemModel.{SystemModel}
 use Rattle.cl_model.specs.declared.stimulus.StimulusKind.{StimulusKind}
 use Rattle.cl_model.specs.declared.task.RunnableDef.{RunnableDef}
@@ -16,7 +17,7 @@ use Rattle.cl_model.specs.ByNumber.{no_task, no_runnable, task_at, runnable_at, 
 use Rattle.cl_runs.specs.SystemOf.{range_of, timing_of}
 use Rattle.cl_runs.specs.TaskTiming.{Timing}
 use Rattle.cl_runs.proofs.ModelSystem.{timing_is}
-use Rattle.cl_model.specs.Changes.{with_runnable, with_task, with_priority, with_swap, with_kind}
+use Rattle.cl_model.specs.Changes.{with_runnable, with_task, with_priorities, with_kind}
 use Rattle.cl_incr.specs.Touched.{KeepsNumbers, HasSameTiming, ChangesOnly, Touches}
 
 -- ---- one change after another
@@ -60,21 +61,6 @@ runnable_keeps model step runnable name =
     task_keeps model step.task _ refl
     (map-set_same (λ (r : RunnableDef). r.name) (task_at model step.task).runnables step.place runnable no_runnable name)
 
--- ---- two priorities
-
-module _ (model : SystemModel) (i j : ℕ) where
-  pub swap_keeps : KeepsNumbers model (with_swap model i j)
-  swap_keeps =
-      keeps_both model (with_priority model i (task_at model j).priority) (with_swap model i j)
-      (task_keeps model i _ refl refl)
-      (task_keeps (with_priority model i (task_at model j).priority) j _ refl refl)
-
-  pub swap_others_same : (k : ℕ) → k < length (with_swap model i j).tasks → k ≢ i → k ≢ j → HasSameTiming model (with_swap model i j) k
-  swap_others_same k within first second =
-      let half : SystemModel = with_priority model i (task_at model j).priority in
-      others_same model i _ k (omega (arith, within, length-set half.tasks j (record (task_at half j) { priority = (task_at model i).priority }))) first
-      ∙ others_same half j _ k within second
-
 -- ---- a stimulus
 
 -- the timing of a task on this core, where its stimulus is of this kind
@@ -102,21 +88,11 @@ module _ (model : SystemModel) (s : ℕ) (change : StimulusKind → StimulusKind
 
 -- ---- edits
 
--- a list of one task, and one of two
+-- a list of one task
 all_but_one : (old new : SystemModel) (i : ℕ) → ((k : ℕ) → k < length new.tasks → k ≢ i → HasSameTiming old new k) → ChangesOnly (i ∷ []) old new
 all_but_one old new i others k within = elim (eqb_tells k i) [
   | inl same ↦ inr (0, omega arith, sym same.1)
   | inr other ↦ inl (others k within other.1)
-]
-
-all_but_two : (old new : SystemModel) (i j : ℕ) → ((k : ℕ) → k < length new.tasks → k ≢ i → k ≢ j → HasSameTiming old new k)
-    → ChangesOnly (i ∷ j ∷ []) old new
-all_but_two old new i j others k within = elim (eqb_tells k i) [
-  | inl same ↦ inr (0, omega arith, sym same.1)
-  | inr other ↦ elim (eqb_tells k j) [
-    | inl same ↦ inr (1, omega arith, sym same.1)
-    | inr another ↦ inl (others k within other.1 another.1)
-  ]
 ]
 
 one_known : (i n : ℕ) → i < n → All (λ task. task < n) (i ∷ [])
@@ -137,16 +113,42 @@ runnable_touches model step runnable within name =
     task_touches model step.task _ within refl
     (map-set_same (λ (r : RunnableDef). r.name) (task_at model step.task).runnables step.place runnable no_runnable name)
 
-pub swap_touches : (model : SystemModel) (i j : ℕ) → i < length model.tasks → j < length model.tasks → Touches model (with_swap model i j) (i ∷ j ∷ [])
-swap_touches model i j first second =
-    let half : SystemModel = with_priority model i (task_at model j).priority in
-    let count : length (with_swap model i j).tasks ≡ length model.tasks
-    = length-set half.tasks j _ ∙ length-set model.tasks i _ in
+-- nothing is touched
+pub none_touched : (model : SystemModel) → Touches model model []
+none_touched model = record {
+  keeps = record { cores = refl; tasks = refl; runnables = refl; chains = refl; requirements = refl };
+  known = All-nil (λ task. task < length model.tasks);
+  others = λ task within. inl refl;
+}
+
+-- of two changes, one after the other, each touches its own tasks
+touches_both : (one two three : SystemModel) (first second : List ℕ) → Touches one two first → Touches two three second → Touches one three (first ++ second)
+touches_both one two three first second before after =
+    let count : length two.tasks ≡ length three.tasks
+    = omega (arith, ap length after.keeps.tasks, length-map two.tasks (λ (t : TaskDef). t.name), length-map three.tasks (λ (t : TaskDef). t.name)) in
     record {
-      keeps = swap_keeps model i j;
-      known = All-cons (λ task. task < length (with_swap model i j).tasks) i (j ∷ []) (omega (arith, first, count)) (one_known j _ (omega (arith, second, count)));
-      others = all_but_two model (with_swap model i j) i j (swap_others_same model i j);
+      keeps = keeps_both one two three before.keeps after.keeps;
+      known = All-append (λ task. task < length three.tasks) first second (λ k d within. omega (arith, before.known k d within, count)) after.known;
+      others = λ task within. elim (before.others task (omega (arith, within, count))) [
+        | inr among ↦ inr (Contains-append_left first second task among)
+        | inl same ↦ elim (after.others task within) [
+          | inl again ↦ inl (same ∙ again)
+          | inr among ↦ inr (Contains-append_right first second task among)
+        ]
+      ];
     }
+
+-- priorities that are set one after the other touch the tasks that get them
+pub priorities_touch : (set : List TaskPriority) (model : SystemModel) → All (λ (it : TaskPriority). it.task < length model.tasks) set
+    → Touches model (with_priorities model set) (map (λ (it : TaskPriority). it.task) set)
+priorities_touch [] model known = none_touched model
+priorities_touch (it ∷ others) model known =
+    let first : TaskDef = record (task_at model it.task) { priority = it.priority } in
+    touches_both model (with_task model it.task first) (with_priorities (with_task model it.task first) others)
+    (it.task ∷ []) (map (λ (other : TaskPriority). other.task) others)
+    (task_touches model it.task first (All-head (λ (other : TaskPriority). other.task < length model.tasks) it others known) refl refl)
+    (priorities_touch others (with_task model it.task first)
+    (λ k d within. omega (arith, All-tail (λ (other : TaskPriority). other.task < length model.tasks) it others known k d within, length-set model.tasks it.task first)))
 
 -- a stimulus touches tasks whose stimuli are then of other kinds
 pub kind_touches : (model : SystemModel) (s : ℕ) (change : StimulusKind → StimulusKind) (tasks : List ℕ) → All (λ task. task < length model.tasks) tasks

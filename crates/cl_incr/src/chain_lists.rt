@@ -1,15 +1,17 @@
-//! The findings after an edit appends a chain, or drops one. Times are in ticks.
+//! The findings after an edit appends a chain, drops one, or changes requirements. Times are in
+//! ticks.
 ghost use Rattle.std.specs.Prelude.{◌≡◌, ℕ, ◌<◌, ◌++◌, [], ◌∷◌, remove, length, OnOk, OnErr};
 ghost use Rattle.cl_model.specs.declared.model.SystemModel.{SystemModel};
 ghost use Rattle.cl_analyse.specs.Verdicts.{verdicts_of};
 ghost use Rattle.cl_analyse.specs.Findings.{AreFindings};
 ghost use Rattle.cl_incr.specs.Inner.Kept.{AreFoundOf};
-ghost use Rattle.cl_incr.specs.Inner.Reach.{AddsChain, DropsChain};
+ghost use Rattle.cl_incr.specs.Inner.Reach.{AddsChain, DropsChain, ChangesRequirements};
 
 use crate::chains::ChainFindings;
-use cl_analyse::{ChainAnswer, ExactAnswer, Findings, Verdict, judge};
+use cl_analyse::{ChainAnswer, ExactAnswer, Findings, Verdict, judge, judge_all};
 use cl_model::{List, ValidModel};
 use cl_time::NoMemory;
+use std::alloc::Global;
 
 /// Appends the findings of a chain. `NoMemory` leaves both lists as they were.
 fn push_found(
@@ -86,4 +88,20 @@ pub(crate) fn drop_chain(model: &ValidModel, findings: &mut Findings, gone: u32)
         &findings.exacts,
         &mut findings.verdicts,
     );
+}
+
+/// Judges all requirements of a model that differs from the one before in requirements alone.
+/// `NoMemory` leaves the findings as they were.
+pub(crate) fn judge_requirements(
+    alloc: Global,
+    model: &ValidModel,
+    findings: &mut Findings,
+) -> Result<(), NoMemory>
+    requires { (old : SystemModel) × AreFindings old findings.old × ChangesRequirements old model.now }
+    ensures found { OnOk result (AreFindings model.now findings.new) }
+    ensures tasks { findings.new.tasks ≡ findings.old.tasks }
+    ensures unchanged { OnErr result (findings.new ≡ findings.old) }
+{
+    findings.verdicts = judge_all(alloc, model, &findings.chains, &findings.exacts)?;
+    Ok(())
 }

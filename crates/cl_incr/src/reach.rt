@@ -1,10 +1,11 @@
-//! What an edit may change: the timings of tasks, or a task or a chain that it adds or drops.
+//! What an edit may change: the timings of tasks, a task or a chain that it adds or drops, or
+//! requirements.
 ghost use Rattle.std.specs.Prelude.{◌≡◌, ◌<◌, length, IfOk};
 ghost use Rattle.cl_model.specs.ByNumber.{core_of};
 ghost use Rattle.cl_edit.specs.Changing.{with_change, IsChangeOf};
 ghost use Rattle.cl_incr.specs.Inner.Reach.{IsReachOf};
 
-use crate::touch::{one_task, tasks_of_other_kinds, two_tasks};
+use crate::touch::{one_task, tasks_of_other_kinds, tasks_set};
 use cl_edit::Change;
 use cl_model::{List, ValidModel};
 use cl_time::NoMemory;
@@ -29,6 +30,8 @@ pub(crate) enum Reach {
     NewChain,
     /// The chain of this number is dropped.
     Chain(u32),
+    /// Requirements change. Each task and each chain stays as it is.
+    Requirements,
 }
 
 /// The site of a task of a model.
@@ -63,12 +66,14 @@ pub(crate) fn reach_of(
         Change::Deadline { task, .. } => Ok(Reach::Timings(one_task(alloc, *task)?)),
         Change::Access { task, .. } => Ok(Reach::Timings(one_task(alloc, *task)?)),
         Change::Move { task, .. } => Ok(Reach::Timings(one_task(alloc, *task)?)),
-        Change::Swap { one, other } => Ok(Reach::Timings(two_tasks(alloc, *one, *other)?)),
+        Change::Priorities(set) => Ok(Reach::Timings(tasks_set(alloc, set.as_slice())?)),
         Change::Stimulus { .. } => Ok(Reach::Timings(tasks_of_other_kinds(alloc, old, new)?)),
         Change::AddTask(_) => Ok(Reach::Task(site_of(new, old.tasks()))),
         Change::DropTask { task } => Ok(Reach::Task(site_of(old, *task))),
         Change::AddChain(_) => Ok(Reach::NewChain),
         Change::DropChain { chain } => Ok(Reach::Chain(*chain)),
+        Change::Requirement { .. } | Change::AddRequirement(_) | Change::DropRequirement { .. } =>
+            Ok(Reach::Requirements),
         Change::Nothing => Ok(Reach::Timings(List::new(alloc))),
     }
 }

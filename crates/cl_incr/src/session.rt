@@ -14,9 +14,9 @@ ghost use Rattle.cl_incr.specs.Touched.{KeepsNumbers, Touches, AreAnswersBut, Ke
 ghost use Rattle.cl_incr.specs.Inner.IsTwin.{IsTwinOf};
 ghost use Rattle.cl_incr.specs.Inner.Passes.{ArePassesOf};
 ghost use Rattle.cl_incr.specs.Inner.News.{AreNewsOf};
-ghost use Rattle.cl_incr.specs.Inner.Reach.{moved, MovesTasks, AddsChain, DropsChain};
+ghost use Rattle.cl_incr.specs.Inner.Reach.{moved, MovesTasks, AddsChain, DropsChain, ChangesRequirements};
 
-use crate::chain_lists::{drop_chain, put_new_chain};
+use crate::chain_lists::{drop_chain, judge_requirements, put_new_chain};
 use crate::chains::find_chain;
 use crate::mend::news_of;
 use crate::moved::{caught_up_at, moved_passing, news_at};
@@ -46,7 +46,7 @@ pub struct Session {
     /// that the questions before and after can be compared.
     twin: Option<Twin>,
     /// The chains that pass each task, and the requirements that name each chain. They are
-    /// discarded when a chain is added or dropped.
+    /// discarded when a chain is added or dropped, or requirements change.
     passing: Option<Passing>,
 }
 
@@ -116,6 +116,9 @@ impl Session {
         }
     }
 
+    /// Ends the session, and frees all that it holds.
+    pub fn close(self) {}
+
     /// The findings of the model, which are those of a fresh analysis.
     pub fn findings(&self) -> &Findings
         ensures findings { result.now ≡ self.now.findings }
@@ -172,6 +175,7 @@ impl Session {
                 self.drop_chain(model, tasks, gone, change);
                 Ok(())
             }
+            Reach::Requirements => self.judge_anew(model, tasks, change),
         }
     }
 
@@ -310,6 +314,30 @@ impl Session {
         let old = mem::replace(&mut self.model, model);
         self.twin = twin_with(self.alloc, old, change, tasks);
         self.passing = None;
+    }
+
+    /// Replaces the model by a changed one with other requirements. `tasks` is a copy of the answers
+    /// for the tasks.
+    fn judge_anew(
+        &mut self,
+        model: ValidModel,
+        tasks: List<TaskAnswer>,
+        change: &Change,
+    ) -> Result<(), NoMemory>
+        requires may_be_made { MayBeMade self.old.model change.now }
+        requires made { model ≡ with_change self.old.model change.now }
+        requires tasks { tasks ≡ self.old.findings.tasks }
+        requires requirements { ChangesRequirements self.old.model model }
+        ensures model { OnOk result (self.new.model ≡ model) }
+        ensures findings { AreFindings self.new.model self.new.findings }
+        ensures unchanged { OnErr result (self.new ≡ self.old) }
+    {
+        let _findings = self.findings();
+        judge_requirements(self.alloc, &model, &mut self.findings)?;
+        let old = mem::replace(&mut self.model, model);
+        self.twin = twin_with(self.alloc, old, change, tasks);
+        self.passing = None;
+        Ok(())
     }
 
     /// Replaces the model by a changed one, and the findings by the news on it. The old model

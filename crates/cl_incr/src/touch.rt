@@ -1,12 +1,13 @@
 //! What an edit touches that keeps the number of each task and each chain: the tasks whose timings
 //! it may change, and the tasks of their cores, whose answers may change. Times are in ticks.
-ghost use Rattle.std.specs.Prelude.{◌≡◌, ℕ, ◌<◌, ◌⊎◌, ◌↔◌, [], ◌∷◌, ◌++◌, cond, length, IsTrue, IfOk, OnOk, All, Contains};
+ghost use Rattle.std.specs.Prelude.{◌≡◌, ℕ, ◌<◌, ◌⊎◌, ◌↔◌, [], ◌∷◌, ◌++◌, cond, length, map, IsTrue, IfOk, OnOk, All, Contains};
 ghost use Rattle.std.specs.List.Sorted.{IsStrictlyIncreasing};
+ghost use Rattle.cl_model.specs.declared.changes.TaskPriority.{TaskPriority};
 ghost use Rattle.cl_model.specs.ByNumber.{core_of, stimulus_of, tasks_of_core};
 ghost use Rattle.cl_incr.specs.Touched.{Touches, KeepAnswersBut};
 
 use crate::numbers::put_in_order;
-use cl_model::{List, StimulusKind, ValidModel};
+use cl_model::{List, StimulusKind, TaskPriority, ValidModel};
 use cl_time::NoMemory;
 use std::alloc::Global;
 
@@ -19,13 +20,14 @@ pub(crate) fn one_task(alloc: Global, task: u32) -> Result<List<u32>, NoMemory>
     Ok(tasks)
 }
 
-/// Lists two tasks.
-pub(crate) fn two_tasks(alloc: Global, one: u32, other: u32) -> Result<List<u32>, NoMemory>
-    ensures { IfOk result (λ tasks. tasks ≡ one ∷ other ∷ []) }
+/// Lists the tasks that get these priorities.
+pub(crate) fn tasks_set(alloc: Global, set: &[TaskPriority]) -> Result<List<u32>, NoMemory>
+    ensures { IfOk result (λ tasks. tasks ≡ map (λ (it : TaskPriority). it.task) set.now) }
 {
-    let mut tasks = List::new(alloc);
-    tasks.push(one)?;
-    tasks.push(other)?;
+    let mut tasks = List::with_room(alloc, set.len())?;
+    for it in set {
+        tasks.push(it.task)?;
+    }
     Ok(tasks)
 }
 

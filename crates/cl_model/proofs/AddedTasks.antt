@@ -189,6 +189,7 @@ module _ (model : SystemModel) (task : TaskDef) (valid : IsValid (with_new_task 
             stimuli = are.names.stimuli;
             tasks = ap (names_with task.name) are.names.tasks ∙ last_is_added (task_names model) task.name (subst AreDistinctNames joined (tasks_apart changed valid)) ∙ sym joined;
             chains = are.names.chains;
+            requirements = are.names.requirements;
           });
           tasks = row_added old.tasks new.tasks are.tasks is.tasks;
           steps = steps_added old.steps new.steps are.steps (subst (λ n. StepsAdded n task old.steps new.steps) kept is.steps);

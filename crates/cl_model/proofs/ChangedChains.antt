@@ -55,6 +55,7 @@ added model chain valid old new are is =
         tasks = are.names.tasks;
         chains =
             ap (names_with chain.name) are.names.chains ∙ last_is_added (chain_names model) chain.name (subst AreDistinctNames joined (chains_apart changed valid)) ∙ sym joined;
+        requirements = are.names.requirements;
       });
       tasks = rw is.tasks (record { cores = are.tasks.cores; stimuli = are.tasks.stimuli; times = are.tasks.times; on_cores = are.tasks.on_cores });
       steps = rw is.steps are.steps;
@@ -79,6 +80,7 @@ dropped model c old new are is =
         stimuli = are.names.stimuli;
         tasks = are.names.tasks;
         chains = ap (λ names. remove names c) are.names.chains ∙ sym (map-remove (λ (chain : ChainDef). chain.name) model.chains c);
+        requirements = are.names.requirements;
       });
       tasks = rw is.tasks (record { cores = are.tasks.cores; stimuli = are.tasks.stimuli; times = are.tasks.times; on_cores = are.tasks.on_cores });
       steps = rw is.steps are.steps;

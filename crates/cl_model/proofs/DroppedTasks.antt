@@ -357,6 +357,7 @@ module _ (old : Inside) (has : HasItsLookUps old) (t : ℕ) (lt : t < length old
               stimuli = kept.names.stimuli;
               tasks = ap (λ names. remove names t) kept.names.tasks ∙ sym (map-remove (λ (task : TaskDef). task.name) model.tasks t);
               chains = kept.names.chains;
+              requirements = kept.names.requirements;
             });
             tasks = record {
               cores = is.tasks.cores ∙ ap (λ numbers. remove numbers t) kept.tasks.cores ∙ sym (map-remove (core_number model) model.tasks t);

@@ -6,6 +6,7 @@ use Rattle.std.proofs.lemmas.List.{length-map, get_or-map, get_or_default, get_o
 use Rattle.std.proofs.lemmas.List.Sums.{sum_by-set}
 use Rattle.std.proofs.lemmas.Simd.{map-map}
 use Rattle.std.proofs.Math.Seq.{map-set_same}
+use Rattle.cl_model.specs.declared.changes.TaskPriority.{TaskPriority}
 use Rattle.cl_model.specs.declared.chain.ChainDef.{ChainDef}
 use Rattle.cl_model.specs.declared.group.Step.{Step}
 use Rattle.cl_model.specs.declared.groups.StepTable.{StepTable}
@@ -20,10 +21,10 @@ use Rattle.cl_model.specs.declared.task.RunnableDef.{RunnableDef}
 use Rattle.cl_model.specs.declared.task.TaskDef.{TaskDef}
 use Rattle.cl_model.specs.declared.valid_model.ValidModel.TheInside.{Inside}
 use Rattle.cl_model.specs.ByNumber.{no_task, task_at, no_runnable, runnable_at, core_number, stimulus_number, core_of, greatest_time, tasks_of_core_below, tasks_of_core}
-use Rattle.cl_model.specs.Changes.{with_task, with_runnable, with_range, with_whole, with_kind, stimulus_at, no_stimulus_def, with_deadline, with_priority, with_swap, with_access}
+use Rattle.cl_model.specs.Changes.{with_task, with_runnable, with_range, with_whole, with_kind, stimulus_at, no_stimulus_def, with_deadline, with_priority, with_priorities, with_swap, with_access}
 use Rattle.cl_model.specs.Groups.{step_from, step_named, groups, groups_of, IsStepOf}
 use Rattle.cl_model.specs.Ranges.{IsTaskInRange}
-use Rattle.cl_model.specs.Named.{index_of, core_names, stimulus_names, task_names, runnable_names, all_runnables}
+use Rattle.cl_model.specs.Named.{index_of, core_names, stimulus_names, task_names, requirement_names, runnable_names, all_runnables}
 use Rattle.cl_model.specs.Inner.LookUps.{AreNamesOf, AreLookUpsOf, HasItsLookUps}
 use Rattle.cl_model.specs.Inner.StepTable.{steps_in, steps_from, AreStepsOf}
 use Rattle.cl_model.specs.Validity.{IsValid}
@@ -80,7 +81,7 @@ module _ (old new : SystemModel) (runnables : map names_in new.tasks ≡ map nam
   same_steps : steps_from 0 new.tasks ≡ steps_from 0 old.tasks
   same_steps = steps_by_lists 0 new.tasks ∙ ap (steps_in_lists 0) runnables ∙ sym (steps_by_lists 0 old.tasks)
 
-  same_step : (name : List ℕ) → step_named new name ≡ step_named old name
+  pub same_step : (name : List ℕ) → step_named new name ≡ step_named old name
   same_step name =
       ap (λ names. step_from 0 new.tasks (unwrap_or (index_of name names) 0)) same_names
       ∙ step_by_lists 0 new.tasks (number_in (runnable_names (all_runnables old.tasks)) name)
@@ -103,6 +104,7 @@ module _ (old new : SystemModel) (runnables : map names_in new.tasks ≡ map nam
 pub record IsNamingKept (old new : SystemModel) : Type 0 where
   pub cores : new.cores ≡ old.cores
   pub chains : new.chains ≡ old.chains
+  pub requirements : requirement_names new ≡ requirement_names old
   pub stimuli : stimulus_names new ≡ stimulus_names old
   pub name : task_names new ≡ task_names old
   pub core : map (λ (task : TaskDef). task.core) new.tasks ≡ map (λ (task : TaskDef). task.core) old.tasks
@@ -157,6 +159,7 @@ module _ (old new : SystemModel) (kept : IsNamingKept old new) where
         stimuli = are.stimuli ∙ sym kept.stimuli;
         tasks = are.tasks ∙ sym kept.name;
         chains = are.chains ∙ sym (ap (map (λ (chain : ChainDef). chain.name)) kept.chains);
+        requirements = are.requirements ∙ sym kept.requirements;
       }
 
   -- what is kept beside the model stays, but for the execution times
@@ -185,6 +188,7 @@ task_keeps model i task name core stimulus runnables =
     record {
       cores = refl;
       chains = refl;
+      requirements = refl;
       stimuli = refl;
       name = map-set_same (λ (t : TaskDef). t.name) model.tasks i task no_task name;
       core = map-set_same (λ (t : TaskDef). t.core) model.tasks i task no_task core;
@@ -213,6 +217,7 @@ kind_keeps model s change =
     record {
       cores = refl;
       chains = refl;
+      requirements = refl;
       stimuli = map-set_same (λ (stimulus : StimulusDef). stimulus.name) model.stimuli s (record (stimulus_at model s) { kind = change (stimulus_at model s).kind }) no_stimulus_def refl;
       name = refl;
       core = refl;
@@ -255,7 +260,7 @@ access_stands old has i access valid =
     let task : TaskDef = record (task_at old.model i) { access = access } in
     stands_beside old has (with_task old.model i task) (task_keeps old.model i task refl refl refl refl) valid (times_kept old.model i task refl)
 
--- two priorities exchanged
+-- other priorities
 priority_keeps : (model : SystemModel) (i priority : ℕ) → IsNamingKept model (with_priority model i priority)
 priority_keeps model i priority = task_keeps model i (record (task_at model i) { priority = priority }) refl refl refl refl
 
@@ -267,6 +272,7 @@ both_kept one other third first second =
     record {
       cores = second.cores ∙ first.cores;
       chains = second.chains ∙ first.chains;
+      requirements = second.requirements ∙ first.requirements;
       stimuli = second.stimuli ∙ first.stimuli;
       name = second.name ∙ first.name;
       core = second.core ∙ first.core;
@@ -274,6 +280,21 @@ both_kept one other third first second =
       runnables = second.runnables ∙ first.runnables;
     }
 
+priorities_keep : (model : SystemModel) (priorities : List TaskPriority) → IsNamingKept model (with_priorities model priorities)
+priorities_keep model [] = record { cores = refl; chains = refl; requirements = refl; stimuli = refl; name = refl; core = refl; stimulus = refl; runnables = refl }
+priorities_keep model (it ∷ others) =
+    let next = with_priority model it.task it.priority in
+    both_kept model next (with_priorities next others) (priority_keeps model it.task it.priority) (priorities_keep next others)
+
+priorities_times : (model : SystemModel) (priorities : List TaskPriority) → map greatest_time (with_priorities model priorities).tasks ≡ map greatest_time model.tasks
+priorities_times model [] = refl
+priorities_times model (it ∷ others) = priorities_times (with_priority model it.task it.priority) others ∙ priority_times model it.task it.priority
+
+pub priorities_stand : (old : Inside) → HasItsLookUps old → (priorities : List TaskPriority) → IsValid (with_priorities old.model priorities)
+    → HasItsLookUps (record { model = with_priorities old.model priorities; look_ups = old.look_ups })
+priorities_stand old has priorities valid = stands_beside old has (with_priorities old.model priorities) (priorities_keep old.model priorities) valid (priorities_times old.model priorities)
+
+-- two priorities exchanged
 pub swap_stands : (old : Inside) → HasItsLookUps old → (i j : ℕ) → IsValid (with_swap old.model i j) → HasItsLookUps (record { model = with_swap old.model i j; look_ups = old.look_ups })
 swap_stands old has i j valid =
     let model = old.model in

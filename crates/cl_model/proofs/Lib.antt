@@ -4,9 +4,13 @@ pub mod Greatest
 pub mod Refused
 pub mod FirstRefusals
 pub mod NoRefusals
+pub mod EachFacts
 pub mod ReadValues
 pub mod ReadModels
 pub mod PassedChecks
+pub mod NamedAlike
+pub mod ChecksLeft
+pub mod AlikeValid
 pub mod NamePlaces
 pub mod NamesApart
 pub mod NamesKnown
@@ -23,6 +27,7 @@ pub mod ValidTasks
 pub mod CoreTasks
 pub mod KeptLookUps
 pub mod ChangedChains
+pub mod ChangedRequirements
 pub mod MovedTasks
 pub mod AddedTasks
 pub mod NumberFacts

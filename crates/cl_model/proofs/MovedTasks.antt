@@ -281,6 +281,7 @@ module _ (old : Inside) (has : HasItsLookUps old) (t : ℕ) (lt : t < length old
               stimuli = has.look_ups.names.stimuli;
               tasks = has.look_ups.names.tasks ∙ sym (map-set_same (λ (task : TaskDef). task.name) model.tasks t placed no_task refl);
               chains = has.look_ups.names.chains;
+              requirements = has.look_ups.names.requirements;
             };
             tasks = moved model has.valid t lt core priority number there old.look_ups.tasks has.look_ups.tasks tables is;
             steps = steps_stay model new runnables old.look_ups.steps has.look_ups.steps;

@@ -1,16 +1,19 @@
--- What a model says of its tasks, chains and cores, by their numbers. Times are in ticks.
+-- What a model says of its tasks, chains, requirements and cores, by their numbers. Times are in ticks.
 use Rattle.std.specs.Prelude.{ℕ, ◌==◌, false, List, [], length, slice_index_or, filter, sum_by, Option, None, unwrap_or}
 use Rattle.std.specs.List.{range_with_len}
 use Rattle.cl_model.specs.declared.model.SystemModel.{SystemModel}
 use Rattle.cl_model.specs.declared.model.CoreDef.{CoreDef}
 use Rattle.cl_model.specs.declared.chain.ChainDef.{ChainDef}
+use Rattle.cl_model.specs.declared.chain.LengthKind.TheVariants.{Reaction}
+use Rattle.cl_model.specs.declared.chain.RequirementDef.{RequirementDef}
+use Rattle.cl_model.specs.declared.chain.RequirementKind.TheVariants.{Length}
 use Rattle.cl_model.specs.declared.group.Step.{Step}
 use Rattle.cl_model.specs.declared.stimulus.StimulusKind.{StimulusKind}
 use Rattle.cl_model.specs.declared.stimulus.StimulusKind.TheVariants.{Sporadic}
 use Rattle.cl_model.specs.declared.task.AccessKind.TheVariants.{Explicit}
 use Rattle.cl_model.specs.declared.task.RunnableDef.{RunnableDef}
 use Rattle.cl_model.specs.declared.task.TaskDef.{TaskDef}
-use Rattle.cl_model.specs.Named.{index_of, core_names, stimulus_names, task_names, chain_names, kind_named}
+use Rattle.cl_model.specs.Named.{index_of, core_names, stimulus_names, task_names, chain_names, requirement_names, kind_named}
 use Rattle.cl_model.specs.Timing.{greatest_jitter, deadline_under}
 
 -- stands for a task past the last one
@@ -20,6 +23,10 @@ no_task = record { name = []; core = []; stimulus = []; priority = 0; access = E
 -- stands for a chain past the last one
 unfoldable pub no_chain : ChainDef
 no_chain = record { name = []; runnables = []; labels = [] }
+
+-- stands for a requirement past the last one
+unfoldable pub no_requirement : RequirementDef
+no_requirement = record { name = []; chain = []; kind = Length Reaction; most = 0 }
 
 -- stands for a core past the last one
 unfoldable pub no_core : CoreDef
@@ -44,6 +51,10 @@ runnable_at model step = slice_index_or (task_at model step.task).runnables step
 -- the chain of that number
 abbrev pub chain_at : SystemModel → (chain : ℕ) → ChainDef
 chain_at model chain = slice_index_or model.chains chain no_chain
+
+-- the requirement of that number
+abbrev pub requirement_at : SystemModel → (requirement : ℕ) → RequirementDef
+requirement_at model requirement = slice_index_or model.requirements requirement no_requirement
 
 -- the core of that number
 abbrev pub core_at : SystemModel → (core : ℕ) → CoreDef
@@ -97,6 +108,10 @@ task_named model name = index_of name (task_names model)
 -- the number of the chain of that name
 abbrev pub chain_named : SystemModel → List ℕ → Option ℕ
 chain_named model name = index_of name (chain_names model)
+
+-- the number of the requirement of that name
+abbrev pub requirement_named : SystemModel → List ℕ → Option ℕ
+requirement_named model name = index_of name (requirement_names model)
 
 -- the greatest execution time of a job of it
 abbrev pub time_of : SystemModel → (i : ℕ) → ℕ

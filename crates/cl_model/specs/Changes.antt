@@ -7,7 +7,9 @@ use Rattle.cl_model.specs.declared.stimulus.StimulusDef.{StimulusDef}
 use Rattle.cl_model.specs.declared.task.AccessKind.{AccessKind}
 use Rattle.cl_model.specs.declared.task.RunnableDef.{RunnableDef}
 use Rattle.cl_model.specs.declared.task.TaskDef.{TaskDef}
+use Rattle.cl_model.specs.declared.changes.TaskPriority.{TaskPriority}
 use Rattle.cl_model.specs.declared.chain.ChainDef.{ChainDef}
+use Rattle.cl_model.specs.declared.chain.RequirementDef.{RequirementDef}
 use Rattle.cl_model.specs.declared.group.Step.{Step}
 use Rattle.cl_model.specs.ByNumber.{no_stimulus, task_at, runnable_at}
 
@@ -83,6 +85,11 @@ with_deadline model i deadline = with_task model i (record (task_at model i) { d
 abbrev pub with_priority : SystemModel → (i : ℕ) → (priority : ℕ) → SystemModel
 with_priority model i priority = with_task model i (record (task_at model i) { priority = priority })
 
+-- the priorities of a list, one after the other
+abbrev pub with_priorities : SystemModel → List TaskPriority → SystemModel
+with_priorities model [] = model
+with_priorities model (it ∷ others) = with_priorities (with_priority model it.task it.priority) others
+
 -- the priorities of tasks i and j, exchanged
 abbrev pub with_swap : SystemModel → (i j : ℕ) → SystemModel
 with_swap model i j = with_priority (with_priority model i (task_at model j).priority) j (task_at model i).priority
@@ -112,3 +119,17 @@ with_new_chain model chain = record model { chains = model.chains ++ chain ∷ [
 -- without chain c
 abbrev pub without_chain : SystemModel → (c : ℕ) → SystemModel
 without_chain model c = record model { chains = remove model.chains c }
+
+-- ---- requirements
+
+-- requirement r is this one
+abbrev pub with_requirement : SystemModel → (r : ℕ) → RequirementDef → SystemModel
+with_requirement model r requirement = record model { requirements = slice_set model.requirements r requirement }
+
+-- one more requirement behind the others
+abbrev pub with_new_requirement : SystemModel → RequirementDef → SystemModel
+with_new_requirement model requirement = record model { requirements = model.requirements ++ requirement ∷ [] }
+
+-- without requirement r
+abbrev pub without_requirement : SystemModel → (r : ℕ) → SystemModel
+without_requirement model r = record model { requirements = remove model.requirements r }

@@ -14,6 +14,7 @@ pub mod Holds
 pub mod ValidNames
 pub mod ValidTasks
 pub mod Validity
+pub mod NamedAlike
 pub mod ByNumber
 pub mod Groups
 pub mod Changes

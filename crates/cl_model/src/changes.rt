@@ -1,13 +1,21 @@
 //! Changes of a model in place. What is changed is given by its number. Times are in ticks.
-ghost use Rattle.std.specs.Prelude.{◌≡◌, ◌<◌, length};
+ghost use Rattle.std.specs.Prelude.{◌≡◌, ◌<◌, length, All};
 ghost use Rattle.cl_model.specs.Groups.{IsStepOf};
-ghost use Rattle.cl_model.specs.Changes.{with_range, with_whole, with_kind, with_deadline, with_priority, with_swap, with_place, with_access, without_task, without_chain};
+ghost use Rattle.cl_model.specs.Changes.{with_range, with_whole, with_kind, with_deadline, with_priority, with_priorities, with_swap, with_place, with_access, without_task, without_chain, with_requirement, without_requirement};
 
+use crate::chain::RequirementDef;
 use crate::group::Step;
 use crate::model::SystemModel;
 use crate::name::Name;
 use crate::stimulus::StimulusKind;
 use crate::task::AccessKind;
+
+/// The priority that a task, given by its number, gets.
+#[derive(Clone, Copy, Debug, PartialEq, Eq)]
+pub struct TaskPriority {
+    pub task: u32,
+    pub priority: u64,
+}
 
 impl SystemModel {
     /// Sets the least and the greatest execution time of a runnable.
@@ -54,6 +62,16 @@ impl SystemModel {
         self.tasks.item_mut(task).priority = priority;
     }
 
+    /// Sets the priorities of tasks, one after the other.
+    pub fn set_priorities(&mut self, priorities: &[TaskPriority])
+        requires { All (λ it. it.task < length self.old.tasks) priorities.now }
+        ensures { self.new ≡ with_priorities self.old priorities.now }
+    {
+        for it in priorities {
+            self.set_priority(it.task as usize, it.priority);
+        }
+    }
+
     /// Exchanges the priorities of two tasks.
     pub fn swap_priorities(&mut self, one: usize, other: usize)
         requires one { one < length self.old.tasks }
@@ -98,5 +116,21 @@ impl SystemModel {
         ensures { self.new ≡ without_chain self.old chain }
     {
         let _dropped = self.chains.remove(chain);
+    }
+
+    /// Puts a requirement in the place of another one.
+    pub fn set_requirement(&mut self, number: usize, requirement: RequirementDef)
+        requires { number < length self.old.requirements }
+        ensures { self.new ≡ with_requirement self.old number requirement }
+    {
+        *self.requirements.item_mut(number) = requirement;
+    }
+
+    /// Removes a requirement. The others keep their order.
+    pub fn drop_requirement(&mut self, requirement: usize)
+        requires { requirement < length self.old.requirements }
+        ensures { self.new ≡ without_requirement self.old requirement }
+    {
+        let _dropped = self.requirements.remove(requirement);
     }
 }

@@ -24,6 +24,7 @@ mod task_numbers;
 mod valid_model;
 
 pub use chain::{ChainDef, LengthKind, RequirementDef, RequirementKind};
+pub use changes::TaskPriority;
 pub use copying::TryCopy;
 pub use entries::{Named, name_numbers};
 pub use group::{Group, Step};

@@ -133,6 +133,7 @@ pub struct SectionNames {
     pub stimuli: NameSet,
     pub tasks: NameSet,
     pub chains: NameSet,
+    pub requirements: NameSet,
 }
 
 fn section_names(alloc: Global, model: &SystemModel) -> Result<SectionNames, NoMemory>
@@ -144,6 +145,7 @@ fn section_names(alloc: Global, model: &SystemModel) -> Result<SectionNames, NoM
         stimuli: name_numbers(alloc, model.stimuli.as_slice())?,
         tasks: name_numbers(alloc, model.tasks.as_slice())?,
         chains: name_numbers(alloc, model.chains.as_slice())?,
+        requirements: name_numbers(alloc, model.requirements.as_slice())?,
     })
 }
 

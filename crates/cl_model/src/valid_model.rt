@@ -2,16 +2,17 @@
 ghost use Rattle.std.specs.Prelude.{◌≡◌, ◌<◌, ◌≤◌, length, slice_index_or, IfOk, IfErr, IfSome, is_some, All};
 ghost use Rattle.cl_model.specs.declared.limits.TheConstants.{MOST_STEPS};
 ghost use Rattle.cl_model.specs.Groups.{no_group, step_named, groups_at, IsStepOf, IsGroupOf};
-ghost use Rattle.cl_model.specs.ByNumber.{task_at, chain_at, core_at, core_of, stimulus_of, deadline_of, jitter_of, time_of, tasks_of_core, core_named, stimulus_named, task_named, chain_named};
+ghost use Rattle.cl_model.specs.ByNumber.{task_at, chain_at, requirement_at, core_at, core_of, stimulus_of, deadline_of, jitter_of, time_of, tasks_of_core, core_named, stimulus_named, task_named, chain_named, requirement_named};
 ghost use Rattle.cl_model.specs.Changes.{stimulus_at};
 ghost use Rattle.cl_model.specs.Named.{has_name, runnable_names, all_runnables};
 ghost use Rattle.cl_model.specs.Validity.{IsValid};
 
 mod chains;
 mod changes;
+mod requirements;
 mod tasks;
 
-use crate::chain::ChainDef;
+use crate::chain::{ChainDef, RequirementDef};
 use crate::group::{Group, Step};
 use crate::look_ups::{LookUps, look_ups_of};
 use crate::model::{CoreDef, SystemModel};
@@ -112,6 +113,23 @@ impl ValidModel {
         ensures valid { IsValid self.now }
     {
         &self.model.chains.as_slice()[chain as usize]
+    }
+
+    /// Returns the number of requirements.
+    pub fn requirements(&self) -> u32
+        ensures count { result ≡ length self.now.requirements }
+        ensures valid { IsValid self.now }
+    {
+        self.model.requirements.len() as u32
+    }
+
+    /// Returns the requirement of this number.
+    pub fn requirement(&self, requirement: u32) -> &RequirementDef
+        requires { requirement < length self.now.requirements }
+        ensures requirement { result.now ≡ requirement_at self.now requirement }
+        ensures valid { IsValid self.now }
+    {
+        &self.model.requirements.as_slice()[requirement as usize]
     }
 
     /// Returns the number of the core of a task.
@@ -239,6 +257,16 @@ impl ValidModel {
         ensures within { IfSome result (λ chain. chain < length self.now.chains) }
     {
         let number = self.look_ups.names.chains.number_of(name)?;
+        Some(number as u32)
+    }
+
+    /// Finds the number of the requirement of this name, or `None` exactly where no requirement has
+    /// it.
+    pub fn requirement_named(&self, name: &Name) -> Option<u32>
+        ensures number { result ≡ requirement_named self.now name.now }
+        ensures within { IfSome result (λ requirement. requirement < length self.now.requirements) }
+    {
+        let number = self.look_ups.names.requirements.number_of(name)?;
         Some(number as u32)
     }
 

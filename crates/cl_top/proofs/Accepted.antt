@@ -91,10 +91,11 @@ module _ (model : SystemModel) (edits : List Edit) (count : ℕ) (pieces : List 
             let end : Err refusal ≡ Ok found = sym (after_more model edits count made within are.accepted ∙ refused) ∙ is in
             absurd cc
 
--- what is accepted of some edits is one model and one list of pieces
+-- what is accepted of some edits is one model, and one list of pieces where each edit writes but one
 module _ (model : SystemModel) (edits : List Edit) (count : ℕ) (pieces others : List (List ℕ)) (made remade : SystemModel)
     (are : AreAccepted model edits count pieces made) (also : AreAccepted model edits count others remade)
-    (one_written : (found : SystemModel) (edit : Edit) (one other : List ℕ) → IsWrittenBy found edit one → IsWrittenBy found edit other → one ≡ other) where
+    (one_written : (place : ℕ) → place < count → (found : SystemModel) → after model (take place edits) ≡ Ok found → (one other : List ℕ)
+    → IsWrittenBy found (get_or edits place Report) one → IsWrittenBy found (get_or edits place Report) other → one ≡ other) where
   pub made_once : made ≡ remade
   made_once = one_model (after model (take count edits)) made remade are.accepted also.accepted
 
@@ -103,7 +104,7 @@ module _ (model : SystemModel) (edits : List Edit) (count : ℕ) (pieces others 
       let first = are.written place below in
       let second = also.written place below in
       let same = one_model (after model (take place edits)) second.found first.found second.so_far first.so_far in
-      one_written first.found (get_or edits place Report) (get_or pieces place []) (get_or others place []) first.writes
+      one_written place below first.found first.so_far (get_or pieces place []) (get_or others place []) first.writes
       (subst (λ found. IsWrittenBy found (get_or edits place Report) (get_or others place [])) same second.writes)
 
   pub pieces_once : pieces ≡ others

@@ -6,11 +6,13 @@ pub mod SafeReport
 pub mod OfTrace
 pub mod AnalysedAlike
 pub mod Applied
-pub mod LinesLeft
-pub mod EditsOnce
+pub mod Written
+pub mod PutByEdits
+pub mod EditsAlike
 pub mod EditSteps
 pub mod LinesMade
-pub mod ReportLines
+pub mod LinesApplied
+pub mod EditPieces
 pub mod AnswersOfRuns
 pub mod TracesOnce
 pub mod Simulations

@@ -78,8 +78,8 @@ pub fn run<S: Shelf, K: Sink, L: Ledger>(
         → TellsFiles (files_of commands words.now) words.now (S.held shelf.old) contents
         → HasPrintedSafe (sink_call K.written K.faults K.last_failed sink.old sink.new) asked contents }
 
-    // It follows, where `edit` ends with status 7: the text is safe reports of the edits before the
-    // refused line, and that line.
+    // It follows, where `edit` ends with status 7: the text is what the edits before the refused
+    // line have safely written, and that line.
     ensures stopped { result ≡ EDITS_REFUSED → command_of words.now ≡ Some Command.Edit
         → (contents : ℕ → List ℕ)
         → TellsFiles (files_of commands words.now) words.now (S.held shelf.old) contents

@@ -1,6 +1,6 @@
 //! What is asked of: the response of a task, a bound of a chain, or a requirement.
 ghost use Rattle.std.specs.Prelude.{◌≡◌};
-ghost use Rattle.cl_model.specs.Named.{index_of, requirement_names};
+ghost use Rattle.cl_model.specs.Named.{index_of};
 ghost use Rattle.cl_top.specs.Subject.{what_of, names_asked};
 
 use cl_model::{LengthKind, Name, RequirementKind, ValidModel};
@@ -32,19 +32,6 @@ pub(crate) fn read_what(word: &str) -> Option<What>
     }
 }
 
-/// Finds the number of the requirement of a name.
-fn requirement_named(model: &ValidModel, name: &Name) -> Option<usize>
-    ensures { result ≡ index_of name.now (requirement_names model.now) }
-{
-    let requirements = model.plain().requirements.as_slice();
-    for (number, requirement) in requirements.iter().enumerate() {
-        if *name == requirement.name {
-            return Some(number);
-        }
-    }
-    None
-}
-
 /// Finds the number of the task, the chain or the requirement of a name, or `None` where there is
 /// none.
 pub(crate) fn number_of(model: &ValidModel, what: What, name: &Name) -> Option<usize>
@@ -53,6 +40,8 @@ pub(crate) fn number_of(model: &ValidModel, what: What, name: &Name) -> Option<u
     match what {
         What::Response => model.task_named(name).map(|task| task as usize),
         What::Bound(_) => model.chain_named(name).map(|chain| chain as usize),
-        What::Requirement => requirement_named(model, name),
+        What::Requirement => model
+            .requirement_named(name)
+            .map(|requirement| requirement as usize),
     }
 }

@@ -17,7 +17,7 @@ use crate::runs::Runs;
 use cl_analyse::{ChainAnswer, Verdict};
 use cl_bound::{Bounds, TaskAnswer};
 use cl_model::{LengthKind, List, RequirementDef, RequirementKind, ValidModel};
-use cl_near::SeenOfTask;
+use cl_near::{Budget, SeenOfTask};
 use cl_tight::TightFindings;
 use cl_time::NoMemory;
 use std::alloc::Global;
@@ -28,24 +28,27 @@ use std::alloc::Global;
 /// A task is met exactly where it isn't late by phases, and a requirement exactly where its bound is
 /// at most what it requires. What is broken is so in a legal run, and what is seen is so in one. A
 /// requirement is always broken where its bound is exact and too great. Runs are made in file order,
-/// those of tasks first, and for one chain and kind once; all in all they have at most
-/// `cl_near::MOST_EXECUTIONS_OF_RUNS` executions of runnables.
+/// those of tasks first, and for one chain and kind once; all in all they have at most as many
+/// executions of runnables as `budget` has left, from which they are taken.
 ///
 /// `NoMemory` comes where there is no memory for the decisions or for a run; it leaves nothing.
 pub fn decide(
     alloc: Global,
     model: &ValidModel,
     findings: &TightFindings,
+    budget: &mut Budget,
 ) -> Result<Decisions, NoMemory>
     requires findings { findings.now ≡ tight_findings_of model.now }
     requires safe { AreSafeTightFindings model.now findings.now }
     ensures { IfOk result (AreDecisionsOf model.now) }
 {
-    let mut runs = Runs::new(alloc, model)?;
-    Ok(Decisions {
+    let mut runs = Runs::within(alloc, model, *budget)?;
+    let decisions = Decisions {
         tasks: decide_tasks(alloc, model, findings, &mut runs)?,
         requirements: decide_requirements(alloc, model, findings, &mut runs)?,
-    })
+    };
+    *budget = runs.budget;
+    Ok(decisions)
 }
 
 /// Decides all tasks, in file order.

@@ -20,18 +20,31 @@ use std::alloc::Global;
 /// What the runs that were made so far have shown, and how many executions are left for others.
 #[derive(Drop)]
 pub struct Runs {
-    budget: Budget,
+    pub(crate) budget: Budget,
     pub windows: AccessWindows,
     pub(crate) lengths: KnownLengths,
 }
 
 impl Runs {
-    /// Starts with no run made. `NoMemory` comes where there is no memory for it.
+    /// Starts with no run made, and all executions that may be made for one answer. `NoMemory` comes
+    /// where there is no memory for it.
     pub fn new(alloc: Global, model: &ValidModel) -> Result<Runs, NoMemory>
         ensures { IfOk result (AreRunsOf model.now) }
     {
+        Runs::within(alloc, model, Budget::new())
+    }
+
+    /// Starts with no run made, and so many executions that may be made. `NoMemory` comes where
+    /// there is no memory for it.
+    pub(crate) fn within(
+        alloc: Global,
+        model: &ValidModel,
+        budget: Budget,
+    ) -> Result<Runs, NoMemory>
+        ensures { IfOk result (AreRunsOf model.now) }
+    {
         Ok(Runs {
-            budget: Budget::new(),
+            budget,
             windows: AccessWindows::new(alloc, model)?,
             lengths: KnownLengths::new(alloc, model)?,
         })

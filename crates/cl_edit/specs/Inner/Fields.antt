@@ -5,10 +5,11 @@ use Rattle.std.specs.List.{list_all}
 use Rattle.std.specs.Str.{bytes_eq}
 use Rattle.std.specs.Str.Parse.{digits_value}
 use Rattle.cl_model.specs.declared.limits.TheConstants.{MOST_TICKS}
+use Rattle.cl_model.specs.declared.chain.RequirementKind.{RequirementKind}
 use Rattle.cl_model.specs.declared.task.AccessKind.{AccessKind}
 use Rattle.cl_model.specs.Name.{is_name}
 use Rattle.cl_model.specs.Reading.Checks.{meaning_of}
-use Rattle.cl_model.specs.Reading.Tables.{access_words}
+use Rattle.cl_model.specs.Reading.Tables.{access_words, requirement_words}
 use Rattle.cl_edit.specs.Inner.Parts.{parts}
 
 -- a name
@@ -32,6 +33,10 @@ flag_in word = if bytes_eq word (codes "yes") then Some true else if bytes_eq wo
 -- a kind of access
 abbrev pub access_in : List ℕ → Option AccessKind
 access_in word = meaning_of access_words word
+
+-- a kind of requirement
+abbrev pub requirement_kind_in : List ℕ → Option RequirementKind
+requirement_kind_in word = meaning_of (requirement_words 3) word
 
 -- a deadline, or that there is none
 abbrev pub deadline_in : List ℕ → Option (Option ℕ)

@@ -1,17 +1,18 @@
 -- What the words of a line are read as.
-use Rattle.std.specs.Prelude.{◌≡◌, ℕ, zero, suc, ◌<◌, Bool, true, false, if◌then◌else◌, Option, Some, None, List, [], ◌∷◌, ◌++◌, codes}
+use Rattle.std.specs.Prelude.{ℕ, zero, suc, false, if◌then◌else◌, Option, Some, None, List, [], ◌∷◌, ◌++◌, map, codes}
 use Rattle.std.specs.Option.{option_map, option_and_then}
 use Rattle.std.specs.Str.{bytes_eq}
-use Rattle.cl_model.specs.declared.limits.TheConstants.{MOST_TICKS, MOST_PRIORITY, MOST_RUNNABLES, MOST_ACCESSES, MOST_STEPS, MOST_HOPS, LEAST_JOBS_OF_BURST, MOST_JOBS_OF_BURST}
+use Rattle.cl_model.specs.declared.limits.TheConstants.{MOST_TICKS, MOST_PRIORITY, MOST_REQUIRED, MOST_TASKS, MOST_RUNNABLES, MOST_ACCESSES, MOST_STEPS, MOST_HOPS, LEAST_JOBS_OF_BURST, MOST_JOBS_OF_BURST}
 use Rattle.cl_model.specs.declared.task.RunnableDef.{RunnableDef}
 use Rattle.cl_model.specs.declared.task.TaskDef.{TaskDef}
+use Rattle.cl_model.specs.Named.{has_name}
+use Rattle.cl_edit.specs.declared.edit.NamedPriority.{NamedPriority}
 use Rattle.cl_edit.specs.declared.edit.Edit.{Edit}
-use Rattle.cl_edit.specs.declared.edit.Edit.TheVariants.{Range, Whole, Period, Offset, Jitter, Distances, Burst, Deadline, Swap, Move, Kind, AddTask, DropTask, AddChain, DropChain, Report}
-use Rattle.cl_edit.specs.declared.limits.TheConstants.{MOST_EDITS, MOST_REPORTS}
-use Rattle.cl_edit.specs.Lines.{edit_line}
-use Rattle.cl_edit.specs.Reading.{IsLineEdit, is_report}
+use Rattle.cl_edit.specs.declared.edit.Edit.TheVariants.{Range, Whole, Period, Offset, Jitter, Distances, Burst, Deadline, Swap, Priorities, Move, Kind, AddTask, DropTask, AddChain, DropChain, Requirement, DropRequirement, Report, Tighten, Verify}
+use Rattle.cl_edit.specs.declared.version.Version.{Version}
+use Rattle.cl_edit.specs.declared.version.Version.TheVariants.{One, Two}
 use Rattle.cl_edit.specs.Inner.Parts.{parts, first_read, then_read, with_left, if_done}
-use Rattle.cl_edit.specs.Inner.Fields.{name_in, number_in, time_in, flag_in, access_in, deadline_in, names_in}
+use Rattle.cl_edit.specs.Inner.Fields.{name_in, number_in, time_in, flag_in, access_in, deadline_in, names_in, requirement_kind_in}
 
 -- what is read of words, and the words that are left
 abbrev pub Read : Type 0 → Type 0
@@ -79,6 +80,53 @@ abbrev pub chain_in : List (List ℕ) → Read Edit
 chain_in words = two_word_line (names_in MOST_STEPS) (names_in MOST_HOPS)
     (λ name runnables labels. AddChain (record { name = name; runnables = runnables; labels = labels })) words
 
+abbrev pub requirement_in : List (List ℕ) → Read Edit
+requirement_in words = then_read (first_read name_in words) (λ name words. then_read (first_read name_in words) (λ chain words.
+    then_read (first_read requirement_kind_in words) (λ kind words. then_read (first_read (number_in 0 MOST_REQUIRED) words) (λ most words.
+    Some (Requirement (record { name = name; chain = chain; kind = kind; most = most }), words)))))
+
+abbrev pub drop_requirement_in : List (List ℕ) → Read Edit
+drop_requirement_in words = name_line DropRequirement words
+
+-- ---- lists that go on to the end of a line
+
+-- at most so many, of all words, where one is read by those that stand above it
+unfoldable pub list_in : {X : Type 0} → (read : (above : List X) → List (List ℕ) → Read X) → (most : ℕ) → (above : List X) → List (List ℕ) → Option (List X)
+list_in read most above [] = Some []
+list_in read zero above (word ∷ words) = None
+list_in read (suc most) above (word ∷ words) = then_read (read above (word ∷ words)) (λ x left.
+    option_map (λ xs. x ∷ xs) (list_in read most (above ++ x ∷ []) left))
+
+-- ---- the line of priorities
+
+-- a task and the priority that it gets
+abbrev pub priority_in : List (List ℕ) → Read NamedPriority
+priority_in words = then_read (first_read name_in words) (λ task words. then_read (first_read (number_in 0 MOST_PRIORITY) words) (λ priority words.
+    Some (record { task = task; priority = priority }, words)))
+
+-- the tasks that get one
+abbrev pub tasks_of : List NamedPriority → List (List ℕ)
+tasks_of priorities = map (λ (p : NamedPriority). p.task) priorities
+
+-- one, unless its task stands above
+abbrev pub unless_above : (above : List NamedPriority) → NamedPriority → List (List ℕ) → Read NamedPriority
+unless_above above p words = if has_name p.task (tasks_of above) then None else Some (p, words)
+
+abbrev pub new_priority_in : (above : List NamedPriority) → List (List ℕ) → Read NamedPriority
+new_priority_in above words = then_read (priority_in words) (unless_above above)
+
+-- priorities, of all words
+abbrev pub priority_list_in : List (List ℕ) → Option (List NamedPriority)
+priority_list_in words = list_in new_priority_in MOST_TASKS [] words
+
+-- the edit that sets them, where there is one
+abbrev pub with_priorities_read : List NamedPriority → Option Edit
+with_priorities_read [] = None
+with_priorities_read (p ∷ ps) = Some (Priorities (p ∷ ps))
+
+abbrev pub priorities_in : List (List ℕ) → Read Edit
+priorities_in words = with_left [] (option_and_then with_priorities_read (priority_list_in words))
+
 -- ---- the line of a new task
 
 -- a runnable of it
@@ -88,11 +136,9 @@ runnable_in words = then_read (first_read name_in words) (λ name words. then_re
     then_read (first_read (names_in MOST_ACCESSES) words) (λ writes words.
     Some (record { name = name; least = least; greatest = greatest; whole = false; reads = reads; writes = writes }, words))))))
 
--- at most so many runnables, of all words
-unfoldable pub runnables_in : (most : ℕ) → List (List ℕ) → Option (List RunnableDef)
-runnables_in most [] = Some []
-runnables_in zero (word ∷ words) = None
-runnables_in (suc most) (word ∷ words) = then_read (runnable_in (word ∷ words)) (λ r left. option_map (λ rs. r ∷ rs) (runnables_in most left))
+-- runnables, of all words
+abbrev pub runnables_in : List (List ℕ) → Option (List RunnableDef)
+runnables_in words = list_in (λ above words. runnable_in words) MOST_RUNNABLES [] words
 
 -- the edit with a new task, where it has a runnable
 abbrev pub with_runnables : TaskDef → List RunnableDef → Option Edit
@@ -109,7 +155,7 @@ task_head_in words = then_read (first_read name_in words) (λ name words. then_r
 -- and its runnables, of all words
 abbrev pub task_in : List (List ℕ) → Read Edit
 task_in words = then_read (task_head_in words) (λ task words.
-    with_left [] (option_and_then (with_runnables task) (runnables_in MOST_RUNNABLES words)))
+    with_left [] (option_and_then (with_runnables task) (runnables_in words)))
 
 -- ---- a line
 
@@ -134,31 +180,26 @@ fields_in keyword words =
     else if bytes_eq keyword (codes "report") then Some (Report, words)
     else None
 
--- the edit of all words of a line
-unfoldable pub words_in : List (List ℕ) → Option Edit
-words_in [] = None
-words_in (keyword ∷ words) = then_read (fields_in keyword words) if_done
+-- the same of version 2
+unfoldable pub later_fields_in : (keyword : List ℕ) → List (List ℕ) → Read Edit
+later_fields_in keyword words =
+    if bytes_eq keyword (codes "priorities") then priorities_in words
+    else if bytes_eq keyword (codes "requirement") then requirement_in words
+    else if bytes_eq keyword (codes "drop-requirement") then drop_requirement_in words
+    else if bytes_eq keyword (codes "tighten") then Some (Tighten, words)
+    else if bytes_eq keyword (codes "verify") then Some (Verify, words)
+    else fields_in keyword words
 
--- the edit of a line without its end
-unfoldable pub edit_in : List ℕ → Option Edit
-edit_in text = words_in (parts 0x20 text)
+-- that of a version
+abbrev pub fields_of : Version → (keyword : List ℕ) → List (List ℕ) → Read Edit
+fields_of One keyword words = fields_in keyword words
+fields_of Two keyword words = later_fields_in keyword words
 
--- ---- a list of lines
+-- the edit of all words of a line of a version
+unfoldable pub words_in : Version → List (List ℕ) → Option Edit
+words_in version [] = None
+words_in version (keyword ∷ words) = then_read (fields_of version keyword words) if_done
 
--- so many edits, with so many reports among them, leave room for one more
-pub record HasRoom (edits reports : ℕ) (edit : Edit) : Type 0 where
-  pub few : edits < MOST_EDITS
-  pub few_reports : is_report edit ≡ true → reports < MOST_REPORTS
-
--- an edit may be listed below so many
-pub record MayFollow (edits reports : ℕ) (edit : Edit) : Type 0 where
-  pub line : IsLineEdit edit
-  pub room : HasRoom edits reports edit
-
--- the text begins with the line of an edit that may be listed below so many, and goes on with this rest; and whether the
--- edit is a report
-pub record StandsNext (edits reports : ℕ) (text : List ℕ) (report : Bool) (rest : List ℕ) : Type 0 where
-  pub edit : Edit
-  pub may : MayFollow edits reports edit
-  pub stands : text ≡ edit_line edit ++ rest
-  pub is : report ≡ is_report edit
+-- the edit of a line of a version, without its end
+unfoldable pub edit_in : Version → List ℕ → Option Edit
+edit_in version text = words_in version (parts 0x20 text)

@@ -1,20 +1,23 @@
--- Changes of when tasks run, and what the checks of deadlines see of each task after one. Times are in ticks.
-use Rattle.std.specs.Prelude.{◌≡◌, ℕ, ◌<◌, ◌≤◌, ◌⊎◌, Bool, true, ◌&&◌, ◌||◌, ◌==◌, nat_lt, nat_le, if◌then◌else◌, List, [], ◌∷◌, Option, Some, None, unwrap_or, length}
+-- Changes of when tasks run, and what the checks see of each task after one. Times are in ticks.
+use Rattle.std.specs.Prelude.{◌≡◌, ℕ, ◌<◌, ◌⊎◌, Bool, ◌==◌, nat_lt, nat_le, if◌then◌else◌, List, [], ◌∷◌, Option, unwrap_or, length, map, slice_index_or, All}
 use Rattle.std.specs.List.{list_any}
+use Rattle.cl_model.specs.declared.changes.TaskPriority.{TaskPriority}
 use Rattle.cl_model.specs.declared.model.SystemModel.{SystemModel}
+use Rattle.cl_model.specs.declared.task.TaskDef.{TaskDef}
 use Rattle.cl_model.specs.declared.place.Key.TheVariants as key
 use Rattle.cl_model.specs.declared.refusal.Code.TheVariants.{M32, M33}
 use Rattle.cl_model.specs.declared.refusal.Refusal.{Refusal}
 use Rattle.cl_model.specs.declared.stimulus.StimulusKind.{StimulusKind}
-use Rattle.cl_model.specs.Changes.{stimulus_at, with_kind, with_deadline, with_swap, with_place}
+use Rattle.cl_model.specs.Changes.{stimulus_at, with_kind, with_deadline, with_priorities, with_place}
 use Rattle.cl_model.specs.ByNumber.{task_at, core_at, core_of, stimulus_of, deadline_of}
-use Rattle.cl_model.specs.Named.{same_name, tasks_on}
+use Rattle.cl_model.specs.Named.{same_name}
 use Rattle.cl_model.specs.Refusals.{when, in_order, each}
 use Rattle.cl_model.specs.Timing.{least_distance, greatest_jitter}
-use Rattle.cl_model.specs.ValidTasks.{task_key, spans_too_many, is_outpaced_by}
+use Rattle.cl_model.specs.ValidTasks.{task_key}
 use Rattle.cl_edit.specs.declared.pace.Retiming.{Retiming}
 use Rattle.cl_edit.specs.declared.pace.Retiming.TheVariants as change
 use Rattle.cl_edit.specs.declared.pace.Pace.{Pace}
+use Rattle.cl_edit.specs.Changing.{IsPriorityOf}
 
 -- ---- changes
 
@@ -22,14 +25,18 @@ use Rattle.cl_edit.specs.declared.pace.Pace.{Pace}
 abbrev pub with_retiming : SystemModel → Retiming → SystemModel
 with_retiming model (change.Deadline task deadline) = with_deadline model task deadline
 with_retiming model (change.Kind stimulus kind) = with_kind model stimulus (λ _. kind)
-with_retiming model (change.Swap one other) = with_swap model one other
+with_retiming model (change.Priorities set after) = with_priorities model set.now
 with_retiming model (change.Move task core priority) = with_place model task (core_at model core).name priority
 
--- what a change names is there
+-- the priority of each task
+abbrev pub priorities_of : SystemModel → List ℕ
+priorities_of model = map (λ (task : TaskDef). task.priority) model.tasks
+
+-- what a change names is there, and the priorities after it are those of the model after it
 abbrev pub IsRetimingOf : SystemModel → Retiming → Type 0
 IsRetimingOf model (change.Deadline task deadline) = task < length model.tasks
 IsRetimingOf model (change.Kind stimulus kind) = stimulus < length model.stimuli
-IsRetimingOf model (change.Swap one other) = (one < length model.tasks) × (other < length model.tasks)
+IsRetimingOf model (change.Priorities set after) = All (IsPriorityOf model) set.now × (after.now ≡ priorities_of (with_priorities model set.now))
 IsRetimingOf model (change.Move task core priority) = (task < length model.tasks) × (core < length model.cores)
 
 -- whether task k names stimulus s
@@ -40,7 +47,7 @@ is_on model s k = same_name (task_at model k).stimulus (stimulus_at model s).nam
 abbrev pub is_touched : SystemModel → Retiming → (k : ℕ) → Bool
 is_touched model (change.Deadline task deadline) k = k == task
 is_touched model (change.Kind stimulus kind) k = is_on model stimulus k
-is_touched model (change.Swap one other) k = (k == one) || (k == other)
+is_touched model (change.Priorities set after) k = list_any (λ (it : TaskPriority). it.task == k) set.now
 is_touched model (change.Move task core priority) k = k == task
 
 -- ---- what task k is after a change
@@ -48,20 +55,19 @@ is_touched model (change.Move task core priority) k = k == task
 abbrev pub priority_after : SystemModel → Retiming → (k : ℕ) → ℕ
 priority_after model (change.Deadline task deadline) k = (task_at model k).priority
 priority_after model (change.Kind stimulus kind) k = (task_at model k).priority
-priority_after model (change.Swap one other) k =
-    if k == other then (task_at model one).priority else (if k == one then (task_at model other).priority else (task_at model k).priority)
+priority_after model (change.Priorities set after) k = slice_index_or after.now k 0
 priority_after model (change.Move task core priority) k = if k == task then priority else (task_at model k).priority
 
 abbrev pub kind_after : SystemModel → Retiming → (k : ℕ) → StimulusKind
 kind_after model (change.Deadline task deadline) k = stimulus_of model k
 kind_after model (change.Kind stimulus kind) k = if is_on model stimulus k then kind else stimulus_of model k
-kind_after model (change.Swap one other) k = stimulus_of model k
+kind_after model (change.Priorities set after) k = stimulus_of model k
 kind_after model (change.Move task core priority) k = stimulus_of model k
 
 abbrev pub given_after : SystemModel → Retiming → (k : ℕ) → Option ℕ
 given_after model (change.Deadline task deadline) k = if k == task then deadline else (task_at model k).deadline
 given_after model (change.Kind stimulus kind) k = (task_at model k).deadline
-given_after model (change.Swap one other) k = (task_at model k).deadline
+given_after model (change.Priorities set after) k = (task_at model k).deadline
 given_after model (change.Move task core priority) k = (task_at model k).deadline
 
 abbrev pub deadline_after : SystemModel → Retiming → (k : ℕ) → ℕ
@@ -70,12 +76,12 @@ deadline_after model change k = unwrap_or (given_after model change k) (least_di
 abbrev pub core_after : SystemModel → Retiming → (k : ℕ) → ℕ
 core_after model (change.Deadline task deadline) k = core_of model k
 core_after model (change.Kind stimulus kind) k = core_of model k
-core_after model (change.Swap one other) k = core_of model k
+core_after model (change.Priorities set after) k = core_of model k
 core_after model (change.Move task core priority) k = if k == task then core else core_of model k
 
 -- ---- paces
 
--- what the check of deadlines sees of task k after a change
+-- what the checks see of task k after a change
 abbrev pub pace_after : SystemModel → Retiming → (k : ℕ) → Pace
 pace_after model change k = record { priority = priority_after model change k; deadline = deadline_after model change k; kind = kind_after model change k }
 
@@ -83,46 +89,7 @@ pace_after model change k = record { priority = priority_after model change k; d
 abbrev pub pace_of : SystemModel → (k : ℕ) → Pace
 pace_of model k = record { priority = (task_at model k).priority; deadline = deadline_of model k; kind = stimulus_of model k }
 
--- whether a deadline spans too many least distances of a task above
-abbrev pub is_outpacing : Pace → Pace → Bool
-is_outpacing task other = nat_lt task.priority other.priority && spans_too_many task.deadline other.kind
-
--- task j of the core of task k outpaces it
-pub record IsPair (model : SystemModel) (k j : ℕ) : Type 0 where
-  pub below : k < length model.tasks
-  pub above : j < length model.tasks
-  pub core : core_of model k ≡ core_of model j
-  pub outpaces : is_outpacing (pace_of model k) (pace_of model j) ≡ true
-
--- whether M42 refuses task k
-abbrev pub is_outpaced : SystemModel → (k : ℕ) → Bool
-is_outpaced model k = list_any (is_outpaced_by model (task_at model k)) (tasks_on (task_at model k).core model.tasks)
-
--- ---- the first task that is outpaced
-
--- the lesser of a number, if there is one, and this one
-abbrev pub least_of : Option ℕ → ℕ → Option ℕ
-least_of None k = Some k
-least_of (Some first) k = (if nat_lt k first then Some k else Some first)
-
--- the same, where a test passes
-abbrev pub noted : Option ℕ → Bool → ℕ → Option ℕ
-noted first test k = if test then least_of first k else first
-
--- there is a number, and it is this one or a lesser one
-abbrev pub IsAtMost : Option ℕ → ℕ → Type 0
-IsAtMost None k = ⊥
-IsAtMost (Some first) k = first ≤ k
-
--- a number, if there is one, is that of a task that M42 refuses
-abbrev pub IsOutpaced : SystemModel → Option ℕ → Type 0
-IsOutpaced model None = Unit {0}
-IsOutpaced model (Some k) = (k < length model.tasks) × (is_outpaced model k ≡ true)
-
--- where two tasks are a pair, the number is at most that of the lower one
-pub record HasSeen (model : SystemModel) (first : Option ℕ) (k j : ℕ) : Type 0 where
-  pub below : IsPair model k j → IsAtMost first k
-  pub above : IsPair model j k → IsAtMost first j
+-- ---- the others of a core
 
 -- the tasks of a core of a model are the others of the core of a task after a change
 abbrev pub HasOthers : SystemModel → Retiming → (task core : ℕ) → Type 0

@@ -10,7 +10,7 @@ use Rattle.cl_model.specs.Named.{tasks_on}
 use Rattle.cl_model.specs.Refusals.{refuse, each}
 use Rattle.cl_model.specs.ValidTasks.{task_key}
 use Rattle.cl_edit.specs.FewChecks.{place_refusals}
-use Rattle.cl_edit.specs.Inner.Paces.{IsAtMost}
+use Rattle.cl_edit.specs.Inner.Pairs.{IsAtMost}
 
 -- M29, M31 and M34 for each task
 abbrev pub place_checks : SystemModel → List Refusal

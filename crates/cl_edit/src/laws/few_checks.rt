@@ -1,14 +1,19 @@
 //! An edit of a valid model needs few checks: each law says which refusals the changed model has,
 //! in their order.
-ghost use Rattle.std.specs.Prelude.{◌≡◌, ◌<◌, ℕ, Bool, List, [], Option, length};
+ghost use Rattle.std.specs.Prelude.{◌≡◌, ◌<◌, ℕ, Bool, false, List, [], Option, length, All};
+ghost use Rattle.cl_model.specs.declared.chain.RequirementDef.{RequirementDef};
+ghost use Rattle.cl_model.specs.declared.changes.TaskPriority.{TaskPriority};
 ghost use Rattle.cl_model.specs.declared.group.Step.{Step};
 ghost use Rattle.cl_model.specs.declared.model.SystemModel.{SystemModel};
 ghost use Rattle.cl_model.specs.declared.stimulus.StimulusKind.{StimulusKind};
 ghost use Rattle.cl_model.specs.declared.task.AccessKind.{AccessKind};
 ghost use Rattle.cl_model.specs.Groups.{IsStepOf};
-ghost use Rattle.cl_model.specs.Validity.{IsValid, refusals_of};
-ghost use Rattle.cl_model.specs.Changes.{with_range, with_whole, with_kind, with_deadline, with_swap, with_place, with_access};
-ghost use Rattle.cl_edit.specs.FewChecks.{range_refusals, deadline_refusals, kind_refusals, swap_refusals, move_refusals};
+ghost use Rattle.cl_model.specs.Named.{has_name, requirement_names};
+ghost use Rattle.cl_model.specs.Validity.{IsValid, requirement_check, refusals_of};
+ghost use Rattle.cl_edit.specs.declared.change.Change.TheVariants.{Requirement};
+ghost use Rattle.cl_edit.specs.Changing.{IsPriorityOf, IsChangeOf};
+ghost use Rattle.cl_model.specs.Changes.{with_range, with_whole, with_kind, with_deadline, with_priorities, with_place, with_access, with_requirement, with_new_requirement, without_requirement};
+ghost use Rattle.cl_edit.specs.FewChecks.{range_refusals, deadline_refusals, kind_refusals, priority_refusals, move_refusals};
 
 /// Where a runnable of a valid model gets other execution times, the changed model is refused
 /// exactly where the least exceeds the greatest (M36).
@@ -51,13 +56,29 @@ pub fn kinds_need_few_checks()
         ≡ kind_refusals model s kind }
 {}
 
-/// Where two tasks of a valid model exchange their priorities, the refusals of the changed model
-/// are those of two checks of all tasks, in this order: no task has the priority of an earlier task
-/// of its core (M31), and no deadline spans too many least distances of a task of higher priority
-/// on the same core (M42).
-pub fn swaps_need_few_checks()
-    ensures { (model : SystemModel) (one other : ℕ) → IsValid model
-        → refusals_of (with_swap model one other) ≡ swap_refusals model one other }
+/// Where tasks of a valid model get other priorities, the refusals of the changed model are those
+/// of two checks of all tasks, in this order: no task has the priority of an earlier task of its
+/// core (M31), and no deadline spans too many least distances of a task of higher priority on the
+/// same core (M42).
+pub fn priorities_need_few_checks()
+    ensures { (model : SystemModel) (priorities : List TaskPriority) → IsValid model
+        → All (IsPriorityOf model) priorities
+        → refusals_of (with_priorities model priorities) ≡ priority_refusals model priorities }
+{}
+
+/// Where a valid model gets a requirement in the place of one of the same name, or behind the
+/// others, with another name than these, the changed model is refused exactly where the requirement
+/// names no chain (M46).
+pub fn requirements_need_one_check()
+    ensures set { (model : SystemModel) (r : ℕ) (to : RequirementDef) → IsValid model
+        → IsChangeOf model (Requirement r to)
+        → refusals_of (with_requirement model r to) ≡ requirement_check model r to }
+    ensures added { (model : SystemModel) (requirement : RequirementDef) → IsValid model
+        → has_name requirement.name (requirement_names model) ≡ false
+        → refusals_of (with_new_requirement model requirement)
+        ≡ requirement_check model (length model.requirements) requirement }
+    ensures dropped { (model : SystemModel) (r : ℕ) → IsValid model
+        → refusals_of (without_requirement model r) ≡ [] }
 {}
 
 /// Where a task of a valid model gets another core and priority, the refusals of the changed model

@@ -10,7 +10,7 @@ use Rattle.cl_runs.specs.TaskTiming.{timing_at}
 use Rattle.cl_analyse.specs.Headline.{question_at}
 use Rattle.cl_incr.specs.declared.chains.ChainFindings.{ChainFindings}
 use Rattle.cl_incr.specs.declared.reach.Reach.{Reach}
-use Rattle.cl_incr.specs.declared.reach.Reach.TheVariants.{Timings, Task, NewChain, Chain}
+use Rattle.cl_incr.specs.declared.reach.Reach.TheVariants.{Timings, Task, NewChain, Chain, Requirements}
 use Rattle.cl_incr.specs.Touched.{KeepsChains, Touches}
 use Rattle.cl_incr.specs.Inner.Kept.{AreFoundOf}
 
@@ -78,6 +78,13 @@ pub record DropsChain (gone : ℕ) (old new : SystemModel) : Type 0 where
   pub stay : ChainsStay gone old new
   pub requirements : old.requirements ≡ new.requirements
 
+-- ---- requirements change
+
+-- the tasks and what they name, and the chains, stay as they are
+pub record ChangesRequirements (old new : SystemModel) : Type 0 where
+  pub system : system_of old ≡ system_of new
+  pub others : new ≡ record old { requirements = new.requirements }
+
 -- ---- edits
 
 -- it reaches what it says
@@ -86,3 +93,4 @@ IsReachOf old new (Timings tasks) = Touches old new tasks
 IsReachOf old new (Task site) = MovesTasks site.core site.gone old new
 IsReachOf old new NewChain = AddsChain old new
 IsReachOf old new (Chain gone) = DropsChain gone old new
+IsReachOf old new Requirements = ChangesRequirements old new

@@ -9,7 +9,7 @@ use Rattle.cl_model.specs.declared.model.SystemModel.{SystemModel}
 use Rattle.cl_model.specs.declared.task.TaskDef.{TaskDef}
 use Rattle.cl_model.specs.declared.valid_model.ValidModel.TheInside.{Inside}
 use Rattle.cl_model.specs.Groups.{groups, groups_of}
-use Rattle.cl_model.specs.Named.{core_names, stimulus_names, task_names, chain_names}
+use Rattle.cl_model.specs.Named.{core_names, stimulus_names, task_names, chain_names, requirement_names}
 use Rattle.cl_model.specs.NameSets.{names_with}
 use Rattle.cl_model.specs.ByNumber.{core_number, stimulus_number, greatest_time, tasks_of_core}
 use Rattle.cl_model.specs.Inner.StepTable.{step_in, AreStepsOf, StepsAdded, StepsDropped}
@@ -22,6 +22,7 @@ pub record AreNamesOf (model : SystemModel) (kept : SectionNames) : Type 0 where
   pub stimuli : kept.stimuli ≡ stimulus_names model
   pub tasks : kept.tasks ≡ task_names model
   pub chains : kept.chains ≡ chain_names model
+  pub requirements : kept.requirements ≡ requirement_names model
 
 -- what is kept is that of each task and of each core
 pub record AreTaskTablesOf (model : SystemModel) (kept : TaskTables) : Type 0 where

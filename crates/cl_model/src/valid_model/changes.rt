@@ -1,10 +1,11 @@
 //! Changes of a valid model that stays valid. The tables beside it are updated, not made anew.
 //! Times are in ticks.
-ghost use Rattle.std.specs.Prelude.{◌≡◌, ◌<◌, length};
+ghost use Rattle.std.specs.Prelude.{◌≡◌, ◌<◌, length, All};
 ghost use Rattle.cl_model.specs.Groups.{IsStepOf};
-ghost use Rattle.cl_model.specs.Changes.{with_range, with_whole, with_kind, with_deadline, with_swap, with_access};
+ghost use Rattle.cl_model.specs.Changes.{with_range, with_whole, with_kind, with_deadline, with_priorities, with_swap, with_access};
 ghost use Rattle.cl_model.specs.Validity.{IsValid};
 
+use crate::changes::TaskPriority;
 use crate::group::Step;
 use crate::look_ups::greatest_time;
 use crate::stimulus::StimulusKind;
@@ -64,6 +65,20 @@ impl ValidModel {
     {
         let mut model = self.model;
         model.set_deadline(task as usize, deadline);
+        ValidModel {
+            model,
+            look_ups: self.look_ups,
+        }
+    }
+
+    /// Returns the model in which tasks have these priorities, set one after the other.
+    pub fn with_priorities(self, priorities: &[TaskPriority]) -> ValidModel
+        requires tasks { All (λ it. it.task < length self.tasks) priorities.now }
+        requires valid { IsValid (with_priorities self priorities.now) }
+        ensures { result ≡ with_priorities self priorities.now }
+    {
+        let mut model = self.model;
+        model.set_priorities(priorities);
         ValidModel {
             model,
             look_ups: self.look_ups,

@@ -1,24 +1,27 @@
 -- `apply`: the model after all edits.
-use Rattle.std.proofs.Common.{◌≡◌, ℕ, ◌+◌, inl, inr, List, length, ap, ◌∙◌, arith}
+use Rattle.std.proofs.Common.{◌≡◌, ℕ, inl, inr, List, length, Ok, ap, ◌∙◌, arith}
 use Rattle.std.proofs.lemmas.List.{take_all}
 use Rattle.cl_model.specs.declared.model.SystemModel.{SystemModel}
 use Rattle.cl_model.specs.declared.refusal.Code.TheVariants.{E1}
 use Rattle.cl_model.specs.Place.{top}
 use Rattle.cl_model.specs.Validity.{IsValid}
+use Rattle.cl_edit.specs.declared.edit.Edit.{Edit}
+use Rattle.cl_edit.specs.declared.edit_lines.ListedEdit.{ListedEdit}
 use Rattle.cl_edit.specs.Edited.{after}
+use Rattle.cl_edit.specs.Reading.{edits_of, AreEditsOf}
 use Rattle.cl_engine.specs.declared.files.Files.TheVariants as files
 use Rattle.cl_engine.specs.declared.files.TheConstants.{FILE_LIMIT}
 use Rattle.cl_engine.specs.declared.outcome.Outcome.{Outcome}
 use Rattle.cl_engine.specs.declared.status.TheConstants.{DONE}
 use Rattle.cl_engine.specs.Language.{IsOfContent}
 use Rattle.cl_top.specs.Commands.Apply.{IsOfApply, HoldsEdited, applying}
-use Rattle.cl_top.specs.Commands.Edit.{edits_refused}
+use Rattle.cl_top.specs.Commands.Edit.{line_at, edits_refused}
 use Rattle.cl_top.specs.Meaning.{no_step, promises_of_both, WritesTheSame}
 use Rattle.cl_top.proofs.Applied.{some_applied, applied_alike}
 use Rattle.cl_top.proofs.WellMeant.Edit.{seven_content}
-use Rattle.cl_top.proofs.EditsOnce.{listed_in_range}
+use Rattle.cl_top.proofs.EditsAlike.{listed_in_range}
 use Rattle.cl_top.proofs.Meanings.{IsMeantWell, both_well}
-use Rattle.cl_top.proofs.ReportLines.{valid_after}
+use Rattle.cl_top.proofs.EditPieces.{valid_after}
 
 status_of : (found other : Outcome) → found ≡ other → found.status ≡ other.status
 status_of found other is = ap (λ (o : Outcome). o.status) is
@@ -31,19 +34,25 @@ apply_content model text found (inl has) = elim has.applied_to [
 ]
 apply_content model text found (inr bad) = seven_content found (status_of found _ bad.printed)
 
+-- the model after all edits is valid
+all_valid : (model : SystemModel) → IsValid model → (text : List ℕ) (listed : List ListedEdit) → AreEditsOf text listed
+    → (made : SystemModel) → after model (edits_of listed) ≡ Ok made → IsValid made
+all_valid model valid text listed are made applied =
+    let edits : List Edit = edits_of listed in
+    valid_after edits (length edits) model made valid (listed_in_range text listed are) (ap (after model) (take_all (length edits) edits (omega arith)) ∙ applied)
+
 -- the text is read as the model after all edits, where none is refused
 holds_edited : (model : SystemModel) → IsValid model → (text : List ℕ) (found : Outcome) → IsOfApply model text found → found.status ≡ DONE → HoldsEdited model text found.text
-holds_edited model valid text found (inl listed) done = elim listed.applied_to [
+holds_edited model valid text found (inl has) done = elim has.applied_to [
   | inl all ↦ record {
-    edits = listed.edits;
-    are = listed.are;
+    listed = has.listed;
+    are = has.are;
     made = all.made;
     applied = all.applied;
-    valid = valid_after listed.edits (length listed.edits) model all.made valid (listed_in_range text listed.edits listed.are)
-        (ap (after model) (take_all (length listed.edits) listed.edits (omega arith)) ∙ all.applied);
+    valid = all_valid model valid text has.listed has.are all.made all.applied;
     is_text = all.is_text.text_is;
   }
-  | inr refused ↦ absurd (omega (arith, done, status_of found (edits_refused (refused.count + 2) refused.refusal) refused.printed))
+  | inr refused ↦ absurd (omega (arith, done, status_of found (edits_refused (line_at has.listed refused.count) refused.refusal) refused.printed))
 ]
 holds_edited model valid text found (inr bad) done =
     absurd (omega (arith, done, status_of found (edits_refused bad.number (record { code = E1; place = top })) bad.printed))

@@ -16,9 +16,7 @@ use Rattle.cl_explain.proofs.SafelyExplained.{safe_explanation}
 use Rattle.cl_report.specs.Report.{IsReportOf}
 use Rattle.cl_report.specs.Tight.{tight_text}
 use Rattle.cl_report.proofs.OneReport.{one_report}
-use Rattle.cl_tight.proofs.TightLaws.{tight_findings_safe, tight_findings_as_tight, verified_in_time}
-use Rattle.cl_verify.specs.VerifyText.{verify_text}
-use Rattle.cl_verify.proofs.SomeDecisions.{some_decisions}
+use Rattle.cl_tight.proofs.TightLaws.{verified_in_time}
 use Rattle.cl_write.specs.Texts.{IsTextOf}
 use Rattle.cl_write.proofs.SomeTexts.{some_text}
 use Rattle.cl_engine.specs.declared.files.Files.TheVariants as files
@@ -31,7 +29,7 @@ use Rattle.cl_top.specs.Headline.{IsSafeReportOf, AreSafeCuts, IsSafeTightReport
 use Rattle.cl_top.specs.Meaning.{printing, no_step, any_steps, at_most, model_steps, task_steps, entry_steps, no_promise, promises, equal, of_one_model, WritesTheSame}
 use Rattle.cl_top.specs.Verified.{verify_status, IsVerifiedAs, IsShownInTime}
 use Rattle.cl_top.proofs.Meanings.{IsMeantWell, done_some, done_once, model_well}
-use Rattle.cl_top.proofs.SafeReport.{some_report, safe_report_of}
+use Rattle.cl_top.proofs.SafeReport.{some_report, safe_report_of, safe_tight_report, some_verify_text}
 use Rattle.cl_top.proofs.VerifyStatus.{verify_content, verified_at_done}
 
 -- a text of which each valid model has one
@@ -85,7 +83,7 @@ margin_well = printing_well IsMarginTextOf any_steps (promises IsSafeMarginText)
 pub tightening_well : IsMeantWell files.Model (meaning_of command.Tighten) (Unit {0})
 unfolding meaning_of
 tightening_well = writing_well tight_text (at_most task_steps) (promises IsSafeTightReport) (λ model steps. omega arith)
-    (λ model valid text is. record { printed = is; safe = tight_findings_safe model valid; as_tight = λ report found. tight_findings_as_tight model valid report found })
+    (λ model valid text is. safe_tight_report model text valid is)
 
 pub explaining_well : IsMeantWell files.Model (meaning_of command.Explain) (Unit {0})
 unfolding meaning_of
@@ -94,10 +92,8 @@ explaining_well = writing_well explanation (at_most entry_steps) (promises IsSaf
 pub verifying_well : IsMeantWell files.Model (meaning_of command.Verify) (Unit {0})
 unfolding meaning_of
 verifying_well = model_well (at_most task_steps) (promises IsShownInTime) (of_one_model IsVerifiedAs) (Unit {0}) (λ one other is. inl is) IsVerifiedAs
-    (λ model valid named few. let (decisions, decided) = some_decisions model valid in (
-      record { status = verify_status model; text = verify_text model decisions },
-      record { status_is = refl; text_is = record { decisions = decisions; decided = decided; printed = refl } },
-    ))
+    (λ model valid named few. let text = some_verify_text model valid in
+    (record { status = verify_status model; text = text.0 }, record { status_is = refl; text_is = text.1 }))
     (λ model valid one other h k. inr (model, h, k))
     (λ model found is. subst IsOfContent (sym is.status_is) (verify_content model)) (λ model steps. omega arith)
     (λ model valid found is done. record {

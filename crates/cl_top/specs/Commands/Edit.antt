@@ -1,6 +1,6 @@
--- `edit MODEL EDITS`: the reports of a model as it is edited.
-use Rattle.std.specs.Prelude.{◌≡◌, ◌⊎◌, ℕ, ◌+◌, ◌<◌, ◌≤◌, List, [], ◌++◌, length, take, slice_index_or, codes, decimal, Ok, Err}
-use Rattle.std.specs.List.{concat}
+-- `edit MODEL EDITS`: what is found of a model as it is edited.
+use Rattle.std.specs.Prelude.{◌≡◌, ◌⊎◌, ℕ, ◌<◌, ◌≤◌, Bool, true, false, List, [], ◌++◌, length, map, take, slice_index_or, codes, decimal, Ok, Err}
+use Rattle.std.specs.List.{concat, list_any}
 use Rattle.cl_text.specs.Line.{line}
 use Rattle.cl_model.specs.declared.model.SystemModel.{SystemModel}
 use Rattle.cl_model.specs.declared.refusal.Code.TheVariants.{E1}
@@ -8,15 +8,18 @@ use Rattle.cl_model.specs.declared.refusal.Refusal.{Refusal}
 use Rattle.cl_model.specs.Place.{top}
 use Rattle.cl_model.specs.Refusal.{refusal_text}
 use Rattle.cl_edit.specs.declared.edit.Edit.{Edit}
-use Rattle.cl_edit.specs.declared.edit.Edit.TheVariants.{Report}
+use Rattle.cl_edit.specs.declared.edit.Edit.TheVariants.{Report, Tighten, Verify}
+use Rattle.cl_edit.specs.declared.edit_lines.ListedEdit.{ListedEdit}
 use Rattle.cl_edit.specs.Edited.{edited, after}
-use Rattle.cl_edit.specs.Reading.{AreEditsOf, IsBadEditLine}
+use Rattle.cl_edit.specs.Reading.{edits_of, AreEditsOf, IsBadEditLine}
 use Rattle.cl_report.specs.Report.{IsReportOf}
+use Rattle.cl_report.specs.Tight.{tight_text}
+use Rattle.cl_verify.specs.VerifyText.{IsVerifyTextOf}
 use Rattle.cl_engine.specs.declared.outcome.Outcome.{Outcome}
 use Rattle.cl_engine.specs.declared.status.TheConstants.{DONE, EDITS_REFUSED}
 use Rattle.cl_engine.specs.Content.{of_both}
-use Rattle.cl_top.specs.Headline.{IsSafeReportOf}
-use Rattle.cl_top.specs.Meaning.{Meaning, on_both, promises_of_both, equal}
+use Rattle.cl_top.specs.Headline.{IsSafeReportOf, IsSafeTightReport}
+use Rattle.cl_top.specs.Meaning.{Meaning, on_both, promises_of_both}
 use Rattle.cl_top.specs.Steps.{AreFewOfEdits}
 
 -- an outcome with the status of refused edits
@@ -31,9 +34,13 @@ edits_refused number refusal = refused_with (line (codes "edits refused line " +
 abbrev pub behind : List ℕ → Outcome → Outcome
 behind text found = record { status = found.status; text = text ++ found.text }
 
--- what an edit has written of the model that it finds: a report line its report, and every other line nothing
+-- What an edit has written of the model that it finds: its report, its tight bounds, what is decided of it, or nothing. All
+-- runs that are tried to decide something, of one list of edits, have at most MOST_EXECUTIONS_OF_RUNS executions: later edits
+-- may decide less of the same model than earlier ones.
 abbrev pub IsWrittenBy : SystemModel → Edit → (text : List ℕ) → Type 0
 IsWrittenBy model Report text = IsReportOf model text
+IsWrittenBy model Tighten text = text ≡ tight_text model
+IsWrittenBy model Verify text = IsVerifyTextOf model text
 IsWrittenBy model edit text = text ≡ []
 
 -- the edit at this place has written this piece, of the model after the edits above it
@@ -49,32 +56,39 @@ pub record AreAccepted (model : SystemModel) (edits : List Edit) (count : ℕ) (
   pub one_each : length pieces ≡ count
   pub written : (place : ℕ) → place < count → HasWrittenPiece model edits place (slice_index_or pieces place [])
 
--- the next edit is refused of this model: its refusal stands behind the text. The first edit stands in line 2
-pub record EndsRefused (made : SystemModel) (edits : List Edit) (count : ℕ) (text : List ℕ) (found : Outcome) : Type 0 where
-  pub one_more : count < length edits
+-- the edit at a place of a list, and the number of its line
+abbrev pub edit_at : List ListedEdit → (place : ℕ) → Edit
+edit_at listed place = slice_index_or (edits_of listed) place Report
+
+abbrev pub line_at : List ListedEdit → (place : ℕ) → ℕ
+line_at listed place = slice_index_or (map (λ (one : ListedEdit). one.line) listed) place 0
+
+-- the next edit is refused of this model: its refusal stands behind the text
+pub record EndsRefused (made : SystemModel) (listed : List ListedEdit) (count : ℕ) (text : List ℕ) (found : Outcome) : Type 0 where
+  pub one_more : count < length listed
   pub refusal : Refusal
-  pub refused : edited made (slice_index_or edits count Report) ≡ Err refusal
-  pub printed : found ≡ behind text (edits_refused (count + 2) refusal)
+  pub refused : edited made (edit_at listed count) ≡ Err refusal
+  pub printed : found ≡ behind text (edits_refused (line_at listed count) refusal)
 
 -- no edit is left, and there is nothing but the text
-pub record EndsDone (edits : List Edit) (count : ℕ) (text : List ℕ) (found : Outcome) : Type 0 where
-  pub all : count ≡ length edits
+pub record EndsDone (listed : List ListedEdit) (count : ℕ) (text : List ℕ) (found : Outcome) : Type 0 where
+  pub all : count ≡ length listed
   pub printed : found ≡ record { status = DONE; text = text }
 
--- What edits of a model come to: so many are accepted, the text is the reports among them, joined, and then comes nothing
+-- What edits of a model come to: so many are accepted, the text is what these have written, joined, and then comes nothing
 -- or one refusal.
-pub record AreEditedTo (model : SystemModel) (edits : List Edit) (found : Outcome) : Type 0 where
+pub record AreEditedTo (model : SystemModel) (listed : List ListedEdit) (found : Outcome) : Type 0 where
   pub count : ℕ
   pub pieces : List (List ℕ)
   pub made : SystemModel
-  pub are : AreAccepted model edits count pieces made
-  pub ends : EndsDone edits count (concat pieces) found ⊎ EndsRefused made edits count (concat pieces) found
+  pub are : AreAccepted model (edits_of listed) count pieces made
+  pub ends : EndsDone listed count (concat pieces) found ⊎ EndsRefused made listed count (concat pieces) found
 
 -- the text is a list of edits, of which the outcome is
 pub record HasEdits (model : SystemModel) (text : List ℕ) (found : Outcome) : Type 0 where
-  pub edits : List Edit
-  pub are : AreEditsOf text edits
-  pub edited_to : AreEditedTo model edits found
+  pub listed : List ListedEdit
+  pub are : AreEditsOf text listed
+  pub edited_to : AreEditedTo model listed found
 
 -- the text is none
 pub record HasBadEditLine (text : List ℕ) (found : Outcome) : Type 0 where
@@ -88,48 +102,72 @@ IsOfEdits model text found = HasEdits model text found ⊎ HasBadEditLine text f
 
 -- ---- what is promised
 
--- a report line has written the safe report of the model after the edits above it
+-- what an edit has written is safe: a report, or tight bounds; what is decided of a model says itself what it shows
+abbrev pub IsSafelyWritten : SystemModel → Edit → (text : List ℕ) → Type 0
+IsSafelyWritten model Report text = IsSafeReportOf model text
+IsSafelyWritten model Tighten text = IsSafeTightReport model text
+IsSafelyWritten model Verify text = IsVerifyTextOf model text
+IsSafelyWritten model edit text = text ≡ []
+
+-- an edit has written what is safe of the model after the edits above it
 pub record IsSafePiece (model : SystemModel) (edits : List Edit) (place : ℕ) (piece : List ℕ) : Type 0 where
-  pub written : HasWrittenPiece model edits place piece
-  pub report : IsSafeReportOf written.found piece
+  pub found : SystemModel
+  pub so_far : after model (take place edits) ≡ Ok found
+  pub safe : IsSafelyWritten found (slice_index_or edits place Report) piece
 
--- the piece of each report line among the first so many edits is a safe report
+-- the piece of each edit among the first so many is safe
 abbrev pub AreSafePieces : SystemModel → (edits : List Edit) (count : ℕ) (pieces : List (List ℕ)) → Type 0
-AreSafePieces model edits count pieces = (place : ℕ) → place < count → slice_index_or edits place Report ≡ Report
-    → IsSafePiece model edits place (slice_index_or pieces place [])
+AreSafePieces model edits count pieces = (place : ℕ) → place < count → IsSafePiece model edits place (slice_index_or pieces place [])
 
--- The text is the pieces of the edits that are accepted, joined, and the piece of each report line is a safe report.
-pub record AreSafeReports (model : SystemModel) (listed text : List ℕ) : Type 0 where
-  pub edits : List Edit
-  pub are : AreEditsOf listed edits
+-- The text is the pieces of the edits that are accepted, joined, and each of them is safe.
+pub record AreSafeTexts (model : SystemModel) (text_of_edits text : List ℕ) : Type 0 where
+  pub listed : List ListedEdit
+  pub are : AreEditsOf text_of_edits listed
   pub count : ℕ
   pub pieces : List (List ℕ)
   pub made : SystemModel
-  pub accepted : AreAccepted model edits count pieces made
+  pub accepted : AreAccepted model (edits_of listed) count pieces made
   pub printed : text ≡ concat pieces
-  pub safe : AreSafePieces model edits count pieces
+  pub safe : AreSafePieces model (edits_of listed) count pieces
 
--- The edit behind those that are accepted is refused: the text is their pieces, joined, with its line behind them, and the
--- piece of each report line is a safe report.
-pub record StopsAtRefused (model : SystemModel) (listed text : List ℕ) : Type 0 where
-  pub edits : List Edit
-  pub are : AreEditsOf listed edits
+-- The edit behind those that are accepted is refused: the text is their pieces, joined, with its line behind them, and each
+-- piece is safe.
+pub record StopsAtRefused (model : SystemModel) (text_of_edits text : List ℕ) : Type 0 where
+  pub listed : List ListedEdit
+  pub are : AreEditsOf text_of_edits listed
   pub count : ℕ
   pub pieces : List (List ℕ)
   pub made : SystemModel
-  pub accepted : AreAccepted model edits count pieces made
-  pub stops : EndsRefused made edits count (concat pieces) (refused_with text)
-  pub safe : AreSafePieces model edits count pieces
+  pub accepted : AreAccepted model (edits_of listed) count pieces made
+  pub stops : EndsRefused made listed count (concat pieces) (refused_with text)
+  pub safe : AreSafePieces model (edits_of listed) count pieces
 
--- what is written with status 7: safe reports and the line of a refused edit, or alone the line that is no edit
-abbrev pub StopsSafely : SystemModel → (listed text : List ℕ) → Type 0
-StopsSafely model listed text = StopsAtRefused model listed text ⊎ HasBadEditLine listed (refused_with text)
+-- what is written with status 7: what is safe and the line of a refused edit, or alone the line that is no edit
+abbrev pub StopsSafely : SystemModel → (text_of_edits text : List ℕ) → Type 0
+StopsSafely model text_of_edits text = StopsAtRefused model text_of_edits text ⊎ HasBadEditLine text_of_edits (refused_with text)
+
+-- whether an edit asks what is decided of the model
+abbrev pub is_verify : Edit → Bool
+is_verify Verify = true
+is_verify edit = false
+
+-- two outcomes of the same edits of the same model, some of which ask what is decided: that may be said in more ways than one
+pub record VerifyTheSame (one other : Outcome) : Type 0 where
+  pub model : SystemModel
+  pub listed : List ListedEdit
+  pub asks : list_any is_verify (edits_of listed) ≡ true
+  pub first : AreEditedTo model listed one
+  pub second : AreEditedTo model listed other
+
+-- two outcomes are equal, unless an edit asks what is decided
+abbrev pub EditTheSame : (one other : Outcome) → Type 0
+EditTheSame one other = (one ≡ other) ⊎ VerifyTheSame one other
 
 -- what `edit` means
 abbrev pub editing : Meaning
 editing = record {
   comes_to = on_both IsOfEdits;
   takes = of_both AreFewOfEdits (λ before after. ⊥);
-  safe = promises_of_both AreSafeReports;
-  same = equal;
+  safe = promises_of_both AreSafeTexts;
+  same = EditTheSame;
 }

@@ -4,12 +4,9 @@ use Rattle.cl_model.specs.declared.model.SystemModel.{SystemModel}
 use Rattle.cl_model.specs.declared.refusal.Refusal.{Refusal}
 use Rattle.cl_edit.specs.declared.edit.Edit.{Edit}
 use Rattle.cl_edit.specs.Edited.{edited}
-use Rattle.cl_edit.specs.Listed.{OfLines}
-use Rattle.cl_incr.specs.Changed.{AsksForChanges}
-use Rattle.cl_engine.specs.declared.outcome.Outcome.{Outcome}
-use Rattle.cl_top.specs.Commands.Edit.{IsWrittenBy, AreEditedTo}
+use Rattle.cl_top.specs.Commands.Edit.{IsWrittenBy}
 use Rattle.cl_top.specs.Meaning.{model_steps}
-use Rattle.cl_top.specs.Steps.{AskForChanges}
+use Rattle.cl_top.specs.Steps.{AsksFor, AskForChanges}
 
 -- an edit was made: the model is the edited one, and what the edit has written stands behind the text
 pub record IsMade (old : SystemModel) (edit : Edit) (new : SystemModel) (before after : List ℕ) : Type 0 where
@@ -18,17 +15,13 @@ pub record IsMade (old : SystemModel) (edit : Edit) (new : SystemModel) (before 
   pub writes : IsWrittenBy old edit written
   pub put : after ≡ before ++ written
 
--- an edit asked for what it changes, and for nothing where it is refused
-abbrev pub HasAsked : (old : SystemModel) → (made : Result SystemModel Refusal) → (before after : ℕ) → Type 0
-HasAsked old (Err refusal) before after = after ≤ before
-HasAsked old (Ok new) before after = AsksForChanges old new before after
+-- an edit asked for what it changes and writes, and for nothing where it is refused
+abbrev pub HasAsked : Edit → (old : SystemModel) → (made : Result SystemModel Refusal) → (before after : ℕ) → Type 0
+HasAsked edit old (Err refusal) before after = after ≤ before
+HasAsked edit old (Ok new) before after = AsksFor edit old new before after
 
 -- a session was started, and edits asked for what they change
 pub record HaveAsked (edits : List Edit) (model : SystemModel) (before after : ℕ) : Type 0 where
   pub started : ℕ
   pub start : started ≤ before + model_steps model
   pub ask : AskForChanges edits model started after
-
--- the edits of these lines come to this
-abbrev pub LinesEditTo : SystemModel → (lines : List ℕ) → Outcome → Type 0
-LinesEditTo model lines found = OfLines lines (λ edits. AreEditedTo model edits found)

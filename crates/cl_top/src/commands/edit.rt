@@ -1,31 +1,38 @@
-ghost use Rattle.std.specs.Prelude.{◌≡◌, ℕ, ◌++◌, List, Err, IfOk, OnOk};
+ghost use Rattle.std.specs.Prelude.{◌≡◌, ℕ, ◌+◌, ◌≤◌, ◌++◌, List, Err, All, IfOk, OnOk};
 ghost use Rattle.cl_model.specs.Place.{top};
 ghost use Rattle.cl_model.specs.declared.refusal.Refusal.{Refusal};
 ghost use Rattle.cl_edit.specs.Edited.{edited};
-ghost use Rattle.cl_edit.specs.Listed.{OfLines, ListsSome};
 ghost use Rattle.cl_edit.specs.Ranges.{IsEditInRange};
+ghost use Rattle.cl_edit.specs.Reading.{edits_of};
+ghost use Rattle.cl_report.specs.Tight.{tight_text};
+ghost use Rattle.cl_verify.specs.VerifyText.{IsVerifyTextOf};
 ghost use Rattle.cl_engine.specs.Content.{ModelAnd};
 ghost use Rattle.cl_top.specs.Commands.{IsOutcomeOf, TakesStepsOf};
-ghost use Rattle.cl_top.specs.Commands.Edit.{edits_refused, behind, IsWrittenBy};
-ghost use Rattle.cl_top.specs.Inner.Edits.{IsMade, HasAsked, HaveAsked, LinesEditTo};
-ghost use Rattle.cl_top.specs.Steps.{AskForChanges};
+ghost use Rattle.cl_top.specs.Commands.Edit.{edits_refused, behind, IsWrittenBy, AreEditedTo};
+ghost use Rattle.cl_top.specs.Inner.Edits.{IsMade, HasAsked, HaveAsked};
+ghost use Rattle.cl_top.specs.Meaning.{task_steps};
+ghost use Rattle.cl_top.specs.Steps.{written_steps, AskForChanges};
 
 use crate::Command;
-use cl_edit::{Edit, EditLines, EditsFault};
+use cl_edit::{Edit, EditLines, EditsFault, ListedEdit};
 use cl_engine::{Outcome, status};
 use cl_incr::Session;
 use cl_model::{Code, ModelFault, Place, Refusal, ValidModel};
-use cl_report::put_report;
+use cl_near::Budget;
+use cl_report::{put_report, tight_report};
 use cl_text::Text;
+use cl_tight::tighten;
 use cl_time::{NoMemory, Steps};
+use cl_verify::{decide, verify_text};
 use std::alloc::Global;
 use std::sync::ledger::Ledger;
 
-/// Finds the outcome of `edit` for a valid model and the text of a list of edits: the reports, in
-/// order; or the first bad line of the text; or the reports before the first edit that is refused,
-/// and then its refusal. Counts at most one step for each task and two for each chain of the model;
-/// and, where each line is an edit, also one for each task and two for each chain whose question an
-/// edit changes.
+/// Finds the outcome of `edit` for a valid model and the text of a list of edits: what is written
+/// for its edits, in order; or the first bad line of the text; or what is written before the first
+/// edit that is refused, and then its refusal. Counts at most one step for each task and two for
+/// each chain of the model; and, where each line is an edit, also one for each task and two for each
+/// chain whose question an edit changes, and one for each task where tight bounds are written or the
+/// model is verified.
 #[tactic(auto, unfolding(crate::specs::Commands::meaning_of))]
 pub(super) fn edited<L: Ledger>(
     alloc: Global,
@@ -37,82 +44,145 @@ pub(super) fn edited<L: Ledger>(
     ensures steps { TakesStepsOf Command.Edit (ModelAnd model text.now) steps.old steps.new }
 {
     match EditLines::of(alloc, text) {
-        Ok(lines) => report_edited(alloc, model, lines, steps),
+        Ok(lines) => write_edited(alloc, model, lines, steps),
         Err(EditsFault::BadLine { line }) => bad_line(alloc, line),
         Err(EditsFault::NoMemory) => Err(NoMemory),
     }
 }
 
-/// Starts a session of the model, makes the edits of these lines one after the other and collects
-/// the reports.
-fn report_edited<L: Ledger>(
+/// Starts a session of the model, makes these edits one after the other and collects what is
+/// written.
+fn write_edited<L: Ledger>(
     alloc: Global,
     model: ValidModel,
     lines: EditLines<'_>,
     steps: &mut Steps<L>,
 ) -> Result<Outcome, NoMemory>
-    requires { ListsSome lines }
-    ensures outcome { IfOk result (LinesEditTo model lines.entry) }
-    ensures steps { OfLines lines.entry (λ edits. HaveAsked edits model steps.old steps.new) }
+    requires { All IsEditInRange (edits_of lines) }
+    ensures outcome { IfOk result (AreEditedTo model lines.entry) }
+    ensures steps { HaveAsked (edits_of lines.entry) model steps.old steps.new }
 {
     let mut session = Session::start(alloc, model, steps)?;
-    report_lines(alloc, &mut session, lines, steps)
+    let outcome = write_lines(alloc, &mut session, lines, steps);
+    session.close();
+    outcome
 }
 
-/// Makes the edits one after the other and collects the reports, up to the first edit that is
-/// refused. The first edit is line 2 of the file.
-fn report_lines<L: Ledger>(
+/// Makes the edits one after the other and collects what is written, up to the first edit that is
+/// refused. All runs that are made to verify are within one budget.
+fn write_lines<L: Ledger>(
     alloc: Global,
     session: &mut Session,
-    lines: EditLines<'_>,
+    mut lines: EditLines<'_>,
     steps: &mut Steps<L>,
 ) -> Result<Outcome, NoMemory>
-    requires { ListsSome lines }
-    ensures outcome { IfOk result (LinesEditTo session.old.model lines.entry) }
-    ensures steps { OfLines lines.entry
-        (λ edits. AskForChanges edits session.old.model steps.old steps.new) }
+    requires { All IsEditInRange (edits_of lines) }
+    ensures outcome { IfOk result (AreEditedTo session.old.model lines.entry) }
+    ensures steps { AskForChanges (edits_of lines.entry) session.old.model steps.old steps.new }
 {
-    let mut lines = lines;
     let mut text = Text::new(alloc);
-    let mut number = 2;
-    while let Some(edit) = lines.next(alloc)? {
-        if let Err(fault) = make_edit(session, edit, &mut text, steps) {
-            return stopped(alloc, text, number, fault);
+    let mut budget = Budget::new();
+    while let Some(listed) = lines.next(alloc)? {
+        let line = listed.line;
+        if let Err(fault) = make_listed(alloc, session, listed, &mut budget, &mut text, steps) {
+            return stopped(alloc, text, line, fault);
         }
-        number += 1;
     }
     Ok(Outcome::done(text))
 }
 
-/// Makes an edit of the session's model, and puts its report for a report line. An edit that is
-/// refused leaves the text as it was.
-fn make_edit<L: Ledger>(
+/// Makes an edit of a list, as `make_edit` does, and drops it.
+fn make_listed<L: Ledger>(
+    alloc: Global,
     session: &mut Session,
-    edit: Edit,
+    listed: ListedEdit,
+    budget: &mut Budget,
     text: &mut Text,
     steps: &mut Steps<L>,
 ) -> Result<(), ModelFault>
-    requires { IsEditInRange edit }
-    ensures made { OnOk result (IsMade session.old.model edit session.new.model text.old text.new) }
+    requires { IsEditInRange listed.edit }
+    ensures made { OnOk result (IsMade session.old.model listed.edit session.new.model text.old text.new) }
     ensures refused { (refusal : Refusal) → result ≡ Err (ModelFault.Refused refusal)
-        → (edited session.old.model edit ≡ Err refusal) × (text.new ≡ text.old) }
-    ensures steps { HasAsked session.old.model (edited session.old.model edit) steps.old steps.new }
+        → (edited session.old.model listed.edit ≡ Err refusal) × (text.new ≡ text.old) }
+    ensures steps { HasAsked listed.edit session.old.model (edited session.old.model listed.edit) steps.old steps.new }
 {
-    session.apply(&edit, steps)?;
-    put_reported(session, &edit, text)?;
+    make_edit(alloc, session, &listed.edit, budget, text, steps)
+}
+
+/// Makes an edit of the session's model, and puts what it writes. An edit that is refused leaves the
+/// text as it was.
+fn make_edit<L: Ledger>(
+    alloc: Global,
+    session: &mut Session,
+    edit: &Edit,
+    budget: &mut Budget,
+    text: &mut Text,
+    steps: &mut Steps<L>,
+) -> Result<(), ModelFault>
+    requires { IsEditInRange edit.now }
+    ensures made { OnOk result (IsMade session.old.model edit.now session.new.model text.old text.new) }
+    ensures refused { (refusal : Refusal) → result ≡ Err (ModelFault.Refused refusal)
+        → (edited session.old.model edit.now ≡ Err refusal) × (text.new ≡ text.old) }
+    ensures steps { HasAsked edit.now session.old.model (edited session.old.model edit.now) steps.old steps.new }
+{
+    session.apply(edit, steps)?;
+    put_written(alloc, session, edit, budget, text, steps)?;
     Ok(())
 }
 
-/// Puts the report of the session's model for a report line, and nothing for any other edit.
-fn put_reported(session: &Session, edit: &Edit, text: &mut Text) -> Result<(), NoMemory>
-    ensures { OnOk result
+/// Puts what an edit writes of the session's model, which is nothing for an edit that changes it.
+fn put_written<L: Ledger>(
+    alloc: Global,
+    session: &Session,
+    edit: &Edit,
+    budget: &mut Budget,
+    text: &mut Text,
+    steps: &mut Steps<L>,
+) -> Result<(), NoMemory>
+    ensures written { OnOk result
         ((written : List ℕ) × IsWrittenBy session.now.model edit.now written
         × (text.new ≡ text.old ++ written)) }
+    ensures steps { steps.new ≤ steps.old + written_steps edit.now session.now.model }
 {
     match edit {
         Edit::Report => put_report(text, session.model(), session.findings()),
+        Edit::Tighten => put_tight(alloc, session.model(), text, steps),
+        Edit::Verify => put_verified(alloc, session.model(), budget, text, steps),
         _ => Ok(()),
     }
+}
+
+/// Puts the report by tight bounds of a model.
+fn put_tight<L: Ledger>(
+    alloc: Global,
+    model: &ValidModel,
+    text: &mut Text,
+    steps: &mut Steps<L>,
+) -> Result<(), NoMemory>
+    ensures written { OnOk result (text.new ≡ text.old ++ tight_text model.now) }
+    ensures steps { steps.new ≤ steps.old + task_steps model.now }
+{
+    let findings = tighten(alloc, model, steps)?;
+    let report = tight_report(alloc, model, &findings)?;
+    text.put(report.as_slice())
+}
+
+/// Puts what is decided of a model, by runs within this budget.
+fn put_verified<L: Ledger>(
+    alloc: Global,
+    model: &ValidModel,
+    budget: &mut Budget,
+    text: &mut Text,
+    steps: &mut Steps<L>,
+) -> Result<(), NoMemory>
+    ensures written { OnOk result
+        ((written : List ℕ) × IsVerifyTextOf model.now written × (text.new ≡ text.old ++ written)) }
+    ensures steps { steps.new ≤ steps.old + task_steps model.now }
+{
+    let findings = tighten(alloc, model, steps)?;
+    let decisions = decide(alloc, model, &findings, budget)?;
+    let written = verify_text(alloc, model, &decisions)?;
+    text.put(written.as_slice())
 }
 
 /// Makes the outcome where the edit in line `number` isn't made: the text so far and, behind it,

@@ -47,7 +47,7 @@ order MODEL                 on every core the first priorities, in dictionary or
 headroom MODEL              how far the greatest execution times may grow by plain bounds\n\
 margin MODEL                how far they may grow, of all tasks and of each, and what breaks first\n\
 migrate MODEL               the model as a file of version 2 or 3\n\
-edit MODEL EDITS            a report for each line `report` of a list of edits\n\
+edit MODEL EDITS            what is found of a model as a list of edits changes it\n\
 apply MODEL EDITS           the model after a list of edits, as such a file\n\
 simulate MODEL TICKS SEED   the trace of a run, drawn by a seed\n\
 replay MODEL TRACE          what is measured in the run of a trace\n\

@@ -7,6 +7,7 @@ ghost use Rattle.cl_top.specs.Commands.{IsOutcomeOf, TakesStepsOf};
 use crate::Command;
 use cl_engine::{Outcome, status};
 use cl_model::ValidModel;
+use cl_near::Budget;
 use cl_tight::{TightFindings, is_verified, tighten};
 use cl_time::{NoMemory, Steps};
 use cl_verify::{decide, verify_text};
@@ -25,7 +26,7 @@ pub(super) fn verified<L: Ledger>(
     ensures steps { TakesStepsOf Command.Verify (Model model.now) steps.old steps.new }
 {
     let findings = tighten(alloc, model, steps)?;
-    let decisions = decide(alloc, model, &findings)?;
+    let decisions = decide(alloc, model, &findings, &mut Budget::new())?;
     Ok(Outcome {
         status: status_of(model, &findings),
         text: verify_text(alloc, model, &decisions)?,

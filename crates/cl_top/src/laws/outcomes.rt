@@ -3,7 +3,6 @@ ghost use Rattle.std.specs.Prelude.{◌≡◌, ◌↔◌, ◌<◌, ℕ, List, []
 ghost use Rattle.cl_model.specs.declared.model.SystemModel.{SystemModel};
 ghost use Rattle.cl_model.specs.Validity.{IsValid};
 ghost use Rattle.cl_edit.specs.declared.edit.Edit.{Edit};
-ghost use Rattle.cl_edit.specs.declared.edit.Edit.TheVariants.{Report};
 ghost use Rattle.cl_edit.specs.Ranges.{IsEditInRange};
 ghost use Rattle.cl_runs.specs.Run.{Run};
 ghost use Rattle.cl_top.specs.declared.command.Command.TheVariants.{Analyse, Replay};
@@ -20,7 +19,7 @@ ghost use Rattle.cl_top.specs.Migrated.{IsMigratedFile};
 ghost use Rattle.cl_engine.specs.declared.status.TheConstants.{DONE};
 ghost use Rattle.cl_top.specs.OfTrace.{IsOfRun};
 ghost use Rattle.cl_engine.specs.Outcome.{HasOutcome};
-ghost use Rattle.cl_top.specs.Reported.{IsAnalysisAfter};
+ghost use Rattle.cl_top.specs.Reported.{IsPieceOfCommand};
 ghost use Rattle.cl_top.specs.Simulated.{IsSimulatedFile};
 
 /// Words whose files were all fetched have an outcome.
@@ -61,28 +60,29 @@ pub fn migrated_files_are_analysed_alike()
         → HasOutcome commands (Some Analyse) (told_fetch contents) found ↔ HasOutcome commands (Some Analyse) (told_fetch migrated) found }
 {}
 
-/// For a valid model and a list of edits in range, the piece of text that each accepted report line
-/// has written is what `analyse` writes for every file, within the limit of a file, of the model
-/// after the edits above that line. The whole text of `edit` is the pieces of the accepted edits,
-/// joined, with nothing or one refusal behind them (`AreEditedTo`).
-pub fn reports_of_edits_are_analyses()
+/// For a valid model and a list of edits in range, the piece of text that each accepted edit has
+/// written is what a command writes for every file, within the limit of a file, of the model after
+/// the edits above: `analyse` for a line `report`, `tighten` for a line `tighten`, and for a line
+/// `verify` one of the texts that `verify` may write. Each other edit has written nothing. The whole
+/// text of `edit` is the pieces of the accepted edits, joined, with nothing or one refusal behind
+/// them (`AreEditedTo`).
+pub fn edits_write_what_commands_write()
     ensures { (model made : SystemModel) (edits : List Edit) (count : ℕ) (pieces : List (List ℕ))
         → IsValid model
         → All IsEditInRange edits → AreAccepted model edits count pieces made → (place : ℕ)
         → place < count
-        → slice_index_or edits place Report ≡ Report
-        → IsAnalysisAfter model edits place (slice_index_or pieces place []) }
+        → IsPieceOfCommand model edits place (slice_index_or pieces place []) }
 {}
 
-/// For a valid model and a list of edits in range, the piece of text that each accepted report line
-/// has written is a safe report of the model after the edits above that line, whether or not an
+/// For a valid model and a list of edits in range, the piece of text that each accepted edit has
+/// written is safe for the model after the edits above: a safe report for a line `report`, safe
+/// tight bounds for a line `tighten`, and decisions for a line `verify`. So it is whether or not an
 /// edit is refused behind it.
-pub fn reports_of_edits_are_safe()
+pub fn edits_write_what_is_safe()
     ensures { (model made : SystemModel) (edits : List Edit) (count : ℕ) (pieces : List (List ℕ))
         → IsValid model
         → All IsEditInRange edits → AreAccepted model edits count pieces made → (place : ℕ)
         → place < count
-        → slice_index_or edits place Report ≡ Report
         → IsSafePiece model edits place (slice_index_or pieces place []) }
 {}
 

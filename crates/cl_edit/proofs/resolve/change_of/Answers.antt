@@ -1,4 +1,7 @@
-use Rattle.cl_edit.proofs.ResolvedEdits.{period_answers, offset_answers, jitter_answers, distances_answers, burst_answers, swap_answers}
+use Rattle.cl_edit.specs.declared.edit.Edit.TheVariants.{Swap}
+use Rattle.cl_edit.specs.Changing.{change_of}
+use Rattle.cl_edit.specs.Edited.{edit_checks}
+use Rattle.cl_edit.proofs.ResolvedEdits.{period_answers, offset_answers, jitter_answers, distances_answers, burst_answers, edit_answers}
 use Rattle.cl_edit.proofs.resolve.change_of.Goals as goal
 
 pub returns-in-Period : goal.returns-in-Period
@@ -17,4 +20,5 @@ pub returns-in-Burst : goal.returns-in-Burst
 returns-in-Burst c = burst_answers c.args.model.now c.args.edit.now c.stimulus-in-Burst.result c.in-Burst.name c.in-Burst.period c.in-Burst.count c.in-Burst.distance c.in-Burst.is c.stimulus-in-Burst.ensures
 
 pub returns-in-Swap : goal.returns-in-Swap
-returns-in-Swap c = swap_answers c.args.model.now c.args.edit.now c.swap.result c.in-Swap.one c.in-Swap.other c.in-Swap.is c.swap.ensures
+unfolding edit_checks change_of
+returns-in-Swap c = edit_answers c.args.model.now c.args.edit.now (Swap c.in-Swap.one c.in-Swap.other) c.swap.result c.in-Swap.is c.swap.ensures

@@ -1,7 +1,9 @@
-use Rattle.std.proofs.Common.{ap, arith}
+use Rattle.std.proofs.Common.{map, ap, ◌∙◌, arith}
+use Rattle.cl_model.specs.declared.changes.TaskPriority.{TaskPriority}
 use Rattle.cl_model.specs.ByNumber.{core_of}
 use Rattle.cl_incr.proofs.Beside.{added_is, dropped_known, moves_after_adding, moves_after_dropping, adds_after_adding, drops_after_dropping}
-use Rattle.cl_incr.proofs.ChangeTouches.{range_touches, whole_touches, deadline_touches, access_touches, move_touches, swap_made, same_tasks, kinds_touch, nothing_touches}
+use Rattle.cl_incr.proofs.ChangeTouches.{range_touches, whole_touches, deadline_touches, access_touches, move_touches, priorities_made, same_tasks, kinds_touch, nothing_touches}
+use Rattle.cl_incr.proofs.OtherRequirements.{reaches_requirements}
 use Rattle.cl_incr.proofs.reach.reach_of.Goals as goal
 
 -- ---- runnables and tasks
@@ -31,10 +33,11 @@ returns-in_ok-one_task-in-Move c =
     move_touches c.args.old.now c.args.new.now c.args.change.now c.requires.of_model c.requires.made c.in-Move.task c.in-Move.core c.in-Move.priority c.in-Move.is
     c.in_ok-one_task-in-Move.field-0 c.in_ok-one_task-in-Move.ensures
 
-pub returns-in_ok-two_tasks-in-Swap : goal.returns-in_ok-two_tasks-in-Swap
-returns-in_ok-two_tasks-in-Swap c =
-    swap_made c.args.old.now c.args.new.now c.args.change.now c.requires.of_model c.requires.made c.in-Swap.one c.in-Swap.other c.in-Swap.is
-    c.in_ok-two_tasks-in-Swap.field-0 c.in_ok-two_tasks-in-Swap.ensures
+pub returns-in_ok-tasks_set-in-Priorities : goal.returns-in_ok-tasks_set-in-Priorities
+returns-in_ok-tasks_set-in-Priorities c =
+    priorities_made c.args.old.now c.args.new.now c.args.change.now c.requires.of_model c.requires.made c.in-Priorities.set c.in-Priorities.is
+    c.in_ok-tasks_set-in-Priorities.field-0
+    (c.in_ok-tasks_set-in-Priorities.ensures ∙ ap (map (λ (it : TaskPriority). it.task)) c.as_slice.ensures)
 
 -- ---- stimuli
 
@@ -80,6 +83,13 @@ pub returns-in-DropChain : goal.returns-in-DropChain
 returns-in-DropChain c =
     drops_after_dropping c.args.old.now c.args.new.now c.args.change.now c.requires.of_model c.requires.made
     c.plain-old.ensures.valid c.in-DropChain.chain c.in-DropChain.is
+
+-- ---- requirements
+
+pub returns-in-Requirement : goal.returns-in-Requirement
+returns-in-Requirement c = reaches_requirements c.args.old.now c.args.new.now c.args.change.now c.requires.made c.in-Requirement.is
+
+-- ---- no change
 
 pub returns-in-Nothing : goal.returns-in-Nothing
 returns-in-Nothing c =

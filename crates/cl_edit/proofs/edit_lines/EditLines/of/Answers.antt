@@ -1,35 +1,57 @@
-use Rattle.std.proofs.Common.{◌≡◌, ◌≢◌, ◌+◌, [], length, ap, ◌∙◌, subst, arith}
-use Rattle.std.specs.Prelude.{cond}
-use Rattle.std.proofs.lemmas.Bool.Decides.{nat_tests}
-use Rattle.cl_edit.specs.Reading.{is_report, IsBadEditLine}
-use Rattle.cl_edit.proofs.Listings.{one_or_none, line_shortens}
-use Rattle.cl_edit.proofs.ReadLines.{none_read, one_read, stuck_read}
+use Rattle.std.proofs.Common.{◌≡◌, [], ap}
+use Rattle.std.specs.Prelude.{Err}
+use Rattle.cl_edit.specs.Inner.Left.{said_left}
+use Rattle.cl_edit.proofs.ReadLines.{one_read, stuck_read, full_read, all_read, all_left, none_next}
+use Rattle.cl_edit.proofs.Unreads.{kept_fault}
 use Rattle.cl_edit.proofs.edit_lines.EditLines.of.Goals as goal
 
-pub loop-left-init : goal.loop-left-init
-loop-left-init c =
-    record { whole = c.in-Some.ensures.some; read = none_read c.args.text.now c.in-Some.lines.now c.in-Some.ensures.some }
+pub returns-in_err-listed-clause-bad_line : goal.returns-in_err-listed-clause-bad_line
+returns-in_err-listed-clause-bad_line c = λ line is.
+    let fault = kept_fault c.from_residual-in_err-listed.result c.in_err-listed.field-0.0 line c.from_residual-in_err-listed.ensures is in
+    stuck_read c.args.text.now c.in_ok-left.left c.loop-listed.lines c.loop-listed.counted c.loop-listed.invariant.read line (c.in_err-listed.ensures.bad_line line (ap Err fault))
 
-pub returns-in-Err-Bad-clause-bad_line : goal.returns-in-Err-Bad-clause-bad_line
-returns-in-Err-Bad-clause-bad_line c = λ line is.
-    let left = c.loop-left.left.now in
-    let some : left ≢ [] = λ none. let zero : length left ≡ 0 = ap length none in absurd (grind (arith, nat_tests, zero)) in
-    let number : c.loop-left.edits + 2 ≡ line = cc in
-    subst (IsBadEditLine c.args.text.now) number
-    (stuck_read c.args.text.now left c.loop-left.edits c.loop-left.reports c.loop-left.invariant.read some (c.in-Err-Bad.ensures.none (cc)))
+pub returns-in_err-counted-clause-bad_line : goal.returns-in_err-counted-clause-bad_line
+returns-in_err-counted-clause-bad_line c = λ line is.
+    let fault = kept_fault c.from_residual-in_err-counted.result c.in_err-counted.field-0.0 line c.from_residual-in_err-counted.ensures is in
+    full_read c.args.text.now c.in_ok-left.left c.loop-listed.lines c.loop-listed.counted c.loop-listed.invariant.read c.next.new.self
+    c.in_ok-listed.field-0 c.in-Some.listed c.in-Some.is c.in_ok-listed.ensures.next c.in_err-counted.field-0.0 line c.in_err-counted.ensures fault
 
-pub loop-left-smaller : goal.loop-left-smaller
-loop-left-smaller c =
-    let next = c.in-Ok.ensures.some in
-    line_shortens c.loop-left.left.now c.in-Ok.read.1.now next.edit next.stands
+pub loop-listed-preserved-in_ok-counted : goal.loop-listed-preserved-in_ok-counted
+loop-listed-preserved-in_ok-counted c = record {
+  read = one_read c.args.text.now c.in_ok-left.left c.loop-listed.lines c.loop-listed.counted c.loop-listed.invariant.read c.next.new.self
+      c.in_ok-listed.field-0 c.in-Some.listed c.in-Some.is c.in_ok-listed.ensures.next c.in_ok-counted.counted c.in_ok-listed.ensures.version c.in_ok-counted.ensures;
+  numbers = c.in_ok-listed.ensures.numbers;
+}
 
-pub loop-left-preserved : goal.loop-left-preserved
-loop-left-preserved c =
-    let next = c.in-Ok.ensures.some in
-    let one : c.from-reports.result ≡ cond (is_report next.edit) 1 0
-    = c.from-reports.ensures ∙ one_or_none c.in-Ok.read.0 (is_report next.edit) next.is in
-    record {
-      whole = c.loop-left.invariant.whole;
-      read = one_read c.args.text.now c.loop-left.left.now c.loop-left.edits c.loop-left.reports c.loop-left.invariant.read
-          next.edit c.in-Ok.read.1.now next.may next.stands c.from-reports.result one;
-    }
+pub loop-listed-preserved-in_ok-counted-2 : goal.loop-listed-preserved-in_ok-counted-2
+loop-listed-preserved-in_ok-counted-2 c = record {
+  read = one_read c.args.text.now c.in_ok-left.left c.loop-listed.lines c.loop-listed.counted c.loop-listed.invariant.read c.next.new.self
+      c.in_ok-listed.field-0 c.in-Some.listed c.in-Some.is c.in_ok-listed.ensures.next c.in_ok-counted.counted c.in_ok-listed.ensures.version c.in_ok-counted.ensures;
+  numbers = c.in_ok-listed.ensures.numbers;
+}
+
+pub loop-listed-preserved-in_ok-counted-3 : goal.loop-listed-preserved-in_ok-counted-3
+loop-listed-preserved-in_ok-counted-3 c = record {
+  read = one_read c.args.text.now c.in_ok-left.left c.loop-listed.lines c.loop-listed.counted c.loop-listed.invariant.read c.next.new.self
+      c.in_ok-listed.field-0 c.in-Some.listed c.in-Some.is c.in_ok-listed.ensures.next c.in_ok-counted.counted c.in_ok-listed.ensures.version c.in_ok-counted.ensures;
+  numbers = c.in_ok-listed.ensures.numbers;
+}
+
+pub loop-listed-preserved : goal.loop-listed-preserved
+loop-listed-preserved c = record {
+  read = one_read c.args.text.now c.in_ok-left.left c.loop-listed.lines c.loop-listed.counted c.loop-listed.invariant.read c.next.new.self
+      c.in_ok-listed.field-0 c.in-Some.listed c.in-Some.is c.in_ok-listed.ensures.next c.in_ok-counted.counted c.in_ok-listed.ensures.version c.in_ok-counted.ensures;
+  numbers = c.in_ok-listed.ensures.numbers;
+}
+
+pub invariant_of-result : goal.invariant_of-result
+invariant_of-result c =
+    let lines = c.loop-listed.lines in
+    let none : said_left lines ≡ [] = none_next lines.version c.in_ok-listed.field-0 (said_left lines) (said_left c.next.new.self) c.in_default.is c.in_ok-listed.ensures.next in
+    all_left c.args.text.now c.in_ok-left.left lines c.loop-listed.counted c.loop-listed.invariant.read none
+
+pub returns-clause-lines : goal.returns-clause-lines
+returns-clause-lines c =
+    let lines = c.loop-listed.lines in
+    let none : said_left lines ≡ [] = none_next lines.version c.in_ok-listed.field-0 (said_left lines) (said_left c.next.new.self) c.in_default.is c.in_ok-listed.ensures.next in
+    all_read c.args.text.now c.in_ok-left.left lines c.loop-listed.counted c.loop-listed.invariant.read none

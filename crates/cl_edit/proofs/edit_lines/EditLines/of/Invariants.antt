@@ -1,14 +1,14 @@
-use Rattle.std.proofs.Common.{◌≡◌, ◌++◌, length}
-use Rattle.cl_edit.specs.Lines.{title_line}
+use Rattle.std.proofs.Common.{length}
+use Rattle.cl_edit.specs.Inner.Left.{said_left, HasNumbers}
 use Rattle.cl_edit.proofs.ReadLines.{AreRead}
 use Rattle.cl_edit.proofs.edit_lines.EditLines.of.Given as goal
 
--- the text is the first line, the lines of the edits so far, and what is left
-abbrev pub invariant-loop-left : goal.invariant-loop-left
-invariant-loop-left l = record {
-  whole : l.text ≡ title_line ++ l.lines;
-  read : AreRead l.text l.left l.edits l.reports;
+-- the lines behind the title say the edits so far, and what is left
+abbrev pub invariant-loop-listed : goal.invariant-loop-listed
+invariant-loop-listed l = record {
+  read : AreRead l.text l.left l.lines l.counted;
+  numbers : HasNumbers l.lines;
 }
 
-abbrev pub decreases-loop-left : goal.decreases-loop-left
-decreases-loop-left l = length l.left
+abbrev pub decreases-loop-listed : goal.decreases-loop-listed
+decreases-loop-listed l = length (said_left l.lines)

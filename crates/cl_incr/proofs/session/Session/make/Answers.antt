@@ -18,3 +18,7 @@ returns-in_err-touched-clause-steps g c =
 pub returns-in-Chain-clause-steps : goal.returns-in-Chain-clause-steps
 returns-in-Chain-clause-steps g c =
     asks_nothing c.args.self.now.model (with_change c.args.self.now.model c.args.change.now) c.args.steps.now c.args.steps.now (omega arith)
+
+pub returns-in-Requirements-clause-steps : goal.returns-in-Requirements-clause-steps
+returns-in-Requirements-clause-steps g c =
+    asks_nothing c.args.self.now.model (with_change c.args.self.now.model c.args.change.now) c.args.steps.now c.args.steps.now (omega arith)

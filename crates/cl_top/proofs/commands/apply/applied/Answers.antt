@@ -5,18 +5,21 @@ use Rattle.cl_model.specs.declared.refusal.Code.TheVariants.{E1}
 use Rattle.cl_model.specs.Place.{top}
 use Rattle.cl_top.specs.Commands.{meaning_of}
 use Rattle.cl_top.specs.Commands.Edit.{edits_refused}
-use Rattle.cl_top.proofs.Applied.{applied_of}
+use Rattle.cl_top.proofs.Applied.{from_each}
+use Rattle.cl_top.proofs.EditsAlike.{listed_in_range}
 use Rattle.cl_top.proofs.commands.apply.applied.Goals as goal
+
+-- what is read of a list of edits is in range
+pub apply_lines-requires : goal.apply_lines-requires
+apply_lines-requires c = listed_in_range c.args.text.now c.in-Ok.lines c.in-Ok.ensures.lines
 
 pub returns-in-Ok : goal.returns-in-Ok
 unfolding meaning_of
-returns-in-Ok c = IfOk-weaker c.apply_lines.result _ _ (λ outcome is.
-    let listed = c.in-Ok.ensures.lines in
-    inl (record {
-      edits = listed.0;
-      are = listed.1;
-      applied_to = applied_of c.args.model listed.0 outcome (is listed.0 listed.1.listed.lines listed.2);
-    })) c.apply_lines.ensures
+returns-in-Ok c = IfOk-weaker c.apply_lines.result _ _ (λ outcome is. inl (record {
+  listed = c.in-Ok.lines;
+  are = c.in-Ok.ensures.lines;
+  applied_to = from_each c.args.model c.in-Ok.lines outcome is;
+})) c.apply_lines.ensures
 
 pub returns-in-Err-BadLine : goal.returns-in-Err-BadLine
 unfolding meaning_of

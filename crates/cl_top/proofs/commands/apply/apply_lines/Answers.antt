@@ -1,43 +1,50 @@
-use Rattle.std.proofs.Common.{◌+◌, refl, sym, ap, ◌∙◌, subst}
+use Rattle.std.proofs.Common.{sym, ap, ◌∙◌, subst}
 use Rattle.std.proofs.lemmas.Result.{IfOk-weaker}
-use Rattle.std.specs.Prelude.{Err}
-use Rattle.cl_model.specs.declared.model.SystemModel.{SystemModel}
-use Rattle.cl_write.specs.Texts.{IsTextOf}
-use Rattle.cl_top.specs.declared.commands.apply.Next.{Next}
+use Rattle.std.specs.Prelude.{◌≡◌, Option, Err}
+use Rattle.cl_model.specs.declared.model_fault.ModelFault.{ModelFault}
+use Rattle.cl_model.specs.declared.refusal.Refusal.{Refusal}
+use Rattle.cl_model.specs.Answers.{MatchFault}
+use Rattle.cl_edit.specs.Edited.{edited}
+use Rattle.cl_edit.specs.declared.edit_lines.ListedEdit.{ListedEdit}
+use Rattle.cl_edit.specs.Listed.{GivesNext}
 use Rattle.cl_engine.specs.declared.outcome.Outcome.{Outcome}
-use Rattle.cl_engine.specs.Done.{IsDone}
 use Rattle.cl_top.specs.Commands.{meaning_of}
 use Rattle.cl_top.specs.Commands.Edit.{edits_refused}
-use Rattle.cl_top.specs.Inner.Applying.{MakesNext, LinesApplyTo}
-use Rattle.cl_top.proofs.LinesLeft.{all_apply, next_shorter, one_applied, one_refused, none_left}
+use Rattle.cl_top.specs.Inner.Applying.{ApplyTo}
+use Rattle.cl_top.proofs.LinesApplied.{all_left, next_in_range, next_applied, next_refused, none_left}
+use Rattle.cl_top.proofs.LinesMade.{next_fewer}
 use Rattle.cl_top.proofs.commands.apply.apply_lines.Goals as goal
 
-pub loop-changed-init : goal.loop-changed-init
-loop-changed-init c = all_apply c.args.model c.args.lines c.requires
+pub loop-model-init : goal.loop-model-init
+loop-model-init c = all_left c.args.model c.args.lines c.requires
 
-pub returns-in-Ok-Last : goal.returns-in-Ok-Last
-unfolding meaning_of
-returns-in-Ok-Last c = IfOk-weaker c.migrated.result _ _ (λ outcome is.
-    let next = subst (λ (made : Next). MakesNext c.loop-changed.model c.loop-changed.lines c.apply_next.new.lines made) c.in-Ok-Last.field-0-is c.in-Ok-Last.ensures.made in
-    none_left c.args.model c.args.lines c.loop-changed.number c.loop-changed.model c.loop-changed.lines c.loop-changed.invariant
-    c.apply_next.new.lines next.0
-    outcome (subst (λ (m : SystemModel). IsDone (IsTextOf m) outcome) next.1 is)) c.migrated.ensures
+-- an edit that is read is in range
+pub apply_listed-requires : goal.apply_listed-requires
+apply_listed-requires c =
+    next_in_range c.args.model c.args.lines c.loop-model.model c.loop-model.lines c.loop-model.invariant
+    c.in-Some.listed c.next.new.self (subst (λ (next : Option ListedEdit). GivesNext next c.loop-model.lines c.next.new.self) c.in-Some.is c.in_ok-listed.ensures.next)
 
 pub returns-in-Err-Refused : goal.returns-in-Err-Refused
 returns-in-Err-Refused c = IfOk-weaker c.refused_alone.result _ _ (λ outcome is.
-    let next = c.in-Err-Refused.ensures.refused c.in-Err-Refused.refusal (ap Err c.in-Err-Refused.field-0-is) in
-    subst (λ (o : Outcome). LinesApplyTo 2 c.args.model c.args.lines o)
-    (sym (is ∙ ap (λ refusal. edits_refused c.loop-changed.number refusal) c.in-Err-Refused.refusal-is))
-    (one_refused c.args.model c.args.lines c.loop-changed.number c.loop-changed.model c.loop-changed.lines c.loop-changed.invariant
-    next.0 c.apply_next.new.lines next.1 c.in-Err-Refused.refusal next.2)) c.refused_alone.ensures
+    subst (λ (o : Outcome). ApplyTo c.args.model c.args.lines o)
+    (sym (is ∙ ap (λ (refusal : Refusal). edits_refused c.in-Some.listed.line refusal) c.in-Err-Refused.refusal-is))
+    (next_refused c.args.model c.args.lines c.loop-model.model c.loop-model.lines c.loop-model.invariant
+    c.in-Some.listed c.next.new.self (subst (λ (next : Option ListedEdit). GivesNext next c.loop-model.lines c.next.new.self) c.in-Some.is c.in_ok-listed.ensures.next)
+    c.in-Err-Refused.refusal (subst (λ (fault : ModelFault). MatchFault fault (λ refusal. edited c.loop-model.model c.in-Some.listed.edit ≡ Err refusal)) c.in-Err-Refused.field-0-is c.in-Err-Refused.ensures))) c.refused_alone.ensures
 
-pub loop-changed-smaller : goal.loop-changed-smaller
-loop-changed-smaller c =
-    let next = subst (λ (made : Next). MakesNext c.loop-changed.model c.loop-changed.lines c.apply_next.new.lines made) c.in-Ok-Changed.field-0-is c.in-Ok-Changed.ensures.made in
-    next_shorter next.0 c.loop-changed.lines c.apply_next.new.lines c.loop-changed.invariant.lists next.1
+pub returns : goal.returns
+unfolding meaning_of
+returns c = IfOk-weaker c.migrated.result _ _ (λ outcome is.
+    none_left c.args.model c.args.lines c.loop-model.model c.loop-model.lines c.loop-model.invariant c.next.new.self
+    (subst (λ (next : Option ListedEdit). GivesNext next c.loop-model.lines c.next.new.self) c.in_default.is c.in_ok-listed.ensures.next) outcome is) c.migrated.ensures
 
-pub loop-changed-preserved : goal.loop-changed-preserved
-loop-changed-preserved c =
-    let next = subst (λ (made : Next). MakesNext c.loop-changed.model c.loop-changed.lines c.apply_next.new.lines made) c.in-Ok-Changed.field-0-is c.in-Ok-Changed.ensures.made in
-    one_applied c.args.model c.args.lines c.loop-changed.number c.loop-changed.model c.loop-changed.lines c.loop-changed.invariant
-    next.0 c.apply_next.new.lines next.1 c.in-Ok-Changed.changed next.2 (c.loop-changed.number + 1) refl
+pub loop-model-smaller : goal.loop-model-smaller
+loop-model-smaller c =
+    next_fewer c.in-Some.listed c.loop-model.lines c.next.new.self
+    (subst (λ (next : Option ListedEdit). GivesNext next c.loop-model.lines c.next.new.self) c.in-Some.is c.in_ok-listed.ensures.next)
+
+pub loop-model-preserved : goal.loop-model-preserved
+loop-model-preserved c =
+    next_applied c.args.model c.args.lines c.loop-model.model c.loop-model.lines c.loop-model.invariant
+    c.in-Some.listed c.next.new.self (subst (λ (next : Option ListedEdit). GivesNext next c.loop-model.lines c.next.new.self) c.in-Some.is c.in_ok-listed.ensures.next)
+    c.in-Ok.changed c.in-Ok.ensures

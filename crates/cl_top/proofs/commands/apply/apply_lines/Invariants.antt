@@ -1,10 +1,10 @@
 use Rattle.std.proofs.Common.{length}
-use Rattle.cl_top.proofs.LinesLeft.{MoreApply}
+use Rattle.cl_top.proofs.LinesApplied.{AreLeftToApply}
 use Rattle.cl_top.proofs.commands.apply.apply_lines.Given as goal
 
 -- what the edits that are left come to is what all of them come to
-abbrev pub invariant-loop-changed : goal.invariant-loop-changed
-invariant-loop-changed l = MoreApply l.fn.model l.fn.lines l.number l.model l.lines
+abbrev pub invariant-loop-model : goal.invariant-loop-model
+invariant-loop-model l = AreLeftToApply l.fn.model l.fn.lines l.model l.lines
 
-abbrev pub decreases-loop-changed : goal.decreases-loop-changed
-decreases-loop-changed l = length l.lines
+abbrev pub decreases-loop-model : goal.decreases-loop-model
+decreases-loop-model l = length l.lines

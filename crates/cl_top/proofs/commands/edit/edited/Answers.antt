@@ -5,21 +5,23 @@ use Rattle.cl_model.specs.declared.refusal.Code.TheVariants.{E1}
 use Rattle.cl_model.specs.Place.{top}
 use Rattle.cl_top.specs.Commands.{meaning_of}
 use Rattle.cl_top.specs.Commands.Edit.{edits_refused}
+use Rattle.cl_top.proofs.EditsAlike.{listed_in_range}
 use Rattle.cl_top.proofs.EditSteps.{few_of_text, few_of_none}
 use Rattle.cl_top.proofs.commands.edit.edited.Goals as goal
 
+-- what is read of a list of edits is in range
+pub write_edited-requires : goal.write_edited-requires
+write_edited-requires g c = listed_in_range c.args.text.now c.in-Ok.lines c.in-Ok.ensures.lines
+
 pub returns-in-Ok-clause-outcome : goal.returns-in-Ok-clause-outcome
 unfolding meaning_of
-returns-in-Ok-clause-outcome g c = IfOk-weaker c.report_edited.result _ _ (λ outcome is.
-    let listed = c.in-Ok.ensures.lines in
-    inl (record { edits = listed.0; are = listed.1; edited_to = is listed.0 listed.1.listed.lines listed.2 })) c.report_edited.ensures.outcome
+returns-in-Ok-clause-outcome g c = IfOk-weaker c.write_edited.result _ _
+    (λ outcome is. inl (record { listed = c.in-Ok.lines; are = c.in-Ok.ensures.lines; edited_to = is })) c.write_edited.ensures.outcome
 
 pub returns-in-Ok-clause-steps : goal.returns-in-Ok-clause-steps
 unfolding meaning_of
 returns-in-Ok-clause-steps g c =
-    let listed = c.in-Ok.ensures.lines in
-    few_of_text c.args.model c.args.text.now listed.0 c.args.steps.now c.report_edited.new.steps listed.1
-    (c.report_edited.ensures.steps listed.0 listed.1.listed.lines listed.2)
+    few_of_text c.args.model c.args.text.now c.in-Ok.lines c.args.steps.now c.write_edited.new.steps c.in-Ok.ensures.lines c.write_edited.ensures.steps
 
 pub returns-in-Err-BadLine-clause-outcome : goal.returns-in-Err-BadLine-clause-outcome
 unfolding meaning_of
