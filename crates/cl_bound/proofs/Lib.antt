@@ -18,3 +18,4 @@ pub mod BoundSums
 pub mod FrontBounds
 pub mod NoGreater
 pub mod DelayBounds
+pub mod SameEnds

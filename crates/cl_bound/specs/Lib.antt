@@ -1,5 +1,6 @@
 pub mod Answers
 pub mod Hops
+pub mod Ends
 pub mod Bounds
 pub mod NoGreater
 pub mod SettledChains

@@ -1,5 +1,5 @@
 //! Whether tasks of a valid model may get other priorities, checked before any change.
-ghost use Rattle.std.specs.Prelude.{◌≡◌, ◌++◌, length, map, IfOk, All};
+ghost use Rattle.std.specs.Prelude.{◌≡◌, ◌++◌, IfOk, All};
 ghost use Rattle.cl_model.specs.Answers.{Passes};
 ghost use Rattle.cl_model.specs.Changes.{with_priorities};
 ghost use Rattle.cl_model.specs.Validity.{IsValid, refusals_of};

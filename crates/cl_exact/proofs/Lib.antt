@@ -28,7 +28,7 @@ pub mod RunMultiples
 pub mod RunShifts
 pub mod RunExact
 pub mod SomeExact
-pub mod SameArrivals
+pub mod SameRhythms
 pub mod SteadyJobs
 pub mod FrontParts
 pub mod FrontReactions

@@ -3,7 +3,7 @@ pub mod Hyperperiod
 pub mod ExactLengths
 pub mod ExactReactions
 pub mod Ties
-pub mod SameArrivals
+pub mod Rhythms
 pub mod Turns
 pub mod SteadyJobs
 pub mod RunPromises

@@ -3,9 +3,10 @@
 use Rattle.std.proofs.Common.{◌≡◌, ◌≢◌, ℕ, zero, suc, ◌+◌, ◌-◌, ◌<◌, ◌≤◌, inl, inr, Bool, false, cond, ◌==◌, List, [], ◌∷◌, ◌++◌, length, get_or, append-nil, refl, sym, ap, ◌∙◌, subst, arith}
 use Rattle.std.specs.Prelude.{map, filter, remove, All}
 use Rattle.std.proofs.lemmas.Bool.{cases_lt, lt-ltb, le-ltb, ne_eqb}
+use Rattle.std.proofs.lemmas.Bool.Decides.{eqb_tells}
 use Rattle.std.proofs.lemmas.List.{map-append, map-id, get_or_append_left, get_or_push, length_push}
-use Rattle.std.proofs.lemmas.List.Edits.{length-remove, get_or-remove_below, get_or-remove_above}
-use Rattle.std.proofs.lemmas.List.Elements.{filter-append}
+use Rattle.std.proofs.lemmas.List.Edits.{length-remove}
+use Rattle.std.proofs.lemmas.List.Elements.{All-nil, filter-append}
 use Rattle.std.proofs.lemmas.Simd.{map-map}
 use Rattle.cl_model.specs.declared.model.SystemModel.{SystemModel}
 use Rattle.cl_model.specs.declared.chain.ChainDef.{ChainDef}
@@ -29,31 +30,17 @@ use Rattle.cl_edit.specs.declared.change.Change.TheVariants.{AddTask, DropTask, 
 use Rattle.cl_edit.specs.Changing.{with_change, IsChangeOf}
 use Rattle.cl_incr.specs.declared.chains.ChainFindings.{ChainFindings}
 use Rattle.cl_incr.specs.Inner.Kept.{AreFoundOf}
-use Rattle.cl_incr.specs.Inner.Reach.{number_before, moved_count, group_before, HadQuestion, StayOffCore, MovesTasks, ChainsStay, AddsChain, DropsChain}
-use Rattle.cl_incr.specs.Touched.{StandsAsBefore}
+use Rattle.cl_incr.specs.declared.shift.Shift.TheVariants.{Stays, At}
+use Rattle.cl_incr.specs.Inner.Reach.{HadTiming, StandsAsBefore, HadQuestion, KeepQuestionsOff, MovesTasks, ChainsStay, AddsChain, DropsChain}
+use Rattle.cl_incr.specs.Inner.Shift.{number_before, moved_count, group_before}
 use Rattle.cl_incr.proofs.SameCores.{on_core, same_question}
 use Rattle.cl_incr.proofs.Mended.{core_is}
 use Rattle.cl_incr.proofs.NumbersBefore.{before_below, before_above, before_without}
-use Rattle.cl_incr.proofs.SameChains.{chain_answer_same, exact_answer_same}
+use Rattle.cl_incr.proofs.ShiftedLists.{without_at, without_within}
+use Rattle.cl_incr.proofs.Touching.{one_known}
+use Rattle.cl_incr.proofs.SameChains.{stays_found}
 
 -- ---- lists with one item more or less
-
-module _ {X : Type 0} (xs : List X) (gone : ℕ) (d : X) (in_list : gone < length xs) where
-  pub without_at : (k : ℕ) → get_or (remove xs gone) k d ≡ get_or xs (number_before gone k) d
-  without_at k = elim (cases_lt k gone) [
-    | inl below ↦ get_or-remove_below xs gone d k below in_list ∙ ap (λ n. get_or xs n d) (sym (before_below gone k below))
-    | inr above ↦
-        let from : gone ≤ k = omega (arith, above) in
-        get_or-remove_above xs gone d k from in_list ∙ ap (λ n. get_or xs n d) (sym (before_above gone k from))
-  ]
-
-  pub without_within : (k : ℕ) → k < length (remove xs gone) → number_before gone k < length xs
-  without_within k within = elim (cases_lt k gone) [
-    | inl below ↦ omega (arith, before_below gone k below, below, in_list)
-    | inr above ↦
-        let from : gone ≤ k = omega (arith, above) in
-        omega (arith, before_above gone k from, within, length-remove xs gone in_list)
-  ]
 
 filter_without : {X : Type 0} (p : X → Bool) (d : X) (xs : List X) (gone : ℕ) → gone < length xs → p (get_or xs gone d) ≡ false
     → filter p (remove xs gone) ≡ filter p xs
@@ -75,16 +62,26 @@ map_without f (x ∷ xs) (suc gone) within = ap (λ l. f x ∷ l) (map_without f
 module _ (old new : SystemModel) (core gone : ℕ)
     (others : (other : ℕ) → core ≢ other → filter (on_core other) (system_of old).tasks ≡ filter (on_core other) (system_of new).tasks) where
   had_question : (task : ℕ) → task < length new.tasks → core_of new task ≢ core → number_before gone task < length old.tasks
-      → timing_at (system_of old) (number_before gone task) ≡ timing_at (system_of new) task → HadQuestion gone old new task
+      → HadTiming (At gone) old new task → HadQuestion (At gone) old new task
   had_question task is_task off within timing =
       let before : Timing = timing_at (system_of old) (number_before gone task) in
       let on : before.core ≡ core_of new task = ap (λ (t : Timing). t.core) timing ∙ core_is new task is_task in
       let apart : core ≢ before.core = λ is. off (sym on ∙ sym is) in
       record {
         within = within;
-        timing = timing;
         same = same_question (system_of old) (system_of new) before (others before.core apart) ∙ ap (question_of (system_of new)) timing;
       }
+
+  -- the tasks off the core had their questions where they were there and had their timings
+  questions_off : ((task : ℕ) → task < length new.tasks → core_of new task ≢ core → number_before gone task < length old.tasks)
+      → ((task : ℕ) → task < length new.tasks → number_before gone task < length old.tasks → HadTiming (At gone) old new task)
+      → KeepQuestionsOff (core ∷ []) (At gone) old new
+  questions_off were timings task is_task = elim (eqb_tells (core_of new task) core) [
+    | inl same ↦ inr (0, omega arith, sym same.1)
+    | inr other ↦
+        let was = were task is_task other.1 in
+        inl (had_question task is_task other.1 was (timings task is_task was))
+  ]
 
 -- ---- groups
 
@@ -98,17 +95,17 @@ with_number group number is = ap (λ (n : ℕ). record group { task = n }) is
 
 -- the groups of tasks below a number were the same
 before_of_known : (model : SystemModel) (gone : ℕ) → length model.tasks ≤ gone → (groups : List Group) → All (IsGroupOf model) groups
-    → map (group_before gone) groups ≡ groups
+    → map (group_before (At gone)) groups ≡ groups
 before_of_known model gone past groups are =
-    map_of_same (group_before gone) groups
+    map_of_same (group_before (At gone)) groups
     (λ k d within. with_number (get_or groups k d) _ (before_below gone _ (omega (arith, past, (are k d within).known))))
 
 -- the groups of other tasks have the groups back that they had
 before_of_others : (gone : ℕ) (groups : List Group) → All (λ (group : Group). group.task ≢ gone) groups
-    → map (group_before gone) (map (group_without gone) groups) ≡ groups
+    → map (group_before (At gone)) (map (group_without gone) groups) ≡ groups
 before_of_others gone groups others =
-    map-map (group_before gone) (group_without gone) groups
-    ∙ map_of_same (λ (group : Group). group_before gone (group_without gone group)) groups
+    map-map (group_before (At gone)) (group_without gone) groups
+    ∙ map_of_same (λ (group : Group). group_before (At gone) (group_without gone group)) groups
     (λ k d within. with_number (get_or groups k d) _ (before_without gone _ (others k d within)))
 
 -- ---- a task is added
@@ -134,18 +131,25 @@ module _ (old : SystemModel) (added : TaskDef) where
       (ap (λ (core : ℕ). core == other) added_core ∙ ne_eqb (core_of longer (length old.tasks)) other apart))
       ∙ ap (filter (on_core other)) (sym tasks_longer)
 
-  stay_where_added : StayOffCore (core_of longer (length old.tasks)) (length old.tasks) old longer
-  stay_where_added task is_task off = elim (cases_lt task (length old.tasks)) [
-    | inl below ↦
-        let same : number_before (length old.tasks) task ≡ task = before_below (length old.tasks) task below in
-        had_question old longer (core_of longer (length old.tasks)) (length old.tasks) others_longer task is_task off
-        (omega (arith, same, below))
-        (ap (timing_at (system_of old)) same
-        ∙ sym (get_or_append_left (system_of old).tasks (timing_of old added ∷ []) no_timing task (omega (arith, below, count_is old)))
-        ∙ ap (λ (tasks : List Timing). get_or tasks task no_timing) (sym tasks_longer))
+  -- the tasks off the core of the one that is added were there
+  were_before : (task : ℕ) → task < length longer.tasks → core_of longer task ≢ core_of longer (length old.tasks)
+      → number_before (length old.tasks) task < length old.tasks
+  were_before task is_task off = elim (cases_lt task (length old.tasks)) [
+    | inl below ↦ omega (arith, before_below (length old.tasks) task below, below)
     | inr not ↦
         let last : task ≡ length old.tasks = omega (arith, not, is_task, length_push old.tasks added) in
         absurd (off (ap (core_of longer) last))
+  ]
+
+  -- each task that was there has its timing
+  timings_longer : (task : ℕ) → task < length longer.tasks → number_before (length old.tasks) task < length old.tasks
+      → HadTiming (At (length old.tasks)) old longer task
+  timings_longer task is_task was = elim (cases_lt task (length old.tasks)) [
+    | inl below ↦
+        ap (timing_at (system_of old)) (before_below (length old.tasks) task below)
+        ∙ sym (get_or_append_left (system_of old).tasks (timing_of old added ∷ []) no_timing task (omega (arith, below, count_is old)))
+        ∙ ap (λ (tasks : List Timing). get_or tasks task no_timing) (sym tasks_longer)
+    | inr not ↦ absurd (omega (arith, was, not, before_above (length old.tasks) task (omega (arith, not))))
   ]
 
   last_of_more : length longer.tasks ≡ moved_count (length old.tasks) (length old.tasks)
@@ -157,13 +161,17 @@ module _ (old : SystemModel) (added : TaskDef) where
   moves_where_added : IsValid old → IsValid longer → core_of longer (length old.tasks) < length longer.cores
       → MovesTasks (core_of longer (length old.tasks)) (length old.tasks) old longer
   moves_where_added valid still_valid core_known = record {
-    core_known = core_known;
-    count = last_of_more;
-    off_core = stay_where_added;
-    groups = λ chain within.
-        sym (before_of_known old (length old.tasks) (omega arith) (groups_at old chain) (groups_at_are old valid chain))
-        ∙ ap (map (group_before (length old.tasks))) (sym (groups_kept old added still_valid valid chain within));
-    keeps = record { chains = refl; requirements = refl };
+    numbers = record {
+      count = last_of_more;
+      groups = λ chain within.
+          sym (before_of_known old (length old.tasks) (omega arith) (groups_at old chain) (groups_at_are old valid chain))
+          ∙ ap (map (group_before (At (length old.tasks)))) (sym (groups_kept old added still_valid valid chain within));
+      keeps = record { chains = refl; requirements = refl };
+    };
+    touched_known = All-nil (λ task. task < length longer.tasks);
+    timings = λ task is_task was. inl (timings_longer task is_task was);
+    cores_known = one_known (core_of longer (length old.tasks)) (length longer.cores) core_known;
+    questions = questions_off old longer (core_of longer (length old.tasks)) (length old.tasks) others_longer were_before timings_longer;
   }
 
 -- ---- a task is dropped
@@ -186,12 +194,14 @@ module _ (old : SystemModel) (gone : ℕ) (was_task : gone < length old.tasks) w
       (ap (λ (core : ℕ). core == other) (core_is old gone was_task) ∙ ne_eqb (core_of old gone) other apart))
       ∙ ap (filter (on_core other)) (sym tasks_shorter)
 
-  stay_where_dropped : StayOffCore (core_of old gone) gone old shorter
-  stay_where_dropped task is_task off =
-      had_question old shorter (core_of old gone) gone others_shorter task is_task off
-      (without_within old.tasks gone no_task was_task task is_task)
-      (sym (without_at (system_of old).tasks gone no_timing had_timing task)
-      ∙ ap (λ (tasks : List Timing). get_or tasks task no_timing) (sym tasks_shorter))
+  -- each task that is left was there, and has its timing
+  were_all : (task : ℕ) → task < length shorter.tasks → core_of shorter task ≢ core_of old gone → number_before gone task < length old.tasks
+  were_all task is_task off = without_within old.tasks gone no_task was_task task is_task
+
+  timings_shorter : (task : ℕ) → task < length shorter.tasks → number_before gone task < length old.tasks → HadTiming (At gone) old shorter task
+  timings_shorter task is_task was =
+      sym (without_at (system_of old).tasks gone no_timing had_timing task)
+      ∙ ap (λ (tasks : List Timing). get_or tasks task no_timing) (sym tasks_shorter)
 
   one_less : length shorter.tasks ≡ moved_count gone (length old.tasks)
   one_less =
@@ -201,13 +211,17 @@ module _ (old : SystemModel) (gone : ℕ) (was_task : gone < length old.tasks) w
   -- a task that is dropped moves those behind it
   moves_where_dropped : IsValid old → IsValid shorter → core_of old gone < length old.cores → MovesTasks (core_of old gone) gone old shorter
   moves_where_dropped valid still_valid core_known = record {
-    core_known = core_known;
-    count = one_less;
-    off_core = stay_where_dropped;
-    groups = λ chain within.
-        sym (before_of_others gone (groups_at old chain) (groups_of_others_at old valid gone was_task still_valid chain within))
-        ∙ ap (map (group_before gone)) (sym (groups_moved old valid gone was_task still_valid chain within));
-    keeps = record { chains = refl; requirements = refl };
+    numbers = record {
+      count = one_less;
+      groups = λ chain within.
+          sym (before_of_others gone (groups_at old chain) (groups_of_others_at old valid gone was_task still_valid chain within))
+          ∙ ap (map (group_before (At gone))) (sym (groups_moved old valid gone was_task still_valid chain within));
+      keeps = record { chains = refl; requirements = refl };
+    };
+    touched_known = All-nil (λ task. task < length shorter.tasks);
+    timings = λ task is_task was. inl (timings_shorter task is_task was);
+    cores_known = one_known (core_of old gone) (length shorter.cores) core_known;
+    questions = questions_off old shorter (core_of old gone) gone others_shorter were_all timings_shorter;
   }
 
 -- ---- chains
@@ -216,14 +230,11 @@ module _ (old : SystemModel) (gone : ℕ) (was_task : gone < length old.tasks) w
 found_same : (old new : SystemModel) → IsValid old → (before chain : ℕ) → before < length old.chains → system_of old ≡ system_of new
     → groups_at old before ≡ groups_at new chain → (found : ChainFindings) → AreFoundOf old before found → AreFoundOf new chain found
 found_same old new valid before chain within systems groups found was =
-    let stands : All (λ (group : Group). StandsAsBefore old new group.task) (groups_at new chain) = λ k d below. record {
+    let stands : All (λ (group : Group). StandsAsBefore Stays old new group.task) (groups_at new chain) = λ k d below. record {
       timing = ap (λ (system : System). timing_at system (get_or (groups_at new chain) k d).task) systems;
       answer = ap (λ (system : System). answer_at (answers_of system) (get_or (groups_at new chain) k d).task) systems;
     } in
-    record {
-      bounds = was.bounds ∙ chain_answer_same old new before chain groups stands;
-      exact = exact_answer_same old new before chain groups stands valid within found.exact was.exact;
-    }
+    stays_found Stays old new before chain (groups ∙ sym (map-id (groups_at new chain))) stands valid within tt found was
 
 module _ (old : SystemModel) (valid : IsValid old) where
   chains_stay_where_added : (added : ChainDef) → ChainsStay (length old.chains) old (with_new_chain old added)

@@ -17,9 +17,10 @@ use Rattle.cl_analyse.specs.Findings.{AreFindings}
 use Rattle.cl_incr.specs.declared.chains.ChainFindings.{ChainFindings}
 use Rattle.cl_incr.specs.Inner.Kept.{AreFoundOf}
 use Rattle.cl_incr.specs.Inner.Put.{found_at}
-use Rattle.cl_incr.specs.Inner.Reach.{number_before, AddsChain, DropsChain}
-use Rattle.cl_incr.proofs.Beside.{without_at, without_within}
+use Rattle.cl_incr.specs.Inner.Reach.{AddsChain, DropsChain}
+use Rattle.cl_incr.specs.Inner.Shift.{number_before}
 use Rattle.cl_incr.proofs.NumbersBefore.{before_below}
+use Rattle.cl_incr.proofs.ShiftedLists.{without_at, without_within}
 use Rattle.cl_incr.proofs.NewFindings.{was_found, are_chain_answers, are_exact_answers}
 
 -- the last item taken out again leaves what was there

@@ -25,7 +25,7 @@ use Rattle.cl_incr.specs.Changed.{IsChangedTask, IsChangedChain}
 use Rattle.cl_incr.specs.declared.chains.ChainFindings.{ChainFindings}
 use Rattle.cl_incr.specs.Inner.Kept.{AreBothAsked, AreFoundOf}
 use Rattle.cl_incr.specs.Inner.Asked.{AsksOne}
-use Rattle.cl_incr.proofs.EqualAnswers.{same_answers, chain_answers_same, exact_answers_same, late_where_not_asked}
+use Rattle.cl_incr.proofs.ByQuestions.{same_answers, chain_answers_same, exact_answers_same, late_where_not_asked}
 
 one_number : (one other : ℕ) → Some one ≡ Some other → one ≡ other
 one_number one other same = cc

@@ -1,8 +1,5 @@
-pub mod EqualGroups
-pub mod EqualBounds
-pub mod EqualChains
-pub mod EqualLengths
-pub mod EqualAnswers
+pub mod GroupQuestions
+pub mod ByQuestions
 pub mod AskedSteps
 pub mod SameQuestions
 pub mod SameTasks
@@ -23,10 +20,9 @@ pub mod ChangeTouches
 pub mod Mended
 pub mod CheckedEdits
 pub mod NumbersBefore
-pub mod MovedChains
 pub mod Beside
-pub mod MovedLists
 pub mod ChainLists
+pub mod ShiftedLists
+pub mod ShiftedPasses
+pub mod ShiftedAnswers
 pub mod OtherRequirements
-pub mod MovedPasses
-pub mod MovedAnswers

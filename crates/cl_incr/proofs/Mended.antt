@@ -1,18 +1,18 @@
--- What is kept of the answers for tasks and of the findings of chains where an edit touches only some tasks.
+-- What is kept of the answers for tasks and of the findings of chains where an edit reaches only some tasks.
 use Rattle.std.proofs.Common.{◌≡◌, ◌≢◌, ℕ, ◌+◌, ◌<◌, ◌⊎◌, inl, inr, Bool, true, false, cond, eqb, ltb, List, [], ◌∷◌, ◌++◌, length, get_or, refl, sym, ap, ◌∙◌, subst, arith}
-use Rattle.std.specs.Prelude.{filter, All, Contains}
+use Rattle.std.specs.Prelude.{filter, map, All, Contains}
 use Rattle.std.specs.List.{list_any}
 use Rattle.std.specs.Cmp.{nat_eq_equiv}
 use Rattle.std.proofs.Math.ListN.{length-map}
 use Rattle.std.proofs.lemmas.Bool.{ne_eqb, ltb-true, ltb-false}
 use Rattle.std.proofs.lemmas.Bool.Decides.{eqb_tells}
-use Rattle.std.proofs.lemmas.List.{get_or_past}
+use Rattle.std.proofs.lemmas.List.{get_or_past, map-id}
 use Rattle.std.proofs.lemmas.List.Elements.{All-append, All-nil, All-cons, All-head, All-tail, All-contains, Contains-push, Contains-append_left}
 use Rattle.std.proofs.lemmas.Map.Views.{Contains-from_any, list_any-from_Contains, exact_unsigned_eq}
 use Rattle.cl_model.specs.declared.model.SystemModel.{SystemModel}
 use Rattle.cl_model.specs.declared.group.Group.{Group}
 use Rattle.cl_model.specs.declared.task.TaskDef.{TaskDef}
-use Rattle.cl_model.specs.ByNumber.{core_of, tasks_of_core}
+use Rattle.cl_model.specs.ByNumber.{chain_at, core_of}
 use Rattle.cl_model.specs.Groups.{groups_at}
 use Rattle.cl_model.specs.Validity.{IsValid}
 use Rattle.cl_runs.specs.SystemOf.{system_of}
@@ -20,16 +20,22 @@ use Rattle.cl_runs.specs.TaskTiming.{Timing, no_timing, timing_at}
 use Rattle.cl_runs.proofs.ModelSystem.{timing_is, count_is}
 use Rattle.cl_resp.specs.Question.{question_of}
 use Rattle.cl_analyse.specs.Headline.{question_at}
-use Rattle.cl_incr.specs.Touched.{KeepsNumbers, HasSameTiming, ChangesOnly, HasSameAnswer, KeepAnswersBut, StandsAsBefore, StandBut}
+use Rattle.cl_bound.specs.declared.answer.TaskAnswer.TheVariants.{Late}
+use Rattle.cl_bound.specs.Answers.{answers_of}
+use Rattle.cl_analyse.specs.ChainAnswers.{chain_answer_of}
+use Rattle.cl_incr.specs.declared.shift.Shift.{Shift}
+use Rattle.cl_incr.specs.declared.shift.Shift.TheVariants.{Stays}
+use Rattle.cl_incr.specs.Touched.{KeepsNumbers, HasSameTiming, ChangesOnly, Touches, AreAnswersBut}
 use Rattle.cl_incr.specs.Inner.Listed.{listed}
 use Rattle.cl_incr.specs.Inner.Passes.{ListChains}
-use Rattle.cl_incr.specs.Inner.News.{StaysFound, StayFoundBut}
-use Rattle.cl_incr.proofs.EqualAnswers.{same_answers}
-use Rattle.cl_incr.proofs.KeptAnswers.{answer_is}
-use Rattle.cl_incr.proofs.OwnCores.{on_its_core}
+use Rattle.cl_incr.specs.Inner.News.{NamesNoMoved, StayFoundBut}
+use Rattle.cl_incr.specs.Inner.Reach.{HadAnswer, StandsAsBefore, KeepTimingsBut, StandBut, HadQuestion, KeepQuestionsOff, Renumbers, ReachesTasks}
+use Rattle.cl_incr.specs.Inner.Shift.{shifted, group_before}
 use Rattle.cl_incr.proofs.SameCores.{on_core, filter_same, same_question}
 use Rattle.cl_incr.proofs.SameGroups.{groups_same}
-use Rattle.cl_incr.proofs.SameChains.{chain_answer_same, exact_answer_same}
+use Rattle.cl_incr.proofs.SameChains.{stays_found}
+use Rattle.cl_incr.proofs.ShiftedAnswers.{answer_under}
+use Rattle.cl_incr.proofs.ShiftedPasses.{task_was_known}
 
 -- what is below n + 1 and isn't n is below n
 below_last : (k n : ℕ) → k < n + 1 → k ≢ n → k < n
@@ -105,38 +111,47 @@ module _ (old new : SystemModel) (keeps : KeepsNumbers old new) (cores touched :
       ∙ same_question (system_of old) (system_of new) (timing_at (system_of new) task)
       (core_same (timing_at (system_of new) task).core (ap is_hit (core_is new task within) ∙ missed))
 
-  answer_kept : (task : ℕ) → task < length new.tasks → is_hit (core_of new task) ≡ false → HasSameAnswer old new task
-  answer_kept task within missed =
-      answer_is old task (omega (arith, within, task_count old new keeps))
-      ∙ same_answers old new task task (question_kept task within missed)
-      ∙ sym (answer_is new task within)
-
-  asked_there : (tasks : List ℕ) → All (λ core. All (Contains tasks) (tasks_of_core new core)) cores → (task : ℕ) → task < length new.tasks
-      → is_hit (core_of new task) ≡ true → Contains tasks task
+  -- the tasks of other cores have the questions that they had
+  pub questions_kept : KeepQuestionsOff cores Stays old new
   unfolding is_hit
-  asked_there tasks listed_there task within is =
-      All-contains (Contains tasks) (tasks_of_core new (core_of new task)) task
-      (All-contains (λ core. All (Contains tasks) (tasks_of_core new core)) cores (core_of new task) listed_there
-      (Contains-from_any exact_unsigned_eq (core_of new task) cores is))
-      (on_its_core new task within)
-
-  -- the tasks of other cores have the answers that they had
-  pub answers_kept : (tasks : List ℕ) → All (λ core. All (Contains tasks) (tasks_of_core new core)) cores → KeepAnswersBut tasks old new
-  answers_kept tasks listed_there task within = elim (is_hit (core_of new task)) as (λ b. is_hit (core_of new task) ≡ b → HasSameAnswer old new task ⊎ Contains tasks task) [
-    | true ↦ λ is. inr (asked_there tasks listed_there task within is)
-    | false ↦ λ is. inl (answer_kept task within is)
+  questions_kept task within = elim (is_hit (core_of new task)) as (λ b. is_hit (core_of new task) ≡ b → HadQuestion Stays old new task ⊎ Contains cores (core_of new task)) [
+    | true ↦ λ is. inr (Contains-from_any exact_unsigned_eq (core_of new task) cores is)
+    | false ↦ λ is. inl (record {
+      within = omega (arith, within, task_count old new keeps);
+      same = question_kept task within is;
+    })
   ] refl
+
+-- where numbers stay, the groups of each chain are under those that they were
+pub groups_stay : (old new : SystemModel) → KeepsNumbers old new → (chain : ℕ) → groups_at old chain ≡ map (group_before Stays) (groups_at new chain)
+groups_stay old new keeps chain = groups_same old new keeps chain ∙ sym (map-id (groups_at new chain))
+
+-- what a change reaches that keeps all numbers: the tasks that it touches, and the cores that they were or are on
+pub reaches_touched : (old new : SystemModel) (touched cores : List ℕ) → Touches old new touched → All (λ core. core < length new.cores) cores
+    → All (λ task. Contains cores (core_of old task) × Contains cores (core_of new task)) touched → ReachesTasks Stays touched cores old new
+reaches_touched old new touched cores touches cores_known on = record {
+  numbers = record {
+    count = sym (task_count old new touches.keeps);
+    groups = λ chain within. groups_stay old new touches.keeps chain;
+    keeps = record { chains = touches.keeps.chains; requirements = touches.keeps.requirements };
+  };
+  touched_known = touches.known;
+  timings = λ task within was. touches.others task within;
+  cores_known = cores_known;
+  questions = questions_kept old new touches.keeps cores touched touches.others on;
+}
 
 -- ---- tasks that stand as before
 
 -- the tasks that are neither touched nor among those with other answers stand as they did
-pub stand_but : (old new : SystemModel) (touched asked tasks : List ℕ) → ChangesOnly touched old new → KeepAnswersBut asked old new
-    → All (Contains tasks) touched → All (λ task. HasSameAnswer old new task ⊎ Contains tasks task) asked → StandBut tasks old new
-stand_but old new touched asked tasks timings answers all each task within = elim (timings task within) [
+pub stand_but : (shift : Shift) (old new : SystemModel) (touched asked tasks : List ℕ) → KeepTimingsBut touched shift old new
+    → AreAnswersBut asked (shifted shift Late (answers_of (system_of old))) new
+    → All (Contains tasks) touched → All (λ task. HadAnswer shift old new task ⊎ Contains tasks task) asked → StandBut tasks shift old new
+stand_but shift old new touched asked tasks timings answers all each task within was = elim (timings task within was) [
   | inr among ↦ inr (All-contains (Contains tasks) touched task all among)
   | inl timing ↦ elim (answers task within) [
-    | inl answer ↦ inl (record { timing = timing; answer = answer })
-    | inr among ↦ elim (All-contains (λ t. HasSameAnswer old new t ⊎ Contains tasks t) asked task each among) [
+    | inl answer ↦ inl (record { timing = timing; answer = sym (answer_under shift old task was) ∙ answer })
+    | inr among ↦ elim (All-contains (λ t. HadAnswer shift old new t ⊎ Contains tasks t) asked task each among) [
       | inl answer ↦ inl (record { timing = timing; answer = answer })
       | inr otherwise ↦ inr otherwise
     ]
@@ -156,42 +171,35 @@ all_or P Q (x ∷ xs) each = elim (All-head (λ y. P y ⊎ Q) x xs each) [
   ]
 ]
 
-module _ (old new : SystemModel) (valid : IsValid old) (keeps : KeepsNumbers old new) where
-  -- what was found of a chain whose tasks stand as before is found of it
-  stays_found : (chain : ℕ) → chain < length new.chains → All (λ (group : Group). StandsAsBefore old new group.task) (groups_at new chain)
-      → StaysFound old new chain
-  stays_found chain within stands = λ found was. record {
-    bounds = was.bounds ∙ chain_answer_same old new chain chain (groups_same old new keeps chain) stands;
-    exact = exact_answer_same old new chain chain (groups_same old new keeps chain) stands valid (omega (arith, within, chain_count old new keeps)) found.exact was.exact;
-  }
-
-  -- so the chains that aren't listed under a task that stands otherwise keep their findings
-  pub stay_found_but : (lists : List (List ℕ)) (tasks chains : List ℕ) → ListChains old lists → StandBut tasks old new
-      → All (λ task. All (Contains chains) (listed lists task)) tasks → StayFoundBut chains old new
-  stay_found_but lists tasks chains list others all chain within =
-      elim (all_or (λ (group : Group). StandsAsBefore old new group.task) (Contains chains chain) (groups_at new chain) each) [
-        | inl stands ↦ inl (stays_found chain within stands)
+-- the chains that aren't listed under a task that stands otherwise, and name none whose number moves, keep their findings
+module _ (shift : Shift) (old new : SystemModel) (valid : IsValid old) (numbers : Renumbers shift old new) where
+  pub stay_found_but : (lists : List (List ℕ)) (tasks chains : List ℕ) → ListChains new lists → StandBut tasks shift old new
+      → All (λ task. All (Contains chains) (listed lists task)) tasks
+      → ((chain : ℕ) → chain < length old.chains → NamesNoMoved shift (chain_answer_of old (chain_at old chain)) ⊎ Contains chains chain)
+      → StayFoundBut chains old new
+  stay_found_but lists tasks chains list others all names chain within =
+      let was : chain < length old.chains = omega (arith, within, ap length numbers.keeps.chains) in
+      elim (names chain was) [
         | inr among ↦ inr among
+        | inl same ↦ elim (all_or (λ (group : Group). StandsAsBefore shift old new group.task) (Contains chains chain) (groups_at new chain) each) [
+          | inl stands ↦ inl (stays_found shift old new chain chain (numbers.groups chain within) stands valid was same)
+          | inr among ↦ inr among
+        ]
       ]
     where
-      known : (task : ℕ) → Contains (listed lists task) chain → task < length old.tasks
-      known task among = elim (ltb task (length lists)) as (λ b. ltb task (length lists) ≡ b → task < length old.tasks) [
+      known : (task : ℕ) → Contains (listed lists task) chain → task < length new.tasks
+      known task among = elim (ltb task (length lists)) as (λ b. ltb task (length lists) ≡ b → task < length new.tasks) [
         | true ↦ λ is. omega (arith, ltb-true task (length lists) is, list.count)
         | false ↦ λ is.
             let none : listed lists task ≡ [] = get_or_past lists task [] (ltb-false task (length lists) is) in
             absurd (omega (arith, among.1, ap length none))
       ] refl
 
-      along : All (λ (group : Group). Contains (listed lists group.task) chain) (groups_at new chain)
-      along =
-          subst (All (λ (group : Group). Contains (listed lists group.task) chain)) (groups_same old new keeps chain)
-          (list.along chain (omega (arith, within, chain_count old new keeps)))
-
-      each : All (λ (group : Group). StandsAsBefore old new group.task ⊎ Contains chains chain) (groups_at new chain)
+      each : All (λ (group : Group). StandsAsBefore shift old new group.task ⊎ Contains chains chain) (groups_at new chain)
       each = λ k d inside.
-          let passed = along k d inside in
+          let passed = list.along chain within k d inside in
           let task : ℕ = (get_or (groups_at new chain) k d).task in
-          elim (others task (omega (arith, known task passed, task_count old new keeps))) [
+          elim (others task (known task passed) (task_was_known shift old new valid numbers chain within k d inside)) [
             | inl stands ↦ inl stands
             | inr among ↦ inr (All-contains (Contains chains) (listed lists task) chain
                 (All-contains (λ t. All (Contains chains) (listed lists t)) tasks task all among) passed)

@@ -95,7 +95,7 @@ all_but_one old new i others k within = elim (eqb_tells k i) [
   | inr other ↦ inl (others k within other.1)
 ]
 
-one_known : (i n : ℕ) → i < n → All (λ task. task < n) (i ∷ [])
+pub one_known : (i n : ℕ) → i < n → All (λ task. task < n) (i ∷ [])
 one_known i n within = All-cons (λ task. task < n) i [] within (All-nil (λ task. task < n))
 
 -- a task that keeps its name and the names of its runnables

@@ -40,24 +40,7 @@ pub record Touches (old new : SystemModel) (tasks : List ℕ) : Type 0 where
   pub known : All (λ task. task < length new.tasks) tasks
   pub others : ChangesOnly tasks old new
 
--- the task of a number has the same answer in both models
-abbrev pub HasSameAnswer : (old new : SystemModel) → (task : ℕ) → Type 0
-HasSameAnswer old new task = answer_at (answers_of (system_of old)) task ≡ answer_at (answers_of (system_of new)) task
-
 -- the tasks that are not in this list have these answers in a model
 abbrev pub AreAnswersBut : (tasks : List ℕ) → (answers : List TaskAnswer) → SystemModel → Type 0
 AreAnswersBut tasks answers model =
     (task : ℕ) → task < length model.tasks → (answer_at answers task ≡ answer_at (answers_of (system_of model)) task) ⊎ Contains tasks task
-
--- the tasks that are not in this list have the answers that they had
-abbrev pub KeepAnswersBut : (tasks : List ℕ) → (old new : SystemModel) → Type 0
-KeepAnswersBut tasks old new = (task : ℕ) → task < length new.tasks → HasSameAnswer old new task ⊎ Contains tasks task
-
--- the task of a number has the same timing and the same answer in both models: it stands as it did
-pub record StandsAsBefore (old new : SystemModel) (task : ℕ) : Type 0 where
-  pub timing : HasSameTiming old new task
-  pub answer : HasSameAnswer old new task
-
--- the tasks that are not in this list stand as they did
-abbrev pub StandBut : (tasks : List ℕ) → (old new : SystemModel) → Type 0
-StandBut tasks old new = (task : ℕ) → task < length new.tasks → StandsAsBefore old new task ⊎ Contains tasks task

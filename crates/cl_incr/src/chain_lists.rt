@@ -1,6 +1,6 @@
 //! The findings after an edit appends a chain, drops one, or changes requirements. Times are in
 //! ticks.
-ghost use Rattle.std.specs.Prelude.{◌≡◌, ℕ, ◌<◌, ◌++◌, [], ◌∷◌, remove, length, OnOk, OnErr};
+ghost use Rattle.std.specs.Prelude.{◌≡◌, ◌<◌, ◌++◌, [], ◌∷◌, length, OnOk, OnErr};
 ghost use Rattle.cl_model.specs.declared.model.SystemModel.{SystemModel};
 ghost use Rattle.cl_analyse.specs.Verdicts.{verdicts_of};
 ghost use Rattle.cl_analyse.specs.Findings.{AreFindings};

@@ -1,6 +1,5 @@
 //! Which chains pass each task, and which requirements name each chain.
 ghost use Rattle.std.specs.Prelude.{◌≡◌, ◌<◌, length, IfOk, OnOk};
-ghost use Rattle.cl_runs.specs.Requirements.{required_chain, requirement_at};
 ghost use Rattle.cl_incr.specs.Inner.Listed.{StayListed, AreListedBelow};
 ghost use Rattle.cl_incr.specs.Inner.Passes.{IsListedAlong, ListChains, IsListedNamed, ListRequirements, ArePassesOf};
 

@@ -1,11 +1,14 @@
 //! What an edit may change: the timings of tasks, a task or a chain that it adds or drops, or
 //! requirements.
 ghost use Rattle.std.specs.Prelude.{◌≡◌, ◌<◌, length, IfOk};
+ghost use Rattle.cl_model.specs.declared.model.SystemModel.{SystemModel};
 ghost use Rattle.cl_model.specs.ByNumber.{core_of};
 ghost use Rattle.cl_edit.specs.Changing.{with_change, IsChangeOf};
-ghost use Rattle.cl_incr.specs.Inner.Reach.{IsReachOf};
+ghost use Rattle.cl_incr.specs.Touched.{Touches};
+ghost use Rattle.cl_incr.specs.Inner.Reach.{MovesTasks, Reaches, IsReachOf};
 
-use crate::touch::{one_task, tasks_of_other_kinds, tasks_set};
+use crate::shift::Shift;
+use crate::touch::{cores_of, one_task, tasks_of_other_kinds, tasks_set};
 use cl_edit::Change;
 use cl_model::{List, ValidModel};
 use cl_time::NoMemory;
@@ -17,6 +20,17 @@ use std::alloc::Global;
 pub(crate) struct Site {
     pub(crate) core: u32,
     pub(crate) gone: u32,
+}
+
+/// What an edit of tasks may change.
+#[derive(Drop)]
+pub(crate) struct Reached {
+    /// How the numbers of tasks move.
+    pub(crate) shift: Shift,
+    /// The tasks whose timings may change, by their new numbers.
+    pub(crate) touched: List<u32>,
+    /// The cores of the tasks whose answers may change.
+    pub(crate) cores: Vec<u32>,
 }
 
 /// What an edit may change.
@@ -76,4 +90,37 @@ pub(crate) fn reach_of(
             Ok(Reach::Requirements),
         Change::Nothing => Ok(Reach::Timings(List::new(alloc))),
     }
+}
+
+/// What is reached where numbers stay and the timings of these tasks may change: their cores, before
+/// and after.
+pub(crate) fn reached_by(
+    alloc: Global,
+    old: &ValidModel,
+    new: &ValidModel,
+    touched: List<u32>,
+) -> Result<Reached, NoMemory>
+    requires { Touches old.now new.now touched }
+    ensures { IfOk result (Reaches old.now new.now) }
+{
+    let cores = cores_of(alloc, old, new, &touched)?;
+    Ok(Reached {
+        shift: Shift::Stays,
+        touched,
+        cores,
+    })
+}
+
+/// What is reached where a task is appended or dropped: its core.
+pub(crate) fn reached_at(alloc: Global, site: Site) -> Result<Reached, NoMemory>
+    ensures { IfOk result (λ reached. (old new : SystemModel) → MovesTasks site.core site.gone old new
+        → Reaches old new reached) }
+{
+    let mut cores = Vec::new(alloc);
+    cores.push(site.core)?;
+    Ok(Reached {
+        shift: Shift::At(site.gone),
+        touched: List::new(alloc),
+        cores,
+    })
 }

@@ -10,20 +10,21 @@ ghost use Rattle.cl_edit.specs.Edited.{edited};
 ghost use Rattle.cl_edit.specs.Ranges.{IsEditInRange};
 ghost use Rattle.cl_analyse.specs.Findings.{AreFindings};
 ghost use Rattle.cl_incr.specs.Changed.{AsksForChanges};
-ghost use Rattle.cl_incr.specs.Touched.{KeepsNumbers, Touches, AreAnswersBut, KeepAnswersBut};
+ghost use Rattle.cl_incr.specs.Touched.{AreAnswersBut};
 ghost use Rattle.cl_incr.specs.Inner.IsTwin.{IsTwinOf};
 ghost use Rattle.cl_incr.specs.Inner.Passes.{ArePassesOf};
 ghost use Rattle.cl_incr.specs.Inner.News.{AreNewsOf};
-ghost use Rattle.cl_incr.specs.Inner.Reach.{moved, MovesTasks, AddsChain, DropsChain, ChangesRequirements};
+ghost use Rattle.cl_incr.specs.Inner.Reach.{Renumbers, Reaches, AddsChain, DropsChain, ChangesRequirements};
+ghost use Rattle.cl_incr.specs.Inner.Shift.{shifted};
 
 use crate::chain_lists::{drop_chain, judge_requirements, put_new_chain};
 use crate::chains::find_chain;
 use crate::mend::news_of;
-use crate::moved::{caught_up_at, moved_passing, news_at};
 use crate::news::News;
 use crate::passing::{Passing, passing_of};
 use crate::put::put_news;
-use crate::reach::{Reach, Site, reach_of};
+use crate::reach::{Reach, Reached, reach_of, reached_at, reached_by};
+use crate::shift::{Shift, shifted_passing};
 use crate::twin::{Twin, caught_up, twin_of, twin_with};
 use cl_analyse::{Findings, analyse};
 use cl_bound::TaskAnswer;
@@ -168,8 +169,14 @@ impl Session {
         let Twin { model, tasks } = self.take_twin()?;
         let model = change.make(self.alloc, model)?;
         match reach_of(self.alloc, &self.model, &model, change)? {
-            Reach::Timings(touched) => self.mend(model, tasks, touched, change, steps),
-            Reach::Task(site) => self.move_tasks(model, tasks, site, change, steps),
+            Reach::Timings(touched) => {
+                let reached = reached_by(self.alloc, &self.model, &model, touched)?;
+                self.mend(model, tasks, reached, change, steps)
+            }
+            Reach::Task(site) => {
+                let reached = reached_at(self.alloc, site)?;
+                self.mend(model, tasks, reached, change, steps)
+            }
             Reach::NewChain => self.add_chain(model, tasks, change, steps),
             Reach::Chain(gone) => {
                 self.drop_chain(model, tasks, gone, change);
@@ -201,27 +208,30 @@ impl Session {
         }
     }
 
-    /// Replaces the model by a changed one in which only these tasks are touched, and finds anew
-    /// only what they concern. `tasks` is a copy of the answers for the tasks.
+    /// Replaces the model by a changed one in which only these tasks are reached, and finds anew
+    /// only what they concern. `tasks` is a copy of the answers for the tasks before.
     fn mend<L: Ledger>(
         &mut self,
         model: ValidModel,
         tasks: List<TaskAnswer>,
-        touched: List<u32>,
+        reached: Reached,
         change: &Change,
         steps: &mut Steps<L>,
     ) -> Result<(), NoMemory>
         requires may_be_made { MayBeMade self.old.model change.now }
         requires made { model ≡ with_change self.old.model change.now }
         requires tasks { tasks ≡ self.old.findings.tasks }
-        requires touched { Touches self.old.model model touched }
+        requires reached { Reaches self.old.model model reached }
         ensures model { OnOk result (self.new.model ≡ model) }
         ensures findings { AreFindings self.new.model self.new.findings }
         ensures unchanged { OnErr result (self.new ≡ self.old) }
         ensures steps { AsksForChanges self.old.model model steps.old steps.new }
     {
         let _findings = self.findings();
-        let passing = self.take_passing()?;
+        // the old model is valid
+        let _valid = self.model.plain();
+        let shift = reached.shift;
+        let passing = shifted_passing(self.alloc, self.take_passing()?, shift)?;
         let news = news_of(
             self.alloc,
             &self.model,
@@ -229,45 +239,10 @@ impl Session {
             &passing,
             &model,
             tasks,
-            touched,
+            reached,
             steps,
         )?;
-        self.take_news(model, news, passing, change);
-        Ok(())
-    }
-
-    /// Replaces the model by a changed one in which a task is added or dropped. `tasks` is a copy
-    /// of the answers for the tasks before.
-    fn move_tasks<L: Ledger>(
-        &mut self,
-        model: ValidModel,
-        tasks: List<TaskAnswer>,
-        site: Site,
-        change: &Change,
-        steps: &mut Steps<L>,
-    ) -> Result<(), NoMemory>
-        requires may_be_made { MayBeMade self.old.model change.now }
-        requires made { model ≡ with_change self.old.model change.now }
-        requires tasks { tasks ≡ self.old.findings.tasks }
-        requires moves { MovesTasks site.core site.gone self.old.model model }
-        ensures model { OnOk result (self.new.model ≡ model) }
-        ensures findings { AreFindings self.new.model self.new.findings }
-        ensures unchanged { OnErr result (self.new ≡ self.old) }
-        ensures steps { AsksForChanges self.old.model model steps.old steps.new }
-    {
-        let _findings = self.findings();
-        let passing = self.take_passing()?;
-        let news = news_at(
-            self.alloc,
-            &self.model,
-            &self.findings,
-            &passing,
-            &model,
-            tasks,
-            site,
-            steps,
-        )?;
-        self.take_moved(model, news, passing, site, change);
+        self.take_news(model, news, passing, shift, change);
         Ok(())
     }
 
@@ -342,14 +317,21 @@ impl Session {
 
     /// Replaces the model by a changed one, and the findings by the news on it. The old model
     /// becomes the twin for the next change.
-    fn take_news(&mut self, model: ValidModel, mut news: News, passing: Passing, change: &Change)
+    fn take_news(
+        &mut self,
+        model: ValidModel,
+        mut news: News,
+        passing: Passing,
+        shift: Shift,
+        change: &Change,
+    )
         requires may_be_made { MayBeMade self.old.model change.now }
         requires made { model ≡ with_change self.old.model change.now }
-        requires keeps { KeepsNumbers self.old.model model }
+        requires numbers { Renumbers shift self.old.model model }
         requires news { AreNewsOf self.old.model model news }
         requires asked_below { All (λ task. task < length model.tasks) news.asked.items }
-        requires asked { KeepAnswersBut news.asked.items self.old.model model }
-        requires passing { ArePassesOf self.old.model passing }
+        requires asked { AreAnswersBut news.asked.items (shifted shift Late (answers_of (system_of self.old.model))) model }
+        requires passing { ArePassesOf model passing }
         ensures model { self.new.model ≡ model }
         ensures findings { AreFindings self.new.model self.new.findings }
     {
@@ -360,46 +342,11 @@ impl Session {
             old,
             change,
             news.tasks,
+            shift,
             news.asked.as_slice(),
             &self.findings.tasks,
         );
         self.passing = Some(passing);
-    }
-
-    /// Replaces the model by a changed one in which a task is added or dropped, and the findings by
-    /// the news on it. The old model becomes the twin for the next change.
-    fn take_moved(
-        &mut self,
-        model: ValidModel,
-        mut news: News,
-        passing: Passing,
-        site: Site,
-        change: &Change,
-    )
-        requires may_be_made { MayBeMade self.old.model change.now }
-        requires made { model ≡ with_change self.old.model change.now }
-        requires moves { MovesTasks site.core site.gone self.old.model model }
-        requires news { AreNewsOf self.old.model model news }
-        requires asked_below { All (λ task. task < length model.tasks) news.asked.items }
-        requires asked { AreAnswersBut news.asked.items (moved site.gone Late (answers_of (system_of self.old.model))) model }
-        requires passing { ArePassesOf self.old.model passing }
-        ensures model { self.new.model ≡ model }
-        ensures findings { AreFindings self.new.model self.new.findings }
-    {
-        // the old model was valid
-        let _valid = self.model.plain();
-        let old = mem::replace(&mut self.model, model);
-        put_news(&self.model, &mut self.findings, &mut news);
-        self.twin = caught_up_at(
-            self.alloc,
-            old,
-            change,
-            news.tasks,
-            site.gone,
-            news.asked.as_slice(),
-            &self.findings.tasks,
-        );
-        self.passing = moved_passing(self.alloc, passing, site.gone);
     }
 }
 

@@ -4,7 +4,7 @@ ghost use Rattle.std.specs.Prelude.{◌≡◌, ℕ, ◌<◌, ◌⊎◌, ◌↔�
 ghost use Rattle.std.specs.List.Sorted.{IsStrictlyIncreasing};
 ghost use Rattle.cl_model.specs.declared.changes.TaskPriority.{TaskPriority};
 ghost use Rattle.cl_model.specs.ByNumber.{core_of, stimulus_of, tasks_of_core};
-ghost use Rattle.cl_incr.specs.Touched.{Touches, KeepAnswersBut};
+ghost use Rattle.cl_incr.specs.Touched.{Touches};
 
 use crate::numbers::put_in_order;
 use cl_model::{List, StimulusKind, TaskPriority, ValidModel};
@@ -66,7 +66,7 @@ pub(crate) fn tasks_of_other_kinds(
 }
 
 /// Lists the cores of these tasks, both before and after a change, in rising order.
-fn cores_of(
+pub(crate) fn cores_of(
     alloc: Global,
     old: &ValidModel,
     new: &ValidModel,
@@ -105,21 +105,4 @@ pub(crate) fn tasks_of_cores(
     }
     put_in_order(&mut tasks);
     Ok(tasks)
-}
-
-/// Lists the tasks whose answers may change, in rising order: those on the cores, before and after
-/// the change, of the tasks that are touched.
-pub(crate) fn tasks_to_ask(
-    alloc: Global,
-    old: &ValidModel,
-    new: &ValidModel,
-    touched: &List<u32>,
-) -> Result<Vec<u32>, NoMemory>
-    requires { Touches old.now new.now touched.now }
-    ensures rising { IfOk result (λ tasks. IsStrictlyIncreasing tasks.items) }
-    ensures below { IfOk result (λ tasks. All (λ task. task < length new.now.tasks) tasks.items) }
-    ensures others { IfOk result (λ tasks. KeepAnswersBut tasks.items old.now new.now) }
-{
-    let cores = cores_of(alloc, old, new, touched)?;
-    tasks_of_cores(alloc, new, cores.as_slice())
 }

@@ -1,10 +1,13 @@
 //! A copy of a model with the answers for its tasks, which the next edit changes. Times are in
 //! ticks.
 ghost use Rattle.std.specs.Prelude.{◌≡◌, ℕ, ◌<◌, ◌⊎◌, length, IfOk, IfSome, All, Contains};
+ghost use Rattle.cl_bound.specs.declared.answer.TaskAnswer.TheVariants.{Late};
 ghost use Rattle.cl_bound.specs.Answers.{answer_at};
 ghost use Rattle.cl_edit.specs.Changing.{with_change, MayBeMade};
 ghost use Rattle.cl_incr.specs.Inner.IsTwin.{IsTwinOf};
+ghost use Rattle.cl_incr.specs.Inner.Shift.{shifted};
 
+use crate::shift::{Shift, shift_answers};
 use cl_bound::TaskAnswer;
 use cl_edit::Change;
 use cl_model::{List, ValidModel};
@@ -72,23 +75,26 @@ fn catch_up(answers: &mut List<TaskAnswer>, tasks: &[u32], new: &List<TaskAnswer
     }
 }
 
-/// As `twin_with`, but first brings `tasks` up to `answers`. Only the answers for `asked` may
-/// differ between them.
+/// As `twin_with`, but first moves `tasks` to the numbers that the tasks get, and brings them up to
+/// `answers`. Only the answers for `asked` may then differ from these.
 pub(crate) fn caught_up(
     alloc: Global,
     old: ValidModel,
     change: &Change,
     mut tasks: List<TaskAnswer>,
+    shift: Shift,
     asked: &[u32],
     answers: &List<TaskAnswer>,
 ) -> Option<Twin>
     requires may_be_made { MayBeMade old change.now }
-    requires count { length tasks ≡ length answers.now }
+    requires count { length (shifted shift Late tasks) ≡ length answers.now }
     requires below { All (λ task. task < length answers.now) asked.now }
     requires others { (task : ℕ) → task < length answers.now
-        → (answer_at tasks task ≡ answer_at answers.now task) ⊎ Contains asked.now task }
+        → (answer_at (shifted shift Late tasks) task ≡ answer_at answers.now task)
+        ⊎ Contains asked.now task }
     ensures { IfSome result (IsTwinOf (with_change old change.now) answers.now) }
 {
+    shift_answers(&mut tasks, shift).ok()?;
     catch_up(&mut tasks, asked, answers);
     twin_with(alloc, old, change, tasks)
 }

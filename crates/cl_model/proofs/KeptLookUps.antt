@@ -21,7 +21,7 @@ use Rattle.cl_model.specs.declared.task.RunnableDef.{RunnableDef}
 use Rattle.cl_model.specs.declared.task.TaskDef.{TaskDef}
 use Rattle.cl_model.specs.declared.valid_model.ValidModel.TheInside.{Inside}
 use Rattle.cl_model.specs.ByNumber.{no_task, task_at, no_runnable, runnable_at, core_number, stimulus_number, core_of, greatest_time, tasks_of_core_below, tasks_of_core}
-use Rattle.cl_model.specs.Changes.{with_task, with_runnable, with_range, with_whole, with_kind, stimulus_at, no_stimulus_def, with_deadline, with_priority, with_priorities, with_swap, with_access}
+use Rattle.cl_model.specs.Changes.{with_task, with_runnable, with_range, with_whole, with_kind, stimulus_at, no_stimulus_def, with_deadline, with_priority, with_priorities, with_access}
 use Rattle.cl_model.specs.Groups.{step_from, step_named, groups, groups_of, IsStepOf}
 use Rattle.cl_model.specs.Ranges.{IsTaskInRange}
 use Rattle.cl_model.specs.Named.{index_of, core_names, stimulus_names, task_names, requirement_names, runnable_names, all_runnables}
@@ -293,15 +293,6 @@ priorities_times model (it ∷ others) = priorities_times (with_priority model i
 pub priorities_stand : (old : Inside) → HasItsLookUps old → (priorities : List TaskPriority) → IsValid (with_priorities old.model priorities)
     → HasItsLookUps (record { model = with_priorities old.model priorities; look_ups = old.look_ups })
 priorities_stand old has priorities valid = stands_beside old has (with_priorities old.model priorities) (priorities_keep old.model priorities) valid (priorities_times old.model priorities)
-
--- two priorities exchanged
-pub swap_stands : (old : Inside) → HasItsLookUps old → (i j : ℕ) → IsValid (with_swap old.model i j) → HasItsLookUps (record { model = with_swap old.model i j; look_ups = old.look_ups })
-swap_stands old has i j valid =
-    let model = old.model in
-    let between = with_priority model i (task_at model j).priority in
-    stands_beside old has (with_swap model i j)
-    (both_kept model between (with_swap model i j) (priority_keeps model i (task_at model j).priority) (priority_keeps between j (task_at model i).priority)) valid
-    (priority_times between j (task_at model i).priority ∙ priority_times model i (task_at model j).priority)
 
 -- another kind of a stimulus
 pub kind_stands : (old : Inside) → HasItsLookUps old → (s : ℕ) (kind : StimulusKind) → IsValid (with_kind old.model s (λ _. kind)) → HasItsLookUps (record { model = with_kind old.model s (λ _. kind); look_ups = old.look_ups })

@@ -90,10 +90,6 @@ abbrev pub with_priorities : SystemModel → List TaskPriority → SystemModel
 with_priorities model [] = model
 with_priorities model (it ∷ others) = with_priorities (with_priority model it.task it.priority) others
 
--- the priorities of tasks i and j, exchanged
-abbrev pub with_swap : SystemModel → (i j : ℕ) → SystemModel
-with_swap model i j = with_priority (with_priority model i (task_at model j).priority) j (task_at model i).priority
-
 -- its core and its priority
 abbrev pub with_place : SystemModel → (i : ℕ) → (core : List ℕ) → (priority : ℕ) → SystemModel
 with_place model i core priority = with_task model i (record (task_at model i) { core = core; priority = priority })

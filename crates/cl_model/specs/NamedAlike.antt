@@ -1,5 +1,5 @@
 -- Models of the same names and labels, whatever else is set: times, kinds, cores, priorities, accesses, deadlines.
-use Rattle.std.specs.Prelude.{◌≡◌, false, List, [], map, None}
+use Rattle.std.specs.Prelude.{◌≡◌, false, [], map, None}
 use Rattle.cl_model.specs.declared.model.SystemModel.{SystemModel}
 use Rattle.cl_model.specs.declared.task.AccessKind.TheVariants.{Explicit}
 use Rattle.cl_model.specs.declared.task.RunnableDef.{RunnableDef}

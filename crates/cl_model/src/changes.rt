@@ -1,7 +1,7 @@
 //! Changes of a model in place. What is changed is given by its number. Times are in ticks.
 ghost use Rattle.std.specs.Prelude.{◌≡◌, ◌<◌, length, All};
 ghost use Rattle.cl_model.specs.Groups.{IsStepOf};
-ghost use Rattle.cl_model.specs.Changes.{with_range, with_whole, with_kind, with_deadline, with_priority, with_priorities, with_swap, with_place, with_access, without_task, without_chain, with_requirement, without_requirement};
+ghost use Rattle.cl_model.specs.Changes.{with_range, with_whole, with_kind, with_deadline, with_priority, with_priorities, with_place, with_access, without_task, without_chain, with_requirement, without_requirement};
 
 use crate::chain::RequirementDef;
 use crate::group::Step;
@@ -70,18 +70,6 @@ impl SystemModel {
         for it in priorities {
             self.set_priority(it.task as usize, it.priority);
         }
-    }
-
-    /// Exchanges the priorities of two tasks.
-    pub fn swap_priorities(&mut self, one: usize, other: usize)
-        requires one { one < length self.old.tasks }
-        requires other { other < length self.old.tasks }
-        ensures { self.new ≡ with_swap self.old one other }
-    {
-        let priority_of_one = self.tasks.as_slice()[one].priority;
-        let priority_of_other = self.tasks.as_slice()[other].priority;
-        self.set_priority(one, priority_of_other);
-        self.set_priority(other, priority_of_one);
     }
 
     /// Sets the core and the priority of a task.

@@ -1,5 +1,5 @@
 //! Sets of names, which are numbered and found by their bytes.
-ghost use Rattle.std.specs.Prelude.{◌≡◌, ◌<◌, ◌≤◌, [], ◌∷◌, ◌++◌, not, remove, length, IfOk, OnOk, OnErr, IfSome, is_some};
+ghost use Rattle.std.specs.Prelude.{◌≡◌, ◌<◌, ◌≤◌, [], not, remove, length, IfOk, OnOk, OnErr, IfSome, is_some};
 ghost use Rattle.std.specs.List.{remove_range};
 ghost use Rattle.cl_model.specs.Named.{has_name, index_of};
 ghost use Rattle.cl_model.specs.NameSets.{names_with};

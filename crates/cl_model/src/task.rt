@@ -1,5 +1,5 @@
 //! Tasks and the runnables that a job of a task executes. Times are in ticks.
-ghost use Rattle.std.specs.Prelude.{◌≡◌, ◌<◌, ◌^◌};
+ghost use Rattle.std.specs.Prelude.{◌≡◌, ◌<◌};
 ghost use Rattle.cl_model.specs.Holds.{runnable_hold, task_hold};
 ghost use Rattle.cl_model.specs.Kinds.{access_word, is_timed};
 ghost use Rattle.cl_model.specs.Reading.Checks.{meaning_of};

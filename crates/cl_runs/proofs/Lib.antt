@@ -37,3 +37,4 @@ pub mod BurstPlaces
 pub mod BurstLaws
 pub mod ModelSystem
 pub mod TimelyTasks
+pub mod SameMoments

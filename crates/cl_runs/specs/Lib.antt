@@ -10,6 +10,7 @@ pub mod Held
 pub mod Legal
 pub mod Moments
 pub mod Chains
+pub mod SameMoments
 pub mod MomentOrder
 pub mod RunChains
 pub mod Delays

@@ -9,7 +9,7 @@ pub mod Draw
 pub mod Edit
 pub mod Apply
 pub mod Check
-use Rattle.std.proofs.Common.{◌≡◌, ℕ, ◌+◌, ◌<◌, ◌≤◌, List, [], ◌∷◌, length, Option, Some, None, subst, arith}
+use Rattle.std.proofs.Common.{◌≡◌, ℕ, ◌<◌, List, [], ◌∷◌, length, Option, Some, None, subst, arith}
 use Rattle.std.proofs.lemmas.Bool.{cond_both}
 use Rattle.std.specs.Prelude.{codes}
 use Rattle.std.specs.Str.{bytes_eq}
@@ -38,7 +38,7 @@ use Rattle.cl_top.proofs.WellMeant.Simulate.{simulating_well}
 use Rattle.cl_top.proofs.WellMeant.Why.{reasoning_well}
 use Rattle.cl_top.proofs.WellMeant.Witness.{witnessing_well}
 use Rattle.cl_top.proofs.Meanings.{IsMeantWell}
-use Rattle.cl_top.proofs.Words.{IsFew, IsGood, whole_good, numbered_good, subject_good}
+use Rattle.cl_top.proofs.Words.{IsGood, whole_good, numbered_good, subject_good}
 
 pub meant_well : (asked : Command) → IsMeantWell (files_read asked) (meaning_of asked) (AsksForFew asked)
 unfolding meaning_of AsksForFew

@@ -1,7 +1,6 @@
 -- What a percentage keeps, each smaller one keeps: no task is later, no bound greater, and exact lengths are the same.
-use Rattle.std.proofs.Common.{◌≡◌, ℕ, ◌<◌, ◌≤◌, inl, inr, Bool, true, false, cond, ◌&&◌, nat_le, Some, None, List, [], ◌∷◌, length, get_or, map, refl, sym, ap, ◌∙◌, subst, arith}
+use Rattle.std.proofs.Common.{◌≡◌, ℕ, ◌<◌, ◌≤◌, inl, inr, Bool, true, false, cond, nat_le, Some, None, List, [], ◌∷◌, length, get_or, map, refl, sym, ap, ◌∙◌, subst, arith}
 use Rattle.std.specs.Prelude.{All}
-use Rattle.std.specs.List.{list_all}
 use Rattle.std.proofs.lemmas.Bool.{true≢false, false≢true, cases_lt, leb-true, le-leb}
 use Rattle.std.proofs.lemmas.List.{length-map, get_or_past}
 use Rattle.std.proofs.lemmas.List.Elements.{All-nil, All-cons, All-head, All-tail}
@@ -11,16 +10,12 @@ use Rattle.cl_model.specs.declared.chain.RequirementKind.TheVariants.{Length, De
 use Rattle.cl_model.specs.declared.chain.RequirementDef.{RequirementDef}
 use Rattle.cl_model.specs.declared.group.Group.{Group}
 use Rattle.cl_model.specs.declared.model.SystemModel.{SystemModel}
-use Rattle.cl_model.specs.declared.stimulus.StimulusKind.{StimulusKind}
-use Rattle.cl_model.specs.declared.task.AccessKind.{AccessKind}
 use Rattle.cl_model.specs.ByNumber.{chain_at}
 use Rattle.cl_model.specs.Groups.{steps_of, groups_at}
 use Rattle.cl_model.specs.Ranges.{IsInRange}
 use Rattle.cl_model.specs.Validity.{IsValid}
-use Rattle.cl_model.proofs.GroupFacts.{groups_at_are}
-use Rattle.cl_model.specs.Kinds.{is_timed, is_periodic}
+use Rattle.cl_model.proofs.GroupFacts.{groups_at_are, groups_at_some}
 use Rattle.cl_runs.specs.SystemOf.{system_of}
-use Rattle.cl_runs.specs.TaskTiming.{timing_at}
 use Rattle.cl_runs.proofs.ModelSystem.{count_is, system_sound}
 use Rattle.cl_runs.specs.Requirements.{required_chain}
 use Rattle.cl_bound.specs.declared.answer.TaskAnswer.{TaskAnswer}
@@ -29,12 +24,12 @@ use Rattle.cl_bound.specs.Answers.{answer_to, answers_of, is_late, NoneIsLate}
 use Rattle.cl_bound.specs.Bounds.{Lengths, AreBoundsOf, settled_timings, bounds_of}
 use Rattle.cl_bound.specs.NoGreater.{AreNoGreater}
 use Rattle.cl_bound.proofs.SettledChains.{settled_sums}
-use Rattle.cl_exact.specs.TimedPeriodic.{is_timed_periodic_task, are_timed_periodic, is_timed_periodic_chain}
+use Rattle.cl_exact.specs.TimedPeriodic.{is_timed_periodic_chain}
 use Rattle.cl_exact.proofs.ExactOnce.{exact_unique, within_or_past}
 use Rattle.cl_exact.specs.ExactLengths.{Witnesses, AreExactLengths}
 use Rattle.cl_exact.specs.Hyperperiod.{IsWithinLimit, IsPastLimit}
-use Rattle.cl_exact.specs.SameArrivals.{HaveSameArrivals}
-use Rattle.cl_exact.proofs.SameArrivals.{exact_same, within_same, past_same}
+use Rattle.cl_exact.specs.Rhythms.{rhythm_of, rhythms}
+use Rattle.cl_exact.proofs.SameRhythms.{same_timed, within_also, past_also, lengths_also}
 use Rattle.cl_analyse.specs.declared.findings.ChainAnswer.{ChainAnswer}
 use Rattle.cl_analyse.specs.declared.findings.ChainAnswer.TheVariants as bounded
 use Rattle.cl_analyse.specs.declared.findings.ExactAnswer.{ExactAnswer}
@@ -93,9 +88,9 @@ all_met one other kept (r ∷ rs) met = All-cons (λ (verdict : Verdict). is_met
     (kept r (All-head (λ (verdict : Verdict). is_met verdict ≡ true) (one r) (map one rs) met))
     (all_met one other kept rs (All-tail (λ (verdict : Verdict). is_met verdict ≡ true) (one r) (map one rs) met))
 
-tests_agree : {X : Type 0} (p q : X → Bool) → ((x : X) → p x ≡ q x) → (xs : List X) → list_all p xs ≡ list_all q xs
-tests_agree p q same [] = refl
-tests_agree p q same (x ∷ xs) = ap (λ b. b && list_all p xs) (same x) ∙ ap (λ b. q x && b) (tests_agree p q same xs)
+maps_agree : {X Y : Type 0} (f g : X → Y) → ((x : X) → f x ≡ g x) → (xs : List X) → map f xs ≡ map g xs
+maps_agree f g same [] = refl
+maps_agree f g same (x ∷ xs) = ap (λ y. y ∷ map f xs) (same x) ∙ ap (λ ys. g x ∷ ys) (maps_agree f g same xs)
 
 -- ---- a scaled model none of whose tasks is late
 
@@ -146,8 +141,17 @@ module _ (model : SystemModel) (valid : IsValid model) (less more : ℕ) (le : l
   groups_same : (c : ℕ) → groups_at lesser c ≡ groups_at greater c
   groups_same c = groups_kept model less c ∙ sym (groups_kept model more c)
 
-  arrivals_same : HaveSameArrivals (system_of lesser) (system_of greater)
-  arrivals_same = record { patterns = patterns_same model less more le; deadlines = deadlines_same model less more le }
+  rhythm_same : (group : Group) → rhythm_of (system_of lesser) group ≡ rhythm_of (system_of greater) group
+  rhythm_same group = λ i. record {
+    pattern = patterns_same model less more le group.task i;
+    access = accesses_same model less more le group.task i;
+    deadline = deadlines_same model less more le group.task i;
+  }
+
+  rhythms_same : (c : ℕ) → rhythms (system_of lesser) (groups_at lesser c) ≡ rhythms (system_of greater) (groups_at greater c)
+  rhythms_same c =
+      ap (rhythms (system_of lesser)) (groups_same c)
+      ∙ maps_agree (rhythm_of (system_of lesser)) (rhythm_of (system_of greater)) rhythm_same (groups_at greater c)
 
   bounds_below : (c : ℕ) → AreNoGreater (bounds_of (system_of lesser) (groups_at lesser c)) (bounds_of (system_of greater) (groups_at greater c))
   bounds_below c = bounds_sooner model less more le (groups_at greater c) (bounds_of (system_of lesser) (groups_at lesser c)) (bounds_of (system_of greater) (groups_at greater c))
@@ -157,16 +161,10 @@ module _ (model : SystemModel) (valid : IsValid model) (less more : ℕ) (le : l
       (sums_are greater valid_greater timely_greater c)
 
   timed_same : (c : ℕ) → is_timed_periodic_chain lesser c ≡ is_timed_periodic_chain greater c
-  unfolding are_timed_periodic
-  timed_same c =
-      ap (are_timed_periodic (system_of lesser)) (groups_same c)
-      ∙ tests_agree (λ (group : Group). is_timed_periodic_task (timing_at (system_of lesser) group.task)) (λ (group : Group). is_timed_periodic_task (timing_at (system_of greater) group.task))
-      (λ group. ap (λ (access : AccessKind). is_timed access && is_periodic (timing_at (system_of lesser) group.task).pattern) (accesses_same model less more le group.task)
-      ∙ ap (λ (kind : StimulusKind). is_timed (timing_at (system_of greater) group.task).access && is_periodic kind) (patterns_same model less more le group.task))
-      (groups_at greater c)
+  timed_same c = same_timed (system_of lesser) (system_of greater) (groups_at lesser c) (groups_at greater c) (rhythms_same c)
 
   -- what is met by what is found of a chain is met by what is found of it at the smaller percentage
-  module _ (c : ℕ) (kind : RequirementKind) (most : ℕ) where
+  module _ (c : ℕ) (some : 0 < length (groups_at lesser c)) (kind : RequirementKind) (most : ℕ) where
     abbrev one : Lengths
     one = bounds_of (system_of lesser) (groups_at lesser c)
 
@@ -177,16 +175,13 @@ module _ (model : SystemModel) (valid : IsValid model) (less more : ℕ) (le : l
     by_bounds = bound_met most (limited_bound kind one) (limited_bound kind other) (kind_less kind one other (bounds_below c))
 
     within_greater : IsWithinLimit (system_of lesser) (groups_at lesser c) → IsWithinLimit (system_of greater) (groups_at greater c)
-    within_greater is = within_same (system_of lesser) (system_of greater) arrivals_same (groups_at greater c)
-        (subst (λ (list : List Group). IsWithinLimit (system_of lesser) list) (groups_same c) is)
+    within_greater = within_also (system_of lesser) (system_of greater) (groups_at lesser c) (groups_at greater c) (rhythms_same c) some
 
     past_greater : IsPastLimit (system_of lesser) (groups_at lesser c) → IsPastLimit (system_of greater) (groups_at greater c)
-    past_greater is = past_same (system_of lesser) (system_of greater) arrivals_same (groups_at greater c)
-        (subst (λ (list : List Group). IsPastLimit (system_of lesser) list) (groups_same c) is)
+    past_greater = past_also (system_of lesser) (system_of greater) (groups_at lesser c) (groups_at greater c) (rhythms_same c) some
 
     exact_greater : (lengths : Witnesses) → AreExactLengths (system_of lesser) (groups_at lesser c) lengths → AreExactLengths (system_of greater) (groups_at greater c) lengths
-    exact_greater lengths is = exact_same (system_of lesser) (system_of greater) arrivals_same (groups_at greater c) lengths
-        (subst (λ (list : List Group). AreExactLengths (system_of lesser) list lengths) (groups_same c) is)
+    exact_greater = lengths_also (system_of lesser) (system_of greater) (groups_at lesser c) (groups_at greater c) (rhythms_same c)
 
     by_timed : (timed : Bool) (found below : ExactAnswer) → IsTimelyAnswer greater c timed found → IsTimelyAnswer lesser c timed below
         → is_met (verdict_on most (required_exact kind found) (Some (limited_bound kind other))) ≡ true
@@ -269,7 +264,7 @@ module _ (model : SystemModel) (valid : IsValid model) (less more : ℕ) (le : l
         (found_below.1.exacts.each c in_lesser) in
         ap is_met verdict_lesser
         ∙ ap (λ answer. is_met (verdict_on r.most (required_exact r.kind (exact_answer_at found_below.0.exacts c)) (required_bound r.kind answer))) chain_lesser
-        ∙ by_timed c r.kind r.most (is_timed_periodic_chain greater c) (exact_answer_at kept.findings.exacts c) (exact_answer_at found_below.0.exacts c) exact_more
+        ∙ by_timed c (groups_at_some lesser valid_lesser c in_lesser) r.kind r.most (is_timed_periodic_chain greater c) (exact_answer_at kept.findings.exacts c) (exact_answer_at found_below.0.exacts c) exact_more
         (subst (λ (timed : Bool). IsTimelyAnswer lesser c timed (exact_answer_at found_below.0.exacts c)) (timed_same c) exact_less)
         (sym (ap is_met verdict_greater
         ∙ ap (λ answer. is_met (verdict_on r.most (required_exact r.kind (exact_answer_at kept.findings.exacts c)) (required_bound r.kind answer))) chain_greater) ∙ met)

@@ -6,6 +6,7 @@ ghost use Rattle.cl_model.specs.declared.group.Group.{Group};
 ghost use Rattle.cl_runs.specs.TaskTiming.{System, IsSound};
 ghost use Rattle.cl_bound.specs.declared.group_timing.GroupTiming.{GroupTiming};
 ghost use Rattle.cl_bound.specs.Bounds.{greatest_reaction, greatest_age, Lengths, AreBoundsOf, settled_timings, bounds_of};
+ghost use Rattle.cl_bound.specs.Ends.{ends_of, lags};
 ghost use Rattle.cl_bound.specs.Hops.{group_timing};
 ghost use Rattle.cl_bound.specs.NoGreater.{StaysWithin, AreNoGreater};
 ghost use Rattle.cl_bound.specs.SettledChains.{IsSettledChain, AreWithin};
@@ -18,6 +19,14 @@ pub fn bounds_are_sums()
         → AreBoundsOf (settled_timings system groups) (bounds_of system groups) }
     ensures alone { (system : System) (groups : List Group) (bounds : Lengths)
         → AreBoundsOf (settled_timings system groups) bounds → bounds ≡ bounds_of system groups }
+{}
+
+/// Bounds depend on the ends of groups and on the lags of hops alone.
+pub fn same_ends_and_lags_have_same_bounds()
+    ensures { (one other : System) (groups others : List Group)
+        → map ends_of (settled_timings one groups) ≡ map ends_of (settled_timings other others)
+        → lags (settled_timings one groups) ≡ lags (settled_timings other others)
+        → bounds_of one groups ≡ bounds_of other others }
 {}
 
 /// Each bound of a settled chain of one group or more is 1 tick or more.

@@ -5,7 +5,7 @@ ghost use Rattle.cl_model.specs.declared.model.SystemModel.{SystemModel};
 ghost use Rattle.cl_model.specs.Groups.{groups_at};
 ghost use Rattle.cl_model.specs.Validity.{IsValid};
 ghost use Rattle.cl_runs.specs.SystemOf.{system_of};
-ghost use Rattle.cl_exact.specs.TimedPeriodic.{is_timed_periodic_chain};
+ghost use Rattle.cl_exact.specs.TimedPeriodic.{are_timed_periodic, is_timed_periodic_chain};
 ghost use Rattle.cl_exact.specs.Ties.{AreTied, HasExactLengths};
 ghost use Rattle.cl_model.specs.declared.group.Group.{Group};
 ghost use Rattle.cl_runs.specs.TaskTiming.{System};
@@ -13,8 +13,8 @@ ghost use Rattle.cl_runs.specs.Chains.{JobChain, first_job, last_job, IsForwardC
 ghost use Rattle.cl_runs.specs.RunChains.{ideal_moments};
 ghost use Rattle.cl_exact.specs.ExactLengths.{Witnesses, AreExactLengths, IsSteadyForward, IsSteadyAge, IsSteadyReduced};
 ghost use Rattle.cl_exact.specs.SteadyJobs.{first_steady_job, last_steady_job};
-ghost use Rattle.cl_exact.specs.SameArrivals.{HaveSameArrivals};
-ghost use Rattle.cl_exact.specs.Hyperperiod.{IsHyperperiod, IsWithinLimit, IsPastLimit};
+ghost use Rattle.cl_exact.specs.Rhythms.{rhythms};
+ghost use Rattle.cl_exact.specs.Hyperperiod.{hyper_limit, IsHyperperiod, IsWithinLimit, IsPastLimit};
 
 /// A chain has at most one exact length of each kind, with one witness.
 pub fn exact_lengths_are_unique()
@@ -58,16 +58,24 @@ pub fn exact_lengths_are_tied()
         → AreTied (system_of model) (groups_at model chain) exact }
 {}
 
-/// Exact lengths, and whether the hyperperiod is within the limit, depend only on the arrival
-/// patterns and the deadlines of tasks.
-pub fn same_arrivals_have_same_lengths()
-    ensures lengths { (one other : System) → HaveSameArrivals one other
-        → (groups : List Group) (exact : Witnesses)
-        → AreExactLengths one groups exact → AreExactLengths other groups exact }
-    ensures within { (one other : System) → HaveSameArrivals one other → (groups : List Group)
-        → IsWithinLimit one groups → IsWithinLimit other groups }
-    ensures past { (one other : System) → HaveSameArrivals one other → (groups : List Group)
-        → IsPastLimit one groups → IsPastLimit other groups }
+/// Exact lengths, whether there are any, and the limit on the hyperperiod depend on the rhythms of
+/// groups alone: groups of the same rhythms, maybe of two systems, have the same.
+pub fn same_rhythms_have_same_lengths()
+    ensures lengths { (one other : System) (groups others : List Group)
+        → rhythms one groups ≡ rhythms other others
+        → (exact : Witnesses) → AreExactLengths one groups exact → AreExactLengths other others exact }
+    ensures timed { (one other : System) (groups others : List Group)
+        → rhythms one groups ≡ rhythms other others
+        → are_timed_periodic one groups ≡ are_timed_periodic other others }
+    ensures limit { (one other : System) (groups others : List Group)
+        → rhythms one groups ≡ rhythms other others → 0 < length groups
+        → hyper_limit one groups ≡ hyper_limit other others }
+    ensures within { (one other : System) (groups others : List Group)
+        → rhythms one groups ≡ rhythms other others → 0 < length groups
+        → IsWithinLimit one groups → IsWithinLimit other others }
+    ensures past { (one other : System) (groups others : List Group)
+        → rhythms one groups ≡ rhythms other others → 0 < length groups
+        → IsPastLimit one groups → IsPastLimit other others }
 {}
 
 /// Where the tasks of a chain of a valid model are all timed and periodic, a complete forward chain

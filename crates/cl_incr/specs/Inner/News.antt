@@ -1,12 +1,17 @@
--- What is found anew where an edit touches some tasks.
+-- What is found anew where an edit reaches some tasks.
 use Rattle.std.specs.Prelude.{◌≡◌, ℕ, ◌<◌, ◌⊎◌, List, length, map, All, Contains}
 use Rattle.cl_model.specs.declared.model.SystemModel.{SystemModel}
 use Rattle.cl_runs.specs.SystemOf.{system_of}
 use Rattle.cl_runs.specs.Requirements.{required_chain, requirement_at}
 use Rattle.cl_bound.specs.Answers.{answers_of}
+use Rattle.cl_bound.specs.Bounds.{Lengths}
+use Rattle.cl_analyse.specs.declared.findings.ChainAnswer.{ChainAnswer}
+use Rattle.cl_analyse.specs.declared.findings.ChainAnswer.TheVariants.{Bounds}
 use Rattle.cl_incr.specs.declared.chains.ChainFindings.{ChainFindings}
 use Rattle.cl_incr.specs.declared.news.FoundChain.{FoundChain}
 use Rattle.cl_incr.specs.declared.news.News.{News}
+use Rattle.cl_incr.specs.declared.shift.Shift.{Shift}
+use Rattle.cl_incr.specs.declared.shift.Shift.TheVariants.{Stays, At}
 use Rattle.cl_incr.specs.Inner.Kept.{AreFoundOf}
 
 -- the numbers of the chains of which something is found
@@ -39,3 +44,14 @@ pub record AreNewsOf (old new : SystemModel) (news : News) : Type 0 where
   pub requirements_below : All (λ requirement. requirement < length new.requirements) news.requirements.items
   pub requirements : (requirement : ℕ) → requirement < length new.requirements
       → IsConcerned new (chains_found news.chains.items) news.requirements.items requirement
+
+-- ---- numbers that are named
+
+-- a chain has bounds, so that its answer names no task
+abbrev pub HasBounds : ChainAnswer → Type 0
+HasBounds answer = (bounds : Lengths) × (answer ≡ Bounds bounds)
+
+-- an answer names no task whose number moves
+abbrev pub NamesNoMoved : Shift → ChainAnswer → Type 0
+NamesNoMoved Stays answer = Unit {0}
+NamesNoMoved (At gone) answer = HasBounds answer

@@ -1,60 +1,84 @@
--- What an edit reaches: what stands where a task or a chain is added behind the others, or is taken out, so that those
--- behind it move up.
-use Rattle.std.specs.Prelude.{◌≡◌, ◌≢◌, ℕ, ◌+◌, ◌-◌, ◌<◌, nat_lt, if◌then◌else◌, List, [], ◌∷◌, ◌++◌, remove, length, map, All}
+-- What an edit reaches: the timings and the questions of tasks, whose numbers may move; a task or a chain that is added
+-- behind the others or taken out; requirements.
+use Rattle.std.specs.Prelude.{◌≡◌, ℕ, ◌+◌, ◌<◌, ◌⊎◌, List, [], ◌∷◌, length, map, All, Contains}
 use Rattle.cl_model.specs.declared.model.SystemModel.{SystemModel}
-use Rattle.cl_model.specs.declared.group.Group.{Group}
 use Rattle.cl_model.specs.ByNumber.{core_of}
 use Rattle.cl_model.specs.Groups.{groups_at}
 use Rattle.cl_runs.specs.SystemOf.{system_of}
 use Rattle.cl_runs.specs.TaskTiming.{timing_at}
+use Rattle.cl_bound.specs.Answers.{answers_of, answer_at}
 use Rattle.cl_analyse.specs.Headline.{question_at}
 use Rattle.cl_incr.specs.declared.chains.ChainFindings.{ChainFindings}
 use Rattle.cl_incr.specs.declared.reach.Reach.{Reach}
 use Rattle.cl_incr.specs.declared.reach.Reach.TheVariants.{Timings, Task, NewChain, Chain, Requirements}
+use Rattle.cl_incr.specs.declared.reach.Reached.{Reached}
+use Rattle.cl_incr.specs.declared.shift.Shift.{Shift}
+use Rattle.cl_incr.specs.declared.shift.Shift.TheVariants.{At}
 use Rattle.cl_incr.specs.Touched.{KeepsChains, Touches}
 use Rattle.cl_incr.specs.Inner.Kept.{AreFoundOf}
+use Rattle.cl_incr.specs.Inner.Shift.{number_before, task_before, shifted_count, group_before}
 
--- ---- numbers
+-- ---- a task under its number before
 
--- the number before that of number `gone` was taken out
-abbrev pub number_before : (gone number : ℕ) → ℕ
-number_before gone number = if nat_lt number gone then number else number + 1
+-- a task has the timing that it had
+abbrev pub HadTiming : Shift → (old new : SystemModel) → (task : ℕ) → Type 0
+HadTiming shift old new task = timing_at (system_of old) (task_before shift task) ≡ timing_at (system_of new) task
 
--- a list without the item of number `gone`; where there is none, with one more behind the others
-abbrev pub moved : {X : Type 0} → (gone : ℕ) → (filler : X) → List X → List X
-moved gone filler xs = if nat_lt gone (length xs) then remove xs gone else xs ++ filler ∷ []
+-- it has the answer that it had
+abbrev pub HadAnswer : Shift → (old new : SystemModel) → (task : ℕ) → Type 0
+HadAnswer shift old new task =
+    answer_at (answers_of (system_of old)) (task_before shift task) ≡ answer_at (answers_of (system_of new)) task
 
--- how many items it then has
-abbrev pub moved_count : (gone count : ℕ) → ℕ
-moved_count gone count = if nat_lt gone count then count - 1 else count + 1
+-- it has both: it stands as it did
+pub record StandsAsBefore (shift : Shift) (old new : SystemModel) (task : ℕ) : Type 0 where
+  pub timing : HadTiming shift old new task
+  pub answer : HadAnswer shift old new task
 
--- a group under the number that its task had before
-abbrev pub group_before : (gone : ℕ) → Group → Group
-group_before gone group = record group { task = number_before gone group.task }
+-- it was there, and has the question that it had
+pub record HadQuestion (shift : Shift) (old new : SystemModel) (task : ℕ) : Type 0 where
+  pub within : task_before shift task < length old.tasks
+  pub same : question_at old (task_before shift task) ≡ question_at new task
 
--- ---- a task is added or dropped
+-- ---- all tasks
 
--- a task had this timing and this question, and a number within the tasks, before
-pub record HadQuestion (gone : ℕ) (old new : SystemModel) (task : ℕ) : Type 0 where
-  pub within : number_before gone task < length old.tasks
-  pub timing : timing_at (system_of old) (number_before gone task) ≡ timing_at (system_of new) task
-  pub same : question_at old (number_before gone task) ≡ question_at new task
+-- the tasks that were there and are not in this list have their timings
+abbrev pub KeepTimingsBut : (tasks : List ℕ) → Shift → (old new : SystemModel) → Type 0
+KeepTimingsBut tasks shift old new = (task : ℕ) → task < length new.tasks → task_before shift task < length old.tasks
+    → HadTiming shift old new task ⊎ Contains tasks task
 
--- so had each task that is not on this core
-abbrev pub StayOffCore : (core gone : ℕ) → (old new : SystemModel) → Type 0
-StayOffCore core gone old new = (task : ℕ) → task < length new.tasks → core_of new task ≢ core → HadQuestion gone old new task
+-- so have they their answers, too
+abbrev pub StandBut : (tasks : List ℕ) → Shift → (old new : SystemModel) → Type 0
+StandBut tasks shift old new = (task : ℕ) → task < length new.tasks → task_before shift task < length old.tasks
+    → StandsAsBefore shift old new task ⊎ Contains tasks task
 
--- no group of a chain is of a task of this core
-abbrev pub AvoidsCore : (core : ℕ) → SystemModel → (chain : ℕ) → Type 0
-AvoidsCore core model chain = All (λ (group : Group). core_of model group.task ≢ core) (groups_at model chain)
+-- the tasks that are not on these cores have their questions
+abbrev pub KeepQuestionsOff : (cores : List ℕ) → Shift → (old new : SystemModel) → Type 0
+KeepQuestionsOff cores shift old new =
+    (task : ℕ) → task < length new.tasks → HadQuestion shift old new task ⊎ Contains cores (core_of new task)
+
+-- ---- tasks are changed
+
+-- tasks have the numbers that a shift gives them, also in the groups of chains; chains and requirements stay
+pub record Renumbers (shift : Shift) (old new : SystemModel) : Type 0 where
+  pub count : length new.tasks ≡ shifted_count shift (length old.tasks)
+  pub groups : (chain : ℕ) → chain < length new.chains
+      → groups_at old chain ≡ map (group_before shift) (groups_at new chain)
+  pub keeps : KeepsChains old new
+
+-- only tasks of a list may have other timings, and only those on some cores other questions
+pub record ReachesTasks (shift : Shift) (touched cores : List ℕ) (old new : SystemModel) : Type 0 where
+  pub numbers : Renumbers shift old new
+  pub touched_known : All (λ task. task < length new.tasks) touched
+  pub timings : KeepTimingsBut touched shift old new
+  pub cores_known : All (λ core. core < length new.cores) cores
+  pub questions : KeepQuestionsOff cores shift old new
+
+abbrev pub Reaches : (old new : SystemModel) → Reached → Type 0
+Reaches old new reached = ReachesTasks reached.shift reached.touched reached.cores.items old new
 
 -- a task of this core is added behind the others, or the one of number `gone` is dropped from it
-pub record MovesTasks (core gone : ℕ) (old new : SystemModel) : Type 0 where
-  pub core_known : core < length new.cores
-  pub count : length new.tasks ≡ moved_count gone (length old.tasks)
-  pub off_core : StayOffCore core gone old new
-  pub groups : (chain : ℕ) → chain < length new.chains → groups_at old chain ≡ map (group_before gone) (groups_at new chain)
-  pub keeps : KeepsChains old new
+abbrev pub MovesTasks : (core gone : ℕ) → (old new : SystemModel) → Type 0
+MovesTasks core gone = ReachesTasks (At gone) [] (core ∷ [])
 
 -- ---- a chain is added or dropped
 

@@ -1,6 +1,6 @@
 //! What the names in a valid model refer to: the cores and stimuli of tasks, the labels of
 //! runnables, the steps of chains, and the chains of requirements.
-ghost use Rattle.std.specs.Prelude.{◌≡◌, ◌≤◌, ℕ, List, length, All, Contains};
+ghost use Rattle.std.specs.Prelude.{◌≡◌, ℕ, List, All, Contains};
 ghost use Rattle.cl_model.specs.declared.chain.RequirementDef.{RequirementDef};
 ghost use Rattle.cl_model.specs.declared.group.Step.{Step};
 ghost use Rattle.cl_model.specs.declared.model.SystemModel.{SystemModel};

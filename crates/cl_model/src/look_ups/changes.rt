@@ -1,5 +1,5 @@
 //! Changes of the tables beside a model. After `NoMemory` they may be those of no model.
-ghost use Rattle.std.specs.Prelude.{◌≡◌, ◌<◌, ◌^◌, true, [], length, remove, insert, slice_index, slice_index_or, slice_set, OnOk, All};
+ghost use Rattle.std.specs.Prelude.{◌≡◌, ◌<◌, ◌^◌, true, [], length, remove, insert, slice_index_or, slice_set, OnOk, All};
 ghost use Rattle.cl_model.specs.Named.{has_name, runnable_names};
 ghost use Rattle.cl_model.specs.NameSets.{AreNew};
 ghost use Rattle.cl_model.specs.Ranges.{IsTaskInRange};

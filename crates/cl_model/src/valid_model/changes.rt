@@ -2,7 +2,7 @@
 //! Times are in ticks.
 ghost use Rattle.std.specs.Prelude.{◌≡◌, ◌<◌, length, All};
 ghost use Rattle.cl_model.specs.Groups.{IsStepOf};
-ghost use Rattle.cl_model.specs.Changes.{with_range, with_whole, with_kind, with_deadline, with_priorities, with_swap, with_access};
+ghost use Rattle.cl_model.specs.Changes.{with_range, with_whole, with_kind, with_deadline, with_priorities, with_access};
 ghost use Rattle.cl_model.specs.Validity.{IsValid};
 
 use crate::changes::TaskPriority;
@@ -79,21 +79,6 @@ impl ValidModel {
     {
         let mut model = self.model;
         model.set_priorities(priorities);
-        ValidModel {
-            model,
-            look_ups: self.look_ups,
-        }
-    }
-
-    /// Returns the model in which two tasks have exchanged their priorities.
-    pub fn with_swap(self, one: u32, other: u32) -> ValidModel
-        requires one { one < length self.tasks }
-        requires other { other < length self.tasks }
-        requires valid { IsValid (with_swap self one other) }
-        ensures { result ≡ with_swap self one other }
-    {
-        let mut model = self.model;
-        model.swap_priorities(one as usize, other as usize);
         ValidModel {
             model,
             look_ups: self.look_ups,

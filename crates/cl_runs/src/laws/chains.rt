@@ -9,7 +9,25 @@ ghost use Rattle.cl_model.specs.Groups.{groups};
 ghost use Rattle.cl_runs.specs.Chains.{JobChain, first_job, last_job, IsForwardChain, IsAgeChain, IsReducedChain};
 ghost use Rattle.cl_runs.specs.RunChains.{run_moments, ideal_moments};
 ghost use Rattle.cl_runs.specs.MomentOrder.{AreGroupsOf};
+ghost use Rattle.cl_runs.specs.SameMoments.{HaveSameMoments};
 ghost use Rattle.cl_runs.specs.Measured.{Measured, IsMeasured, IsMeasuredBy};
+
+/// Complete job chains over ideal moments depend on those of their groups alone: groups that read
+/// and write alike, place by place, have the same chains.
+pub fn same_moments_have_same_chains()
+    ensures forward { (one other : System) (groups others : List Group)
+        → HaveSameMoments (ideal_moments one) (ideal_moments other) groups others
+        → (chain : JobChain) → IsForwardChain (ideal_moments one) groups chain
+        → IsForwardChain (ideal_moments other) others chain }
+    ensures age { (one other : System) (groups others : List Group)
+        → HaveSameMoments (ideal_moments one) (ideal_moments other) groups others
+        → (chain : JobChain) → IsAgeChain (ideal_moments one) groups chain
+        → IsAgeChain (ideal_moments other) others chain }
+    ensures reduced { (one other : System) (groups others : List Group)
+        → HaveSameMoments (ideal_moments one) (ideal_moments other) groups others
+        → (chain : JobChain) → IsReducedChain (ideal_moments one) groups chain
+        → IsReducedChain (ideal_moments other) others chain }
+{}
 
 /// Over the same groups a run has at most one complete forward chain with a given first job, and at
 /// most one complete backward chain with a given last job, be it for the age or for the reduced

@@ -1,4 +1,4 @@
-use Rattle.cl_incr.proofs.EqualAnswers.{bounds_of_same, chain_answers_same}
+use Rattle.cl_incr.proofs.ByQuestions.{bounds_of_same, chain_answers_same}
 use Rattle.cl_incr.proofs.laws.equal_questions_of_chains_have_equal_bounds.Goals as goal
 
 pub returns-clause-bounds : goal.returns-clause-bounds

@@ -3,35 +3,39 @@ use Rattle.std.specs.Prelude.{All, Contains, IfSome}
 use Rattle.cl_model.specs.declared.model.SystemModel.{SystemModel}
 use Rattle.cl_runs.specs.SystemOf.{system_of}
 use Rattle.cl_bound.specs.declared.answer.TaskAnswer.{TaskAnswer}
+use Rattle.cl_bound.specs.declared.answer.TaskAnswer.TheVariants.{Late}
 use Rattle.cl_bound.specs.Answers.{answer_at, answers_of}
 use Rattle.cl_edit.specs.Changing.{with_change, MayBeMade}
 use Rattle.cl_analyse.specs.Findings.{AreFindings}
 use Rattle.cl_incr.specs.declared.news.News.{News}
 use Rattle.cl_incr.specs.SessionState.{SessionState}
-use Rattle.cl_incr.specs.Touched.{KeepsNumbers, KeepsChains, KeepAnswersBut}
+use Rattle.cl_incr.specs.Touched.{KeepsChains, AreAnswersBut}
 use Rattle.cl_incr.specs.Inner.IsTwin.{IsTwinOf}
 use Rattle.cl_incr.specs.Inner.Passes.{ArePassesOf}
 use Rattle.cl_incr.specs.Inner.News.{AreNewsOf}
+use Rattle.cl_incr.specs.Inner.Reach.{Renumbers}
+use Rattle.cl_incr.specs.Inner.Shift.{shifted}
+use Rattle.cl_incr.specs.declared.shift.Shift.{Shift}
 use Rattle.cl_incr.proofs.KeptAnswers.{answer_count}
-use Rattle.cl_incr.proofs.Mended.{task_count}
-use Rattle.cl_incr.proofs.PassesKept.{keeps_chains, passes_kept}
+use Rattle.cl_incr.proofs.ShiftedAnswers.{shifted_answer_count}
 use Rattle.cl_incr.proofs.session.Session.take_news.Goals as goal
 
--- the answers for the tasks of the old model differ from those for the new one only where a task was asked
-module _ (old new : SystemModel) (keeps : KeepsNumbers old new) (news : News) (are_below : All (λ task. task < length new.tasks) news.asked.items)
-    (are_asked : KeepAnswersBut news.asked.items old new) (tasks answers : List TaskAnswer) (asked : List ℕ)
+-- the answers for the tasks of the old model, under their new numbers, differ from those for the new one only where a task
+-- was asked
+module _ (shift : Shift) (old new : SystemModel) (numbers : Renumbers shift old new) (news : News) (are_below : All (λ task. task < length new.tasks) news.asked.items)
+    (are_asked : AreAnswersBut news.asked.items (shifted shift Late (answers_of (system_of old))) new) (tasks answers : List TaskAnswer) (asked : List ℕ)
     (were : tasks ≡ answers_of (system_of old)) (is : answers ≡ answers_of (system_of new)) (those : asked ≡ news.asked.items) where
-  same_count : length tasks ≡ length answers
-  same_count = answer_count old tasks were ∙ task_count old new keeps ∙ sym (answer_count new answers is)
+  same_count : length (shifted shift Late tasks) ≡ length answers
+  same_count = shifted_answer_count shift old new numbers tasks were ∙ sym (answer_count new answers is)
 
   all_below : All (λ task. task < length answers) asked
   all_below =
       subst (λ (l : List ℕ). All (λ task. task < length answers) l) (sym those)
       (λ k d within. omega (arith, are_below k d within, answer_count new answers is))
 
-  others_same : (task : ℕ) → task < length answers → (answer_at tasks task ≡ answer_at answers task) ⊎ Contains asked task
+  others_same : (task : ℕ) → task < length answers → (answer_at (shifted shift Late tasks) task ≡ answer_at answers task) ⊎ Contains asked task
   others_same task within = elim (are_asked task (omega (arith, within, answer_count new answers is))) [
-    | inl same ↦ inl (ap (λ (l : List TaskAnswer). answer_at l task) were ∙ same ∙ sym (ap (λ (l : List TaskAnswer). answer_at l task) is))
+    | inl same ↦ inl (ap (λ (l : List TaskAnswer). answer_at (shifted shift Late l) task) were ∙ same ∙ sym (ap (λ (l : List TaskAnswer). answer_at l task) is))
     | inr among ↦ inr (subst (λ (l : List ℕ). Contains l task) (sym those) among)
   ]
 
@@ -39,7 +43,7 @@ pub put_news-requires : goal.put_news-requires
 put_news-requires c = (
   c.args.self.now.model,
   subst (λ (m : SystemModel). AreFindings m c.self.inside.findings) (ap (λ (s : SessionState). s.model) c.self.view_is) c.self.invariant.found,
-  subst (KeepsChains c.args.self.now.model) (sym c.replace-old.ensures.after) (keeps_chains c.args.self.now.model c.args.model c.requires.keeps),
+  subst (KeepsChains c.args.self.now.model) (sym c.replace-old.ensures.after) c.requires.numbers.keeps,
   subst (λ (m : SystemModel). AreNewsOf c.args.self.now.model m c.args.news) (sym c.replace-old.ensures.after) c.requires.news,
 )
 
@@ -57,12 +61,12 @@ caught_up-requires c =
     let those : asked ≡ c.args.news.asked.items = c.as_slice.ensures.value ∙ ap (λ v. v.items) c.put_news.ensures.asked in
     record {
       may_be_made = subst (λ (m : SystemModel). MayBeMade m c.args.change.now) (sym (c.replace-old.ensures.value ∙ model_is)) c.requires.may_be_made;
-      count = same_count old new c.requires.keeps c.args.news c.requires.asked_below c.requires.asked tasks answers asked were is those;
-      below = all_below old new c.requires.keeps c.args.news c.requires.asked_below c.requires.asked tasks answers asked were is those;
-      others = others_same old new c.requires.keeps c.args.news c.requires.asked_below c.requires.asked tasks answers asked were is those;
+      count = same_count c.args.shift old new c.requires.numbers c.args.news c.requires.asked_below c.requires.asked tasks answers asked were is those;
+      below = all_below c.args.shift old new c.requires.numbers c.args.news c.requires.asked_below c.requires.asked tasks answers asked were is those;
+      others = others_same c.args.shift old new c.requires.numbers c.args.news c.requires.asked_below c.requires.asked tasks answers asked were is those;
     }
 
--- the findings are those of the model that is put, its twin holds the same, and the same chains pass each task
+-- the findings are those of the model that is put, its twin holds the same, and the chains that pass each task are its own
 pub invariant_of-self : goal.invariant_of-self
 invariant_of-self c =
     let old = c.args.self.now.model in
@@ -74,6 +78,5 @@ invariant_of-self c =
       twin =
           subst (λ (m : SystemModel). IfSome twin (IsTwinOf m answers))
           (ap (λ (m : SystemModel). with_change m c.args.change.now) old_is ∙ sym c.requires.made ∙ sym c.replace-old.ensures.after) c.caught_up.ensures;
-      passing = subst (λ (m : SystemModel). ArePassesOf m c.args.passing) (sym c.replace-old.ensures.after)
-          (passes_kept old c.args.model c.requires.keeps c.args.passing c.requires.passing);
+      passing = subst (λ (m : SystemModel). ArePassesOf m c.args.passing) (sym c.replace-old.ensures.after) c.requires.passing;
     }
