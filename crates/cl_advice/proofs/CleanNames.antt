@@ -18,9 +18,10 @@ use Rattle.cl_model.specs.declared.task.RunnableDef.{RunnableDef}
 use Rattle.cl_model.specs.declared.task.TaskDef.{TaskDef}
 use Rattle.cl_model.specs.AreNamed.{IsRunnableNamed, IsTaskNamed, IsChainNamed, AreNamed}
 use Rattle.cl_model.specs.Name.{IsName}
-use Rattle.cl_model.specs.Named.{has_name, all_runnables}
+use Rattle.cl_model.specs.Named.{all_runnables}
 use Rattle.cl_model.specs.Place.{part_text}
-use Rattle.cl_advice.specs.With.{item_if, with_line, namesake_line, task_of_place, runnable_of_place, labels_under, label_of_place, shares_priority, rival_of, writer_of, step_name, lines_with, with_lines}
+use Rattle.cl_advice.specs.With.{item_if, with_line, namesake_line, task_of_place, runnable_of_place, labels_under, label_of_place, shares_priority, rival_of, is_sought, writer_of, step_name, lines_with, with_lines}
+use Rattle.cl_advice.specs.declared.with.Sought.TheVariants.{Writer}
 use Rattle.cl_advice.proofs.CleanWords.{Printed, printed_both, printed_line, printed_name, printed_part}
 
 -- ---- items of lists
@@ -30,7 +31,7 @@ got P [] k all = tt
 got P (x ∷ xs) zero all = All-head P x xs all
 got P (x ∷ xs) (suc k) all = got P xs k (All-tail P x xs all)
 
-item : {X : Type 0} (P : X → Type 0) (xs : List X) (n : Option ℕ) → All P xs → IfSome (item_if xs n) P
+pub item : {X : Type 0} (P : X → Type 0) (xs : List X) (n : Option ℕ) → All P xs → IfSome (item_if xs n) P
 item P xs None all = tt
 item P xs (Some k) all = got P xs k all
 
@@ -38,15 +39,15 @@ either : {X : Type 0} (P : X → Type 0) (t : Bool) (x : X) (rest : Option X) �
 either P true x rest h others = h
 either P false x rest h others = others
 
-first_of : {X : Type 0} (P : X → Type 0) (test : X → Bool) (xs : List X) → All P xs → IfSome (find test xs) P
+pub first_of : {X : Type 0} (P : X → Type 0) (test : X → Bool) (xs : List X) → All P xs → IfSome (find test xs) P
 first_of P test [] all = tt
 first_of P test (x ∷ xs) all = either P (test x) x (find test xs) (All-head P x xs all) (first_of P test xs (All-tail P x xs all))
 
-mapped : {X Y : Type 0} (P : X → Type 0) (Q : Y → Type 0) (f : X → Y) (o : Option X) → ((x : X) → P x → Q (f x)) → IfSome o P → IfSome (option_map f o) Q
+pub mapped : {X Y : Type 0} (P : X → Type 0) (Q : Y → Type 0) (f : X → Y) (o : Option X) → ((x : X) → P x → Q (f x)) → IfSome o P → IfSome (option_map f o) Q
 mapped P Q f None holds h = tt
 mapped P Q f (Some x) holds h = holds x h
 
-followed : {X Y : Type 0} (P : X → Type 0) (Q : Y → Type 0) (f : X → Option Y) (o : Option X) → ((x : X) → P x → IfSome (f x) Q) → IfSome o P → IfSome (option_and_then f o) Q
+pub followed : {X Y : Type 0} (P : X → Type 0) (Q : Y → Type 0) (f : X → Option Y) (o : Option X) → ((x : X) → P x → IfSome (f x) Q) → IfSome o P → IfSome (option_and_then f o) Q
 followed P Q f None holds h = tt
 followed P Q f (Some x) holds h = holds x h
 
@@ -66,7 +67,7 @@ printed_namesake p name items place named =
 
 -- ---- tasks and runnables
 
-runnable_named_at : (model : SystemModel) (place : Place) → AreNamed model → IfSome (runnable_of_place model place) IsRunnableNamed
+pub runnable_named_at : (model : SystemModel) (place : Place) → AreNamed model → IfSome (runnable_of_place model place) IsRunnableNamed
 runnable_named_at model place named =
     followed IsTaskNamed IsRunnableNamed (λ (task : TaskDef). item_if task.runnables place.sub) (task_of_place model place)
     (λ task h. item IsRunnableNamed task.runnables place.sub h.runnables) (item IsTaskNamed model.tasks place.item named.tasks)
@@ -86,7 +87,7 @@ rival_named model place named =
     followed IsTaskNamed IsTaskNamed (rival_of model) (task_of_place model place)
     (λ task h. first_of IsTaskNamed (shares_priority task) model.tasks named.tasks) (item IsTaskNamed model.tasks place.item named.tasks)
 
-runnables_named : (tasks : List TaskDef) → All IsTaskNamed tasks → All IsRunnableNamed (all_runnables tasks)
+pub runnables_named : (tasks : List TaskDef) → All IsTaskNamed tasks → All IsRunnableNamed (all_runnables tasks)
 runnables_named [] all = All-nil IsRunnableNamed
 runnables_named (task ∷ tasks) all =
     All-append IsRunnableNamed task.runnables (all_runnables tasks) (All-head IsTaskNamed task tasks all).runnables
@@ -95,10 +96,10 @@ runnables_named (task ∷ tasks) all =
 writer_named : (model : SystemModel) (place : Place) → AreNamed model → IfSome (option_and_then (writer_of model) (label_of_place model place)) IsRunnableNamed
 writer_named model place named =
     followed IsName IsRunnableNamed (writer_of model) (label_of_place model place)
-    (λ label h. first_of IsRunnableNamed (λ (runnable : RunnableDef). has_name label runnable.writes) (all_runnables model.tasks) (runnables_named model.tasks named.tasks))
+    (λ label h. first_of IsRunnableNamed (is_sought Writer label) (all_runnables model.tasks) (runnables_named model.tasks named.tasks))
     (label_named_at model place named)
 
-step_named_at : (model : SystemModel) (place : Place) (behind : ℕ) → AreNamed model → IfSome (step_name model place behind) IsName
+pub step_named_at : (model : SystemModel) (place : Place) (behind : ℕ) → AreNamed model → IfSome (step_name model place behind) IsName
 step_named_at model place behind named =
     followed IsChainNamed IsName (λ (chain : ChainDef). item_if chain.runnables (option_map (λ k. k + behind) place.spot)) (item_if model.chains place.item)
     (λ chain h. item IsName chain.runnables (option_map (λ k. k + behind) place.spot) h.runnables) (item IsChainNamed model.chains place.item named.chains)
@@ -109,10 +110,10 @@ name_of_runnable o h = mapped IsRunnableNamed IsName (λ (runnable : RunnableDef
 
 -- ---- all lines
 
-tasks_alone : (tasks : List TaskDef) → All IsTaskNamed tasks → All (λ (task : TaskDef). IsName task.name) tasks
+pub tasks_alone : (tasks : List TaskDef) → All IsTaskNamed tasks → All (λ (task : TaskDef). IsName task.name) tasks
 tasks_alone tasks all i d lt = (all i d lt).name
 
-chains_alone : (chains : List ChainDef) → All IsChainNamed chains → All (λ (chain : ChainDef). IsName chain.name) chains
+pub chains_alone : (chains : List ChainDef) → All IsChainNamed chains → All (λ (chain : ChainDef). IsName chain.name) chains
 chains_alone chains all i d lt = (all i d lt).name
 
 printed_lines_with : (model : SystemModel) (place : Place) (c : Code) → AreNamed model → Printed (lines_with model place c)
@@ -127,6 +128,9 @@ printed_lines_with model place code.M26 named =
 printed_lines_with model place code.M31 named =
     printed_with (codes "task") _ refl
     (mapped IsTaskNamed IsName (λ (task : TaskDef). task.name) (option_and_then (rival_of model) (task_of_place model place)) (λ task h. h.name) (rival_named model place named))
+printed_lines_with model place code.M33 named =
+    printed_with (codes "stimulus") _ refl
+    (mapped IsTaskNamed IsName (λ (task : TaskDef). task.stimulus) (task_of_place model place) (λ task h. h.stimulus) (item IsTaskNamed model.tasks place.item named.tasks))
 printed_lines_with model place code.M39 named = printed_with (codes "label") _ refl (label_named_at model place named)
 printed_lines_with model place code.M40 named =
     printed_with (codes "runnable") _ refl (name_of_runnable (option_and_then (writer_of model) (label_of_place model place)) (writer_named model place named))

@@ -6,6 +6,12 @@ pub mod CleanBytes
 pub mod CleanWords
 pub mod CleanLines
 pub mod CleanNames
+pub mod CleanMeasured
 pub mod CleanMends
 pub mod Clashes
 pub mod UnknownKeys
+pub mod FirstOf
+pub mod KnownNames
+pub mod SingleHeaders
+pub mod CleanUnread
+pub mod SomeAdvice

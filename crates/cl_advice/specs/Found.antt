@@ -3,9 +3,14 @@ use Rattle.std.specs.Prelude.{ℕ, if◌then◌else◌, List, [], ◌++◌, leng
 use Rattle.std.specs.Fmt.{signed_decimal}
 use Rattle.toml.specs.Data.{Data, string, integer, float, boolean, datetime, array, table, Members}
 use Rattle.cl_text.specs.Line.{line}
+use Rattle.cl_model.specs.declared.place.Place.{Place}
+use Rattle.cl_model.specs.declared.refusal.Code.{Code}
+use Rattle.cl_model.specs.declared.refusal.Code.TheVariants as code
 use Rattle.cl_model.specs.declared.refusal.Refusal.{Refusal}
+use Rattle.cl_model.specs.declared.model.SystemModel.{SystemModel}
 use Rattle.cl_model.specs.Reading.Checks.{members_of}
 use Rattle.cl_advice.specs.Shown.{shown, quoted}
+use Rattle.cl_advice.specs.Measured.{jitter_found}
 use Rattle.cl_advice.specs.Keys.{refused_key, refused_value}
 
 -- a value of a document
@@ -32,5 +37,10 @@ value_line (Some d) = line (codes "found " ++ value_text d)
 abbrev pub key_line : Members → Refusal → List ℕ
 key_line ms refusal = shown_key_line (refused_key ms refusal.place refusal.code)
 
-abbrev pub found_line : Members → Refusal → List ℕ
-found_line ms refusal = value_line (refused_value ms refusal.place refusal.code)
+-- of M33 the jitter of the model that was read
+abbrev pub found_by_code : Members → Option SystemModel → Place → Code → List ℕ
+found_by_code ms model place code.M33 = jitter_found model place
+found_by_code ms model place code = value_line (refused_value ms place code)
+
+abbrev pub found_line : Members → Option SystemModel → Refusal → List ℕ
+found_line ms model refusal = found_by_code ms model refusal.place refusal.code

@@ -6,5 +6,9 @@ pub mod Found
 pub mod Wanted
 pub mod WantsOfFields
 pub mod With
+pub mod Measured
+pub mod Known
+pub mod Hop
+pub mod Unread
 pub mod Mend
 pub mod Advice

@@ -1,6 +1,6 @@
 -- What to write instead.
-use Rattle.std.specs.Prelude.{ℕ, ◌&&◌, ◌==◌, nat_le, Bool, false, if◌then◌else◌, List, ◌++◌, [], Option, Some, None, is_some, codes}
-use Rattle.std.specs.Option.{option_map}
+use Rattle.std.specs.Prelude.{ℕ, ◌&&◌, ◌==◌, nat_le, Bool, false, if◌then◌else◌, List, ◌++◌, [], Option, Some, None, is_some, unwrap_or, codes}
+use Rattle.std.specs.Option.{option_map, option_and_then, option_or}
 use Rattle.std.specs.Str.{bytes_eq}
 use Rattle.toml.specs.Data.{Data, string, Members}
 use Rattle.cl_text.specs.Line.{line}
@@ -12,6 +12,7 @@ use Rattle.cl_model.specs.declared.place.Place.{Place}
 use Rattle.cl_model.specs.declared.refusal.Code.{Code}
 use Rattle.cl_model.specs.declared.refusal.Code.TheVariants as code
 use Rattle.cl_model.specs.declared.refusal.Refusal.{Refusal}
+use Rattle.cl_model.specs.declared.model.SystemModel.{SystemModel}
 use Rattle.cl_model.specs.Place.{key_text}
 use Rattle.cl_model.specs.Reading.{version_in}
 use Rattle.cl_model.specs.Reading.Checks.{keys_of}
@@ -20,6 +21,8 @@ use Rattle.cl_advice.specs.declared.want.Want.{Want}
 use Rattle.cl_advice.specs.declared.want.Want.TheVariants as want
 use Rattle.cl_advice.specs.Sites.{value_in}
 use Rattle.cl_advice.specs.Keys.{is_listed, unknown_key}
+use Rattle.cl_advice.specs.Hop.{lacking_text}
+use Rattle.cl_advice.specs.Unread.{unread_mend}
 use Rattle.cl_advice.specs.Wanted.{want_at}
 
 -- ---- an unknown key
@@ -34,10 +37,22 @@ abbrev pub task_key_mend : List ℕ → List ℕ
 task_key_mend word =
     if is_listed (keys_of runnable_fields) word then codes "keys of a runnable stand in its [[task.runnable]]" else codes "take the key out, or write one of these"
 
--- at the top, where it is that of the runnables of a task
+-- at the top, the name of a section with an `s` behind it
+abbrev pub plural_mend : List ℕ → Option (List ℕ)
+plural_mend word =
+    if bytes_eq word (codes "cores") then Some (codes "[[core]]")
+    else if bytes_eq word (codes "stimuluss") then Some (codes "[[stimulus]]")
+    else if bytes_eq word (codes "labels") then Some (codes "[[label]]")
+    else if bytes_eq word (codes "tasks") then Some (codes "[[task]]")
+    else if bytes_eq word (codes "chains") then Some (codes "[[chain]]")
+    else if bytes_eq word (codes "requirements") then Some (codes "[[requirement]]")
+    else None
+
+-- at the top, where it is that of the runnables of a task, or nearly that of a section
 abbrev pub top_key_mend : List ℕ → List ℕ
 top_key_mend word =
-    if bytes_eq (key_text key.Runnable) word then codes "a runnable begins with [[task.runnable]], after its [[task]]" else codes "take the key out, or write one of these"
+    if bytes_eq (key_text key.Runnable) word then codes "a runnable begins with [[task.runnable]], after its [[task]]"
+    else unwrap_or (plural_mend word) (codes "take the key out, or write one of these")
 
 abbrev pub part_key_mend : Part → List ℕ → List ℕ
 part_key_mend part.Top word = top_key_mend word
@@ -92,10 +107,6 @@ word_mend ms place _ = codes "write one of these words in quotes"
 
 -- ---- by the code
 
--- what isn't a document
-abbrev pub unread_mend : List ℕ
-unread_mend = codes "write TOML 1.1 in UTF-8"
-
 -- a code that says it alone
 abbrev pub code_mend : Code → Option (List ℕ)
 code_mend code.M1 = Some unread_mend
@@ -147,5 +158,14 @@ abbrev pub mended_line : Option (List ℕ) → List ℕ
 mended_line None = []
 mended_line (Some words) = line (codes "mend " ++ words)
 
-abbrev pub mend_line : Members → Refusal → List ℕ
-mend_line ms refusal = mended_line (mend_text ms refusal.place refusal.code)
+-- what to write where a label isn't handed over
+abbrev pub handed_or_both : Option SystemModel → Place → Option (List ℕ)
+handed_or_both model place = option_or (option_and_then (λ (model : SystemModel). lacking_text model place) model) (code_mend code.M45)
+
+-- what to write, of the model that was read where there is one
+abbrev pub mend_by : Members → Option SystemModel → Place → Code → Option (List ℕ)
+mend_by ms model place code.M45 = handed_or_both model place
+mend_by ms model place code = mend_text ms place code
+
+abbrev pub mend_line : Members → Option SystemModel → Refusal → List ℕ
+mend_line ms model refusal = mended_line (mend_by ms model refusal.place refusal.code)

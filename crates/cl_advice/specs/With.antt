@@ -14,6 +14,8 @@ use Rattle.cl_model.specs.declared.refusal.Refusal.{Refusal}
 use Rattle.cl_model.specs.declared.task.RunnableDef.{RunnableDef}
 use Rattle.cl_model.specs.declared.task.TaskDef.{TaskDef}
 use Rattle.cl_model.specs.declared.model.SystemModel.{SystemModel}
+use Rattle.cl_advice.specs.declared.with.Sought.{Sought}
+use Rattle.cl_advice.specs.declared.with.Sought.TheVariants.{Writer, Named}
 use Rattle.cl_model.specs.Named.{same_name, has_name, all_runnables}
 use Rattle.cl_model.specs.Place.{part_text}
 
@@ -55,9 +57,18 @@ rival_of model task = find (shares_priority task) model.tasks
 abbrev pub rival_line : SystemModel → Place → List ℕ
 rival_line model place = with_line (codes "task") (option_map (λ other. other.name) (option_and_then (rival_of model) (task_of_place model place)))
 
+-- whether a runnable writes the label of a name, or has the name
+abbrev pub is_sought : Sought → (name : List ℕ) → RunnableDef → Bool
+is_sought Writer name runnable = has_name name runnable.writes
+is_sought Named name runnable = same_name name runnable.name
+
+-- the first runnable of a model that does
+abbrev pub found_by : SystemModel → Sought → (name : List ℕ) → Option RunnableDef
+found_by model sought name = find (is_sought sought name) (all_runnables model.tasks)
+
 -- M40: the first runnable that writes the label
 abbrev pub writer_of : SystemModel → List ℕ → Option RunnableDef
-writer_of model label = find (λ runnable. has_name label runnable.writes) (all_runnables model.tasks)
+writer_of model label = found_by model Writer label
 
 abbrev pub writer_line : SystemModel → Place → List ℕ
 writer_line model place =
@@ -81,6 +92,7 @@ lines_with model place code.M24 = with_line (codes "runnable") (option_map (λ r
 lines_with model place code.M25 = namesake_line part.Chain (λ chain. chain.name) model.chains place
 lines_with model place code.M26 = namesake_line part.Requirement (λ requirement. requirement.name) model.requirements place
 lines_with model place code.M31 = rival_line model place
+lines_with model place code.M33 = with_line (codes "stimulus") (option_map (λ task. task.stimulus) (task_of_place model place))
 lines_with model place code.M39 = with_line (codes "label") (label_of_place model place)
 lines_with model place code.M40 = writer_line model place
 lines_with model place code.M45 = handed_lines model place

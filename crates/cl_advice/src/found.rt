@@ -1,12 +1,16 @@
 //! The lines of the key that a refusal is about, and of the value there.
-ghost use Rattle.std.specs.Prelude.{◌≡◌, ◌++◌, if◌then◌else◌, codes, decimal, OnOk};
+ghost use Rattle.std.specs.Prelude.{◌≡◌, ◌++◌, if◌then◌else◌, codes, decimal, OnOk, IfSome};
+ghost use Rattle.std.specs.Option.{option_copied};
 ghost use Rattle.std.specs.Fmt.{signed_decimal};
 ghost use Rattle.toml.specs.View.{view, table_view};
-ghost use Rattle.cl_advice.specs.Found.{value_text, key_line, found_line};
+ghost use Rattle.cl_model.specs.Ranges.{IsInRange};
+ghost use Rattle.cl_advice.specs.Keys.{refused_value};
+ghost use Rattle.cl_advice.specs.Found.{value_text, key_line, value_line, found_line};
 
 use crate::keys::{refused_key, refused_value};
+use crate::measured::put_jitter_found;
 use crate::shown::{put_quoted, put_shown};
-use cl_model::Refusal;
+use cl_model::{Code, Refusal, SystemModel};
 use cl_text::Text;
 use cl_time::NoMemory;
 use itoa::Buffer;
@@ -68,9 +72,10 @@ fn put_value(text: &mut Text, value: &Value) -> Result<(), NoMemory>
     }
 }
 
-/// Appends the line of the value that a refusal is about, if there is one.
-pub(crate) fn put_found(text: &mut Text, table: &Table, refusal: Refusal) -> Result<(), NoMemory>
-    ensures { OnOk result (text.new ≡ text.old ++ found_line (table_view table.now) refusal) }
+/// Appends the line of the value at the place of a refusal, if there is one.
+fn put_value_line(text: &mut Text, table: &Table, refusal: Refusal) -> Result<(), NoMemory>
+    ensures { OnOk result
+        (text.new ≡ text.old ++ value_line (refused_value (table_view table.now) refusal.place refusal.code)) }
 {
     match refused_value(table, refusal) {
         Some(value) => {
@@ -79,5 +84,22 @@ pub(crate) fn put_found(text: &mut Text, table: &Table, refusal: Refusal) -> Res
             text.put(b"\n")
         }
         None => Ok(()),
+    }
+}
+
+/// Appends the line of the value that a refusal is about, if there is one.
+pub(crate) fn put_found(
+    text: &mut Text,
+    table: &Table,
+    model: Option<&SystemModel>,
+    refusal: Refusal,
+) -> Result<(), NoMemory>
+    requires { IfSome (option_copied model) IsInRange }
+    ensures { OnOk result
+        (text.new ≡ text.old ++ found_line (table_view table.now) (option_copied model.entry) refusal) }
+{
+    match refusal.code {
+        Code::M33 => put_jitter_found(text, model, refusal.place),
+        _ => put_value_line(text, table, refusal),
     }
 }

@@ -19,7 +19,8 @@ ghost use Rattle.cl_advice.specs.Keys.{is_listed, unknown_among};
 ghost use Rattle.cl_advice.specs.Wanted.{section_want};
 ghost use Rattle.cl_advice.specs.WantsOfFields.{AsksByCheck};
 ghost use Rattle.cl_advice.specs.With.{rival_of, writer_of};
-ghost use Rattle.cl_advice.specs.Advice.{advice_text, unread_text};
+ghost use Rattle.cl_advice.specs.Unread.{unread_text};
+ghost use Rattle.cl_advice.specs.Advice.{advice_text, at_line};
 
 /// Bytes of a file are shown in printable ASCII alone and in at most `MOST_SHOWN + 2` bytes, in
 /// quotes or without. Without quotes they are shown whole where that takes at most `MOST_SHOWN`
@@ -45,8 +46,9 @@ pub fn limits_of_shown_bytes()
 pub fn advice_is_clean()
     ensures document { (ms : Members) (model : Option SystemModel) (refusal : Refusal) →
         IfSome model AreNamed → AllPass is_printed (advice_text ms model refusal) }
-    ensures no_document { (row column : ℕ) (message : List ℕ)
-        → AllPass is_printed (unread_text row column message) }
+    ensures place { (row column : ℕ) → AllPass is_printed (at_line row column) }
+    ensures no_document { (bytes message : List ℕ)
+        → AllPass is_printed (unread_text bytes message) }
 {}
 
 /// In a table that has a key which it may not have, such a key is found, and so is its value.

@@ -4,9 +4,14 @@
 mod advice;
 mod entry;
 mod found;
+mod hop;
 mod keys;
+mod known;
 pub mod laws;
+mod measured;
 mod mend;
+mod position;
+mod sentence;
 mod shown;
 mod sites;
 mod unread;
@@ -15,5 +20,6 @@ mod wanted;
 mod with;
 
 pub use advice::put_advice;
+pub use known::MOST_KNOWN;
 pub use shown::{MOST_QUOTED, MOST_SHOWN};
 pub use want::Want;

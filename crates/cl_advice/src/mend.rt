@@ -1,15 +1,17 @@
 //! The line of what to write instead.
 ghost use Rattle.std.specs.Prelude.{◌≡◌, ◌++◌, ◌==◌, ◌&&◌, nat_le, Some, codes, option_map, OnOk};
+ghost use Rattle.std.specs.Option.{option_copied};
 ghost use Rattle.toml.specs.View.{view, table_view};
-ghost use Rattle.cl_advice.specs.Mend.{runnable_key_mend, task_key_mend, top_key_mend, part_key_mend, unknown_mend, section_mend, array_mend, kind_mend, says_word, word_mend, code_mend, mend_text, mended_line, mend_line};
+ghost use Rattle.cl_advice.specs.Mend.{runnable_key_mend, task_key_mend, plural_mend, top_key_mend, part_key_mend, unknown_mend, section_mend, array_mend, kind_mend, says_word, word_mend, code_mend, mend_text, mended_line, mend_line};
 ghost use Rattle.cl_model.specs.declared.refusal.Code.TheVariants.{M4};
 ghost use Rattle.cl_model.specs.Reading.{version_in};
 ghost use Rattle.cl_advice.specs.Sites.{value_in};
 
+use crate::hop::put_handed;
 use crate::keys::{is_listed, runnable_keys, task_keys, unknown_key, version_in};
 use crate::sites::value_in;
 use crate::want::Want;
-use cl_model::{Code, Key, Part, Place, Refusal};
+use cl_model::{Code, Key, Part, Place, Refusal, SystemModel};
 use cl_text::Text;
 use cl_time::NoMemory;
 use toml::{Table, Value};
@@ -36,6 +38,21 @@ fn task_key(word: &str) -> &'static [u8]
     }
 }
 
+/// Says which header is meant by the name of a section with an `s` behind it.
+fn plural(word: &str) -> Option<&'static [u8]>
+    ensures { option_map (λ words. words.now) result ≡ plural_mend word.now }
+{
+    match word {
+        "cores" => Some(b"[[core]]"),
+        "stimuluss" => Some(b"[[stimulus]]"),
+        "labels" => Some(b"[[label]]"),
+        "tasks" => Some(b"[[task]]"),
+        "chains" => Some(b"[[chain]]"),
+        "requirements" => Some(b"[[requirement]]"),
+        _ => None,
+    }
+}
+
 /// Says what to write instead of an unknown key of the top level.
 fn top_key(word: &str) -> &'static [u8]
     ensures { result.now ≡ top_key_mend word.now }
@@ -43,7 +60,10 @@ fn top_key(word: &str) -> &'static [u8]
     if Key::Runnable.word() == word {
         b"a runnable begins with [[task.runnable]], after its [[task]]"
     } else {
-        b"take the key out, or write one of these"
+        match plural(word) {
+            Some(words) => words,
+            None => b"take the key out, or write one of these",
+        }
     }
 }
 
@@ -243,8 +263,17 @@ fn put_words(text: &mut Text, words: Option<&[u8]>) -> Result<(), NoMemory>
 }
 
 /// Appends the line of what to write instead of what is refused, if there is something.
-pub(crate) fn put_mend(text: &mut Text, table: &Table, refusal: Refusal) -> Result<(), NoMemory>
-    ensures { OnOk result (text.new ≡ text.old ++ mend_line (table_view table.now) refusal) }
+pub(crate) fn put_mend(
+    text: &mut Text,
+    table: &Table,
+    model: Option<&SystemModel>,
+    refusal: Refusal,
+) -> Result<(), NoMemory>
+    ensures { OnOk result
+        (text.new ≡ text.old ++ mend_line (table_view table.now) (option_copied model.entry) refusal) }
 {
-    put_words(text, words(table, refusal.place, refusal.code))
+    match refusal.code {
+        Code::M45 => put_handed(text, model, refusal.place),
+        _ => put_words(text, words(table, refusal.place, refusal.code)),
+    }
 }

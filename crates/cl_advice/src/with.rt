@@ -1,9 +1,8 @@
 //! The lines of the entries of a model with which a refused one clashes.
 ghost use Rattle.std.specs.Prelude.{◌≡◌, ◌<◌, ◌++◌, find, option_map, OnOk};
 ghost use Rattle.std.specs.Option.{option_and_then, option_copied};
-ghost use Rattle.cl_model.specs.Place.{part_text};
-ghost use Rattle.cl_model.specs.Named.{has_name, all_runnables};
-ghost use Rattle.cl_advice.specs.With.{item_if, with_line, task_of_place, runnable_of_place, labels_under, label_of_place, shares_priority, rival_of, rival_line, writer_of, writer_line, step_name, handed_lines, lines_with, with_lines};
+ghost use Rattle.cl_model.specs.Named.{has_name};
+ghost use Rattle.cl_advice.specs.With.{item_if, with_line, task_of_place, runnable_of_place, labels_under, label_of_place, shares_priority, rival_of, is_sought, found_by, writer_of, step_name, handed_lines, lines_with, with_lines};
 
 use cl_model::{Code, Key, List, Name, Part, Place, Refusal, RunnableDef, SystemModel, TaskDef};
 use cl_text::Text;
@@ -27,7 +26,7 @@ fn put_with(text: &mut Text, section: &[u8], name: Option<&Name>) -> Result<(), 
 }
 
 /// Returns the item of a list with this number, if there is a number and such an item.
-fn item_if<T>(items: &List<T>, number: Option<u32>) -> Option<&T>
+pub(crate) fn item_if<T>(items: &List<T>, number: Option<u32>) -> Option<&T>
     ensures { option_copied result ≡ item_if items.now number }
 {
     match number {
@@ -76,6 +75,17 @@ fn task_name(model: &SystemModel, place: Place) -> Option<&Name>
     }
 }
 
+/// Finds the name of the stimulus of the task at a place.
+fn stimulus_of(model: &SystemModel, place: Place) -> Option<&Name>
+    ensures { option_copied result ≡ option_map
+        (λ task. task.stimulus) (item_if model.now.tasks place.item) }
+{
+    match item_if(&model.tasks, place.item) {
+        Some(task) => Some(&task.stimulus),
+        None => None,
+    }
+}
+
 fn chain_name(model: &SystemModel, place: Place) -> Option<&Name>
     ensures { option_copied result ≡ option_map
         (λ chain. chain.name) (item_if model.now.chains place.item) }
@@ -107,7 +117,7 @@ fn name_of(runnable: Option<&RunnableDef>) -> Option<&Name>
 }
 
 /// Returns the runnable of a model that contains a place.
-fn runnable_of(model: &SystemModel, place: Place) -> Option<&RunnableDef>
+pub(crate) fn runnable_of(model: &SystemModel, place: Place) -> Option<&RunnableDef>
     ensures { option_copied result ≡ runnable_of_place model.now place }
 {
     match item_if(&model.tasks, place.item) {
@@ -173,21 +183,49 @@ fn writes(runnable: &RunnableDef, label: &Name) -> bool
     runnable.writes.iter().any(|written| label == written)
 }
 
-/// Finds the first of the runnables that writes a label.
-fn writer_among<'a>(runnables: &'a [RunnableDef], label: &Name) -> Option<&'a RunnableDef>
-    ensures { option_copied result ≡ find
-        (λ runnable. has_name label.now runnable.writes) runnables.now }
-{
-    runnables.iter().find(|runnable| writes(runnable, label))
+/// By what a runnable is sought.
+#[derive(Clone, Copy)]
+pub(crate) enum Sought {
+    /// The first that writes a label of this name.
+    Writer,
+    /// The first of this name.
+    Named,
 }
 
-/// Finds the first runnable of a model that writes a label.
-fn writer_of<'a>(model: &'a SystemModel, label: &Name) -> Option<&'a RunnableDef>
-    ensures { option_copied result ≡ writer_of model.now label.now }
+/// Whether a runnable is what is sought by this name.
+fn is_sought(sought: Sought, name: &Name, runnable: &RunnableDef) -> bool
+    ensures { result ≡ is_sought sought name.now runnable.now }
+{
+    match sought {
+        Sought::Writer => writes(runnable, name),
+        Sought::Named => *name == runnable.name,
+    }
+}
+
+/// Finds the first of these runnables that is sought by this name.
+fn found_among<'a>(
+    runnables: &'a [RunnableDef],
+    sought: Sought,
+    name: &Name,
+) -> Option<&'a RunnableDef>
+    ensures { option_copied result ≡ find (is_sought sought name.now) runnables.now }
+{
+    runnables
+        .iter()
+        .find(|runnable| is_sought(sought, name, runnable))
+}
+
+/// Finds the first runnable of a model that is sought by this name.
+pub(crate) fn found_by<'a>(
+    model: &'a SystemModel,
+    sought: Sought,
+    name: &Name,
+) -> Option<&'a RunnableDef>
+    ensures { option_copied result ≡ found_by model.now sought name.now }
 {
     for task in model.tasks.as_slice() {
-        if let Some(writer) = writer_among(task.runnables.as_slice(), label) {
-            return Some(writer);
+        if let Some(runnable) = found_among(task.runnables.as_slice(), sought, name) {
+            return Some(runnable);
         }
     }
     None
@@ -199,17 +237,14 @@ fn writer_name(model: &SystemModel, place: Place) -> Option<&Name>
         ≡ option_map (λ writer. writer.name) (option_and_then (writer_of model.now) (label_of_place model.now place)) }
 {
     match label_of(model, place) {
-        Some(label) => match writer_of(model, label) {
-            Some(writer) => Some(&writer.name),
-            None => None,
-        },
+        Some(label) => name_of(found_by(model, Sought::Writer, label)),
         None => None,
     }
 }
 
 /// Returns the name of a step of the chain at a place: the step whose number is the spot of the
 /// place plus `behind`.
-fn step_name(model: &SystemModel, place: Place, behind: usize) -> Option<&Name>
+pub(crate) fn step_name(model: &SystemModel, place: Place, behind: usize) -> Option<&Name>
     requires { behind < 2 }
     ensures { option_copied result
         ≡ step_name model.now place behind }
@@ -245,6 +280,7 @@ fn put_lines_with(text: &mut Text, model: &SystemModel, refusal: Refusal) -> Res
         Code::M25 => put_with(text, b"chain", chain_name(model, place)),
         Code::M26 => put_with(text, b"requirement", requirement_name(model, place)),
         Code::M31 => put_with(text, b"task", rival_name(model, place)),
+        Code::M33 => put_with(text, b"stimulus", stimulus_of(model, place)),
         Code::M39 => put_with(text, b"label", label_of(model, place)),
         Code::M40 => put_with(text, b"runnable", writer_name(model, place)),
         Code::M45 => put_hop(text, model, place),

@@ -1,5 +1,5 @@
 -- What an engineer should know of a model that is accepted.
-use Rattle.std.specs.Prelude.{ℕ, Bool, true, false, cond, not, ◌&&◌, nat_lt, List, [], ◌∷◌, ◌++◌, length, filter, codes}
+use Rattle.std.specs.Prelude.{ℕ, ◌*◌, Bool, true, false, cond, not, ◌&&◌, nat_lt, List, [], ◌∷◌, ◌++◌, length, filter, codes, decimal}
 use Rattle.std.specs.List.{flat_map, list_any, range_with_len}
 use Rattle.cl_text.specs.Line.{line}
 use Rattle.cl_model.specs.declared.model.SystemModel.{SystemModel}
@@ -10,7 +10,8 @@ use Rattle.cl_model.specs.declared.stimulus.StimulusKind.TheVariants.{Periodic, 
 use Rattle.cl_model.specs.declared.task.RunnableDef.{RunnableDef}
 use Rattle.cl_model.specs.declared.task.TaskDef.{TaskDef}
 use Rattle.cl_model.specs.Named.{same_name, has_name, all_runnables}
-use Rattle.cl_model.specs.ByNumber.{core_at, task_at}
+use Rattle.cl_model.specs.ByNumber.{core_at, task_at, stimulus_of}
+use Rattle.cl_model.specs.Timing.{least_distance}
 use Rattle.cl_runs.specs.SystemOf.{system_of}
 use Rattle.cl_bound.specs.Answers.{is_late, answer_at}
 use Rattle.cl_tight.specs.TightAnswers.{tight_answers_of}
@@ -79,13 +80,33 @@ apart_from stimulus (first ∷ others) = flat_map (apart_line stimulus first) ot
 abbrev pub apart_lines : SystemModel → StimulusDef → List ℕ
 apart_lines model stimulus = cond (is_of_sporadic_kind stimulus.kind) (apart_from stimulus (filter (names_stimulus stimulus) model.tasks)) []
 
+-- ---- runnables
+
+-- a time is more than half of a distance
+abbrev pub is_more_than_half : (greatest distance : ℕ) → Bool
+is_more_than_half greatest distance = nat_lt distance (2 * greatest)
+
+unfoldable pub time_words : (distance : ℕ) → RunnableDef → List ℕ
+time_words distance runnable = codes "time " ++ runnable.name ++ codes " " ++ decimal runnable.greatest ++ codes " of " ++ decimal distance
+
+-- a runnable that takes more than half of the least distance of its task
+abbrev pub time_line : (distance : ℕ) → RunnableDef → List ℕ
+time_line distance runnable = cond (is_more_than_half runnable.greatest distance) (line (time_words distance runnable)) []
+
+abbrev pub time_lines_of : SystemModel → (task : ℕ) → List ℕ
+time_lines_of model task = flat_map (time_line (least_distance (stimulus_of model task))) (task_at model task).runnables
+
+abbrev pub time_lines : SystemModel → List ℕ
+time_lines model = flat_map (time_lines_of model) (range_with_len 0 (length model.tasks))
+
 -- ---- all of it
 
--- what `check` says of a model that is accepted
+-- what `check` says of a model that is accepted: first what matters most
 unfoldable pub accepted_text : SystemModel → List ℕ
 accepted_text model =
-    line (codes "chainlat check 1") ++ line (codes "accepted")
-    ++ all_label_lines model
+    line (codes "chainlat check 2") ++ line (codes "accepted")
     ++ flat_map (overloaded_line model) (range_with_len 0 (length model.cores))
     ++ flat_map (late_task_line model) (range_with_len 0 (length model.tasks))
     ++ flat_map (apart_lines model) model.stimuli
+    ++ time_lines model
+    ++ all_label_lines model

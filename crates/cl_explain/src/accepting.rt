@@ -10,6 +10,7 @@ ghost use Rattle.cl_explain.specs.Accepted.{overloaded_line, late_task_line, all
 
 use crate::labels::{LabelUse, Marks, put_labels, put_named};
 use crate::loads::{MILLION, load_of_core};
+use crate::times::put_times;
 use cl_model::{StimulusDef, StimulusKind, TaskDef, ValidModel};
 use cl_report::put_name;
 use cl_text::Text;
@@ -18,11 +19,12 @@ use cl_time::{NoMemory, Steps};
 use std::alloc::Global;
 use std::sync::ledger::Ledger;
 
-/// Builds the text on an accepted model: a title, and the line `accepted`; the labels that are only
-/// read, those that are only written, and those that are neither; the cores whose tasks take more
-/// than all of their time, even with each task's load rounded down; the tasks that are late by
-/// phases; and, for each sporadic stimulus, its first task paired with each of its other tasks,
-/// since the jobs of the two don't arrive together. Each kind of line is in file order.
+/// Builds the text on an accepted model: a title, and the line `accepted`; the cores whose tasks
+/// take more than all of their time, even with each task's load rounded down; the tasks that are
+/// late by phases; for each sporadic stimulus, its first task paired with each of its other tasks,
+/// since the jobs of the two don't arrive together; the runnables that take more than half of the
+/// least distance of their task; and the labels that are only read, those that are only written,
+/// and those that are neither. Each kind of line is in file order.
 ///
 /// It counts at most a step for each task. `NoMemory` comes where there is no memory for the names,
 /// the text or a list of tasks; it leaves nothing.
@@ -35,11 +37,12 @@ pub fn accepted<L: Ledger>(
     ensures steps { steps.new ≤ steps.old + length model.now.tasks }
 {
     let mut text = Text::new(alloc);
-    text.put(b"chainlat check 1\naccepted\n")?;
-    put_all_labels(alloc, &mut text, model)?;
+    text.put(b"chainlat check 2\naccepted\n")?;
     put_overloaded(&mut text, model)?;
     put_late(alloc, &mut text, model, steps)?;
     put_apart(&mut text, model)?;
+    put_times(&mut text, model)?;
+    put_all_labels(alloc, &mut text, model)?;
     Ok(text)
 }
 

@@ -13,6 +13,7 @@ mod loads;
 mod numbers;
 mod parts;
 mod tight;
+mod times;
 
 pub use accepting::accepted;
 pub use explaining::explain;

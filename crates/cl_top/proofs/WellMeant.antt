@@ -24,9 +24,11 @@ use Rattle.cl_runs.specs.SystemOf.{system_of}
 use Rattle.cl_engine.specs.declared.outcome.Outcome.{Outcome}
 use Rattle.cl_top.specs.declared.command.Command.{Command}
 use Rattle.cl_top.specs.declared.command.Command.TheVariants as command
-use Rattle.cl_top.specs.declared.commands.help.TheConstants.{HELP, VERSION}
-use Rattle.cl_top.specs.Command.{files_read, upto, some_tasks, any_seed, whole, with_two_numbers, with_subject, asks_help, asks_version, by_verb, command_of, AsksForFew}
+use Rattle.cl_help.specs.declared.overview.TheConstants.{HELP}
+use Rattle.cl_top.specs.declared.commands.help.TheConstants.{VERSION}
+use Rattle.cl_top.specs.Command.{files_read, upto, some_tasks, any_seed, whole, with_two_numbers, with_subject, with_topic, asks_help, asks_version, by_verb, command_of, AsksForFew}
 use Rattle.cl_top.specs.Commands.{meaning_of, of_run}
+use Rattle.cl_help.specs.Topic.{about}
 use Rattle.cl_top.proofs.WellMeant.Alone.{saying_well, generating_well, surveying_well}
 use Rattle.cl_top.proofs.WellMeant.Apply.{applying_well}
 use Rattle.cl_top.proofs.WellMeant.Check.{checking_well}
@@ -38,7 +40,7 @@ use Rattle.cl_top.proofs.WellMeant.Simulate.{simulating_well}
 use Rattle.cl_top.proofs.WellMeant.Why.{reasoning_well}
 use Rattle.cl_top.proofs.WellMeant.Witness.{witnessing_well}
 use Rattle.cl_top.proofs.Meanings.{IsMeantWell}
-use Rattle.cl_top.proofs.Words.{IsGood, whole_good, numbered_good, subject_good}
+use Rattle.cl_top.proofs.Words.{IsGood, whole_good, numbered_good, subject_good, topic_good}
 
 pub meant_well : (asked : Command) → IsMeantWell (files_read asked) (meaning_of asked) (AsksForFew asked)
 unfolding meaning_of AsksForFew
@@ -62,6 +64,7 @@ meant_well command.Check = checking_well
 meant_well (command.Generate seed tasks) = generating_well seed tasks
 meant_well (command.Survey seed tasks) = surveying_well seed tasks
 meant_well command.Help = saying_well HELP.now
+meant_well (command.HelpOn topic) = saying_well (about topic)
 meant_well command.Version = saying_well VERSION.now
 
 -- what comes of a legal run is one outcome
@@ -77,7 +80,8 @@ of_run_same asked model valid run legal one other h k = absurd h
 module _ (P : Option Command → Type 0) (words : List (List ℕ)) (of_whole : (asked : Command) → AsksForFew asked → P (whole asked words))
     (witness : P (with_subject command.Witness words)) (why : P (with_subject command.Why words))
     (simulate : P (with_two_numbers command.Simulate 2 (upto MOST_RUN_TICKS) any_seed words)) (draw : P (with_two_numbers command.Draw 3 (upto MOST_WINDOW) (upto MOST_WINDOW) words))
-    (generate : P (with_two_numbers command.Generate 1 any_seed some_tasks words)) (survey : P (with_two_numbers command.Survey 1 any_seed some_tasks words)) (none : P None) where
+    (generate : P (with_two_numbers command.Generate 1 any_seed some_tasks words)) (survey : P (with_two_numbers command.Survey 1 any_seed some_tasks words))
+    (help : P (with_topic words)) (none : P None) where
   each_verb : (verb : List ℕ) → P (by_verb verb words)
   unfolding AsksForFew
   each_verb verb =
@@ -90,6 +94,7 @@ module _ (P : Option Command → Type 0) (words : List (List ℕ)) (of_whole : (
       cond_both (bytes_eq verb (codes "tighten")) _ _ P (λ _. of_whole command.Tighten tt) (λ _.
       cond_both (bytes_eq verb (codes "verify")) _ _ P (λ _. of_whole command.Verify tt) (λ _.
       cond_both (bytes_eq verb (codes "explain")) _ _ P (λ _. of_whole command.Explain tt) (λ _.
+      cond_both (bytes_eq verb (codes "check")) _ _ P (λ _. of_whole command.Check tt) (λ _.
       cond_both (bytes_eq verb (codes "witness")) _ _ P (λ _. witness) (λ _.
       cond_both (bytes_eq verb (codes "why")) _ _ P (λ _. why) (λ _.
       cond_both (bytes_eq verb (codes "simulate")) _ _ P (λ _. simulate) (λ _.
@@ -99,9 +104,9 @@ module _ (P : Option Command → Type 0) (words : List (List ℕ)) (of_whole : (
       cond_both (bytes_eq verb (codes "apply")) _ _ P (λ _. of_whole command.Apply tt) (λ _.
       cond_both (bytes_eq verb (codes "generate")) _ _ P (λ _. generate) (λ _.
       cond_both (bytes_eq verb (codes "survey")) _ _ P (λ _. survey) (λ _.
-      cond_both (bytes_eq verb (codes "check")) _ _ P (λ _. of_whole command.Check tt) (λ _.
+      cond_both (bytes_eq verb (codes "help")) _ _ P (λ _. help) (λ _.
       cond_both (asks_help verb) _ _ P (λ _. of_whole command.Help tt) (λ _.
-      cond_both (asks_version verb) _ _ P (λ _. of_whole command.Version tt) (λ _. none)))))))))))))))))))))
+      cond_both (asks_version verb) _ _ P (λ _. of_whole command.Version tt) (λ _. none))))))))))))))))))))))
 
 by_words : (words : List (List ℕ)) → IsGood AsksForFew words (command_of words)
 unfolding command_of AsksForFew
@@ -115,6 +120,7 @@ by_words (verb ∷ rest) =
     (numbered_good AsksForFew command.Draw (upto MOST_WINDOW) (upto MOST_WINDOW) 3 (λ n m small low high. (high, omega arith)) words)
     (numbered_good AsksForFew command.Generate any_seed some_tasks 1 (λ n m small low high. ((low, high), omega arith)) words)
     (numbered_good AsksForFew command.Survey any_seed some_tasks 1 (λ n m small low high. ((low, high), omega arith)) words)
+    (topic_good AsksForFew tt (λ topic. tt) verb rest)
     tt verb
 
 module _ (words : List (List ℕ)) (asked : Command) (is : command_of words ≡ Some asked) where

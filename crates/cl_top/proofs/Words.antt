@@ -1,6 +1,7 @@
 -- What words ask for that are a command: few enough, and a word for each file.
 use Rattle.std.proofs.Common.{◌≡◌, ℕ, zero, suc, ◌+◌, ◌<◌, ◌≤◌, leb, List, [], ◌∷◌, drop, Option, Some, None, refl, sym, ap, ◌∙◌, length, arith}
-use Rattle.std.specs.Prelude.{◌&&◌, ◌==◌, decimal}
+use Rattle.std.specs.Prelude.{◌&&◌, ◌==◌, decimal, unwrap_or}
+use Rattle.std.specs.List.{slice_get}
 use Rattle.std.specs.Option.{option_map}
 use Rattle.std.specs.Str.{bytes_eq}
 use Rattle.std.proofs.lemmas.Bool.{cond_both, leb-true, eqb-true}
@@ -14,7 +15,10 @@ use Rattle.cl_top.specs.declared.command.Command.{Command}
 use Rattle.cl_model.specs.Name.{is_name}
 use Rattle.cl_top.specs.declared.subject.What.{What}
 use Rattle.cl_top.specs.Subject.{what_of}
-use Rattle.cl_top.specs.Command.{files_read, whole, with_two_numbers, named_by, subject_of, with_subject}
+use Rattle.cl_top.specs.declared.command.Command.TheVariants as command
+use Rattle.cl_help.specs.declared.topic.Topic.{Topic}
+use Rattle.cl_help.specs.Topic.{topic_of}
+use Rattle.cl_top.specs.Command.{files_read, whole, with_two_numbers, named_by, subject_of, with_subject, with_topic, by_verb, command_of}
 
 -- few tasks, and some
 abbrev pub IsFew : (tasks : ℕ) → Type 0
@@ -94,3 +98,36 @@ module _ (Few : Command → Type 0) (asked : What → List ℕ → Command)
 
   pub subject_good : IsGood Few words (with_subject asked words)
   subject_good = subject_left (drop 2 words) refl
+
+-- `help` alone, and of a command
+module _ (Few : Command → Type 0) (all : Few command.Help) (each : (topic : Topic) → Few (command.HelpOn topic)) where
+  one_good : (words : List (List ℕ)) → 1 ≤ length words → (topic : Option Topic) → IsGood Few words (option_map (λ topic. command.HelpOn topic) topic)
+  one_good words long None = tt
+  one_good words long (Some topic) = (each topic, omega (arith, long))
+
+  pub topic_good : (verb : List ℕ) (rest : List (List ℕ)) → IsGood Few (verb ∷ rest) (with_topic (verb ∷ rest))
+  topic_good verb [] = (all, omega arith)
+  topic_good verb (word ∷ []) = one_good (verb ∷ word ∷ []) (omega arith) (topic_of word)
+  topic_good verb (word ∷ other ∷ rest) = tt
+
+some_same : (one other : List ℕ) → Some one ≡ Some other → one ≡ other
+some_same one other is = ap (λ (it : Option (List ℕ)). unwrap_or it one) is
+
+-- two words, of which the second is the verb of a command
+pub topic_read : (words : List (List ℕ)) (verb : List ℕ) → length words ≡ 2 → slice_get words 1 ≡ Some verb
+    → with_topic words ≡ option_map (λ topic. command.HelpOn topic) (topic_of verb)
+topic_read [] verb two is = absurd (omega (arith, two))
+topic_read (help ∷ []) verb two is = absurd (omega (arith, two))
+topic_read (help ∷ word ∷ []) verb two is = ap (λ (v : List ℕ). option_map (λ topic. command.HelpOn topic) (topic_of v)) (some_same word verb is)
+topic_read (help ∷ word ∷ other ∷ rest) verb two is = absurd (omega (arith, two))
+
+-- words that begin with a verb, and none
+pub command_read : (words : List (List ℕ)) (verb : List ℕ) → slice_get words 0 ≡ Some verb → command_of words ≡ by_verb verb words
+unfolding command_of
+command_read [] verb is = absurd (cc)
+command_read (first ∷ rest) verb is = ap (λ (v : List ℕ). by_verb v (first ∷ rest)) (some_same first verb is)
+
+pub none_read : (words : List (List ℕ)) → slice_get words 0 ≡ None → command_of words ≡ None
+unfolding command_of
+none_read [] is = refl
+none_read (first ∷ rest) is = absurd (cc)

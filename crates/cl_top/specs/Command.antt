@@ -17,6 +17,7 @@ use Rattle.cl_top.specs.declared.command.Command.TheVariants as command
 use Rattle.cl_top.specs.declared.command.TheConstants.{TRACE_LIMIT}
 use Rattle.cl_top.specs.declared.subject.What.{What}
 use Rattle.cl_top.specs.Subject.{what_of}
+use Rattle.cl_help.specs.Topic.{topic_of}
 
 -- ---- the files of each
 
@@ -30,6 +31,7 @@ files_read command.Apply = files.ModelAnd FILE_LIMIT
 files_read (command.Generate seed tasks) = files.Nothing
 files_read (command.Survey seed tasks) = files.Nothing
 files_read command.Help = files.Nothing
+files_read (command.HelpOn topic) = files.Nothing
 files_read command.Version = files.Nothing
 files_read asked = files.Model
 
@@ -68,14 +70,42 @@ subject_of words = None
 abbrev pub with_subject : (asked : What → List ℕ → Command) → List (List ℕ) → Option Command
 with_subject asked words = option_map (λ subject. asked subject.0 subject.1) (subject_of (drop 2 words))
 
--- the words that ask for help, and for the version
+-- `help` alone, or with the verb of a command behind it
+abbrev pub with_topic : List (List ℕ) → Option Command
+with_topic (help ∷ []) = Some command.Help
+with_topic (help ∷ verb ∷ []) = option_map (λ topic. command.HelpOn topic) (topic_of verb)
+with_topic words = None
+
+-- the options that ask for help, and the words that ask for the version
 abbrev pub asks_help : List ℕ → Bool
-asks_help verb = bytes_eq verb (codes "help") || bytes_eq verb (codes "--help") || bytes_eq verb (codes "-h")
+asks_help verb = bytes_eq verb (codes "--help") || bytes_eq verb (codes "-h")
 
 abbrev pub asks_version : List ℕ → Bool
 asks_version verb = bytes_eq verb (codes "version") || bytes_eq verb (codes "--version")
 
--- the command that words spell, by their verb
+-- the command on the program itself that words spell, by the first of them
+abbrev pub by_word : (verb : List ℕ) (words : List (List ℕ)) → Option Command
+by_word verb words =
+    if bytes_eq verb (codes "help") then with_topic words
+    else if asks_help verb then whole command.Help words
+    else if asks_version verb then whole command.Version words
+    else None
+
+-- the command on two files, on numbers or on a name that words spell, by their verb
+abbrev pub by_other_verb : (verb : List ℕ) (words : List (List ℕ)) → Option Command
+by_other_verb verb words =
+    if bytes_eq verb (codes "witness") then with_subject command.Witness words
+    else if bytes_eq verb (codes "why") then with_subject command.Why words
+    else if bytes_eq verb (codes "simulate") then with_two_numbers command.Simulate 2 (upto MOST_RUN_TICKS) any_seed words
+    else if bytes_eq verb (codes "replay") then whole command.Replay words
+    else if bytes_eq verb (codes "draw") then with_two_numbers command.Draw 3 (upto MOST_WINDOW) (upto MOST_WINDOW) words
+    else if bytes_eq verb (codes "edit") then whole command.Edit words
+    else if bytes_eq verb (codes "apply") then whole command.Apply words
+    else if bytes_eq verb (codes "generate") then with_two_numbers command.Generate 1 any_seed some_tasks words
+    else if bytes_eq verb (codes "survey") then with_two_numbers command.Survey 1 any_seed some_tasks words
+    else by_word verb words
+
+-- the command that words spell, by their verb: on a model alone, or another
 abbrev pub by_verb : (verb : List ℕ) (words : List (List ℕ)) → Option Command
 by_verb verb words =
     if bytes_eq verb (codes "analyse") then whole command.Analyse words
@@ -87,19 +117,8 @@ by_verb verb words =
     else if bytes_eq verb (codes "tighten") then whole command.Tighten words
     else if bytes_eq verb (codes "verify") then whole command.Verify words
     else if bytes_eq verb (codes "explain") then whole command.Explain words
-    else if bytes_eq verb (codes "witness") then with_subject command.Witness words
-    else if bytes_eq verb (codes "why") then with_subject command.Why words
-    else if bytes_eq verb (codes "simulate") then with_two_numbers command.Simulate 2 (upto MOST_RUN_TICKS) any_seed words
-    else if bytes_eq verb (codes "replay") then whole command.Replay words
-    else if bytes_eq verb (codes "draw") then with_two_numbers command.Draw 3 (upto MOST_WINDOW) (upto MOST_WINDOW) words
-    else if bytes_eq verb (codes "edit") then whole command.Edit words
-    else if bytes_eq verb (codes "apply") then whole command.Apply words
-    else if bytes_eq verb (codes "generate") then with_two_numbers command.Generate 1 any_seed some_tasks words
-    else if bytes_eq verb (codes "survey") then with_two_numbers command.Survey 1 any_seed some_tasks words
     else if bytes_eq verb (codes "check") then whole command.Check words
-    else if asks_help verb then whole command.Help words
-    else if asks_version verb then whole command.Version words
-    else None
+    else by_other_verb verb words
 
 -- the command that words spell, or none
 unfoldable pub command_of : List (List ℕ) → Option Command

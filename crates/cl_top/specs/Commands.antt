@@ -27,7 +27,8 @@ use Rattle.cl_engine.specs.Done.{IsDone}
 use Rattle.cl_engine.specs.Language.{Language}
 use Rattle.cl_top.specs.declared.command.Command.{Command}
 use Rattle.cl_top.specs.declared.command.Command.TheVariants as command
-use Rattle.cl_top.specs.declared.commands.help.TheConstants.{HELP, VERSION}
+use Rattle.cl_help.specs.declared.overview.TheConstants.{HELP}
+use Rattle.cl_top.specs.declared.commands.help.TheConstants.{VERSION}
 use Rattle.cl_top.specs.Command.{command_of, files_read}
 use Rattle.cl_top.specs.Commands.Apply.{applying}
 use Rattle.cl_top.specs.Commands.Check.{checking}
@@ -39,6 +40,7 @@ use Rattle.cl_top.specs.Commands.Why.{reasoning}
 use Rattle.cl_top.specs.Commands.Witness.{witnessing}
 use Rattle.cl_top.specs.Headline.{IsSafeReportOf, AreSafeCuts, IsSafeTightReport}
 use Rattle.cl_top.specs.Meaning.{Meaning, printing, on_nothing, on_model, no_step, any_steps, at_most, model_steps, task_steps, entry_steps, no_promise, promises, equal, of_one_model, WritesTheSame}
+use Rattle.cl_help.specs.Topic.{about}
 use Rattle.cl_top.specs.Verified.{IsVerifiedAs, IsShownInTime}
 
 -- a command without a file that writes this text
@@ -90,6 +92,7 @@ meaning_of (command.Survey seed tasks) = record {
   same = equal;
 }
 meaning_of command.Help = saying HELP.now
+meaning_of (command.HelpOn topic) = saying (about topic)
 meaning_of command.Version = saying VERSION.now
 
 -- what a command comes to, where its files hold this

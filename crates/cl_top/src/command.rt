@@ -1,12 +1,15 @@
 //! The commands: the words of each, and the files that it needs.
 ghost use Rattle.std.specs.Prelude.{◌≡◌, drop};
+ghost use Rattle.std.specs.Option.{option_map};
+ghost use Rattle.cl_help.specs.Topic.{topic_of};
 ghost use Rattle.cl_gen.specs.declared.limits.TheConstants.{MOST_RUN_TICKS};
 ghost use Rattle.cl_picture.specs.declared.window.TheConstants.{MOST_WINDOW};
-ghost use Rattle.cl_top.specs.Command.{files_read, upto, some_tasks, any_seed, whole, with_two_numbers, subject_of, with_subject, command_of};
+ghost use Rattle.cl_top.specs.Command.{files_read, upto, some_tasks, any_seed, whole, with_two_numbers, subject_of, with_subject, with_topic, by_word, by_other_verb, by_verb, command_of};
 
 use crate::subject::{What, read_what};
 use cl_engine::{Bounds, FILE_LIMIT, Files, two_numbers};
 use cl_gen::MOST_RUN_TICKS;
+use cl_help::{Topic, read_topic};
 use cl_io::Words;
 use cl_model::{MOST_TASKS, Name};
 use cl_picture::MOST_WINDOW;
@@ -66,6 +69,8 @@ pub enum Command {
     Check,
     /// `help`: says what the commands are.
     Help,
+    /// `help COMMAND`: says what one command is.
+    HelpOn(Topic),
     /// `version`: says which version of the program this is.
     Version,
 }
@@ -79,8 +84,11 @@ pub(crate) fn files_read(command: &Command) -> Files
         Command::Check => Files::Content,
         Command::Replay | Command::Draw { .. } => Files::ModelAnd { limit: TRACE_LIMIT },
         Command::Edit | Command::Apply => Files::ModelAnd { limit: FILE_LIMIT },
-        Command::Generate { .. } | Command::Survey { .. } | Command::Help | Command::Version =>
-            Files::Nothing,
+        Command::Generate { .. }
+        | Command::Survey { .. }
+        | Command::Help
+        | Command::HelpOn(_)
+        | Command::Version => Files::Nothing,
         _ => Files::Model,
     }
 }
@@ -107,7 +115,17 @@ const fn some_tasks() -> Bounds
 pub(crate) fn read_command(words: &Words) -> Option<Command>
     ensures { result ≡ command_of words.now }
 {
-    match words.at(0)? {
+    match words.at(0) {
+        Some(verb) => read_by_verb(words, verb),
+        None => None,
+    }
+}
+
+/// Reads the command that the words spell, by their verb: one on a model alone, or another.
+fn read_by_verb(words: &Words, verb: &str) -> Option<Command>
+    ensures { result ≡ by_verb verb.now words.now }
+{
+    match verb {
         "analyse" => read_whole(words, Command::Analyse),
         "migrate" => read_whole(words, Command::Migrate),
         "cut" => read_whole(words, Command::Cut),
@@ -117,6 +135,17 @@ pub(crate) fn read_command(words: &Words) -> Option<Command>
         "tighten" => read_whole(words, Command::Tighten),
         "verify" => read_whole(words, Command::Verify),
         "explain" => read_whole(words, Command::Explain),
+        "check" => read_whole(words, Command::Check),
+        verb => read_other(words, verb),
+    }
+}
+
+/// Reads a command on two files, on numbers or on a name, by its verb, or one on the program
+/// itself.
+fn read_other(words: &Words, verb: &str) -> Option<Command>
+    ensures { result ≡ by_other_verb verb.now words.now }
+{
+    match verb {
         "witness" => read_witness(words),
         "why" => read_why(words),
         "simulate" => read_simulate(words),
@@ -126,8 +155,17 @@ pub(crate) fn read_command(words: &Words) -> Option<Command>
         "apply" => read_whole(words, Command::Apply),
         "generate" => read_generate(words),
         "survey" => read_survey(words),
-        "check" => read_whole(words, Command::Check),
-        "help" | "--help" | "-h" => read_whole(words, Command::Help),
+        verb => read_about(words, verb),
+    }
+}
+
+/// Reads a command on the program itself, by the first of the words.
+fn read_about(words: &Words, verb: &str) -> Option<Command>
+    ensures { result ≡ by_word verb.now words.now }
+{
+    match verb {
+        "help" => read_help(words),
+        "--help" | "-h" => read_whole(words, Command::Help),
         "version" | "--version" => read_whole(words, Command::Version),
         _ => None,
     }
@@ -142,6 +180,32 @@ fn read_whole(words: &Words, asked: Command) -> Option<Command>
         Some(asked)
     } else {
         None
+    }
+}
+
+/// Finds what `help` tells of by this verb.
+fn help_on(verb: &str) -> Option<Command>
+    ensures { result ≡ option_map (λ topic. Command.HelpOn topic) (topic_of verb.now) }
+{
+    match read_topic(verb) {
+        Some(topic) => Some(Command::HelpOn(topic)),
+        None => None,
+    }
+}
+
+/// Reads `help`, alone or with the verb of a command behind it.
+fn read_help(words: &Words) -> Option<Command>
+    ensures { result ≡ with_topic words.now }
+{
+    if words.len() == 1 {
+        return Some(Command::Help);
+    }
+    if words.len() != 2 {
+        return None;
+    }
+    match words.at(1) {
+        Some(verb) => help_on(verb),
+        None => None,
     }
 }
 

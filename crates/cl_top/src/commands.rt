@@ -40,7 +40,7 @@ use edit::edited;
 use explain::explained;
 use generate::generated;
 use headroom::headroom;
-use help::{helped, named_version};
+use help::{helped, helped_on, named_version};
 use margin::margined;
 use migrate::migrated;
 use order::ordered;
@@ -121,6 +121,7 @@ fn answered<L: Ledger>(
         Command::Generate { seed, tasks } => generated(alloc, seed, tasks),
         Command::Survey { seed, tasks } => surveyed(alloc, seed, tasks, steps),
         Command::Help => helped(alloc),
+        Command::HelpOn(topic) => helped_on(alloc, topic),
         Command::Version => named_version(alloc),
     }
 }

@@ -9,6 +9,7 @@ mod running;
 mod subject;
 
 pub use cl_engine::{FILE_LIMIT, FileShelf, OutSink, Outcome, status};
+pub use cl_help::Topic;
 pub use command::{Command, TRACE_LIMIT};
 pub use running::{run, start};
 pub use subject::What;

@@ -1,11 +1,10 @@
 -- `check MODEL`: what to mend in a model file that is refused, or what to know of one that is accepted.
 use Rattle.std.specs.Prelude.{◌≡◌, ◌⊎◌, ℕ, ◌+◌, ◌≤◌, List, length, Option, Some, None, Result, Ok, Err}
-use Rattle.toml.specs.Data.{Members}
 use Rattle.cl_model.specs.declared.model.SystemModel.{SystemModel}
 use Rattle.cl_model.specs.declared.refusal.Refusal.{Refusal}
-use Rattle.cl_model.specs.Reading.{document_of, model_of}
+use Rattle.cl_model.specs.Reading.{model_of}
 use Rattle.cl_model.specs.Validity.{refusal_of, IsValid}
-use Rattle.cl_advice.specs.Advice.{AddsUnread, AddsAdvice}
+use Rattle.cl_advice.specs.Advice.{AddsAdvice}
 use Rattle.cl_explain.specs.Accepted.{accepted_text}
 use Rattle.cl_explain.specs.Promises.{IsSafeAcceptance}
 use Rattle.cl_engine.specs.declared.outcome.Outcome.{Outcome}
@@ -15,30 +14,34 @@ use Rattle.cl_engine.specs.Done.{HasStatusAndText, IsDone}
 use Rattle.cl_engine.specs.Outcome.{refusal_line}
 use Rattle.cl_top.specs.Meaning.{Meaning, on_bytes}
 
--- the line of a refusal, and behind it what to mend in the document; of the model that it means, where it has one
-abbrev pub IsAdvised : Option Members → Option SystemModel → Refusal → Outcome → Type 0
-IsAdvised document model refusal found = HasStatusAndText MODEL_REFUSED (AddsAdvice document model refusal (refusal_line refusal)) found
+-- the line of a refusal, and behind it what to mend in the file; of the model that it means, where it has one
+abbrev pub IsAdvised : (bytes : List ℕ) → Option SystemModel → Refusal → Outcome → Type 0
+IsAdvised bytes model refusal found = HasStatusAndText MODEL_REFUSED (AddsAdvice bytes model refusal (refusal_line refusal)) found
 
 -- of a model: what to mend where it is refused, and else what to know of it
-abbrev pub ValidityChecks : Option Members → SystemModel → Option Refusal → Outcome → Type 0
-ValidityChecks document model None found = IsDone (λ text. text ≡ accepted_text model) found
-ValidityChecks document model (Some refusal) found = IsAdvised document (Some model) refusal found
+abbrev pub ValidityChecks : (bytes : List ℕ) → SystemModel → Option Refusal → Outcome → Type 0
+ValidityChecks bytes model None found = IsDone (λ text. text ≡ accepted_text model) found
+ValidityChecks bytes model (Some refusal) found = IsAdvised bytes (Some model) refusal found
 
-abbrev pub ReadingChecks : Option Members → Result SystemModel Refusal → Outcome → Type 0
-ReadingChecks document (Ok model) found = ValidityChecks document model (refusal_of model) found
-ReadingChecks document (Err refusal) found = IsAdvised document None refusal found
+abbrev pub ReadingChecks : (bytes : List ℕ) → Result SystemModel Refusal → Outcome → Type 0
+ReadingChecks bytes (Ok model) found = ValidityChecks bytes model (refusal_of model) found
+ReadingChecks bytes (Err refusal) found = IsAdvised bytes None refusal found
 
 -- the outcome of the bytes of a file
 abbrev pub IsChecked : (bytes : List ℕ) → Outcome → Type 0
-IsChecked bytes found = ReadingChecks (document_of bytes) (model_of bytes) found
+IsChecked bytes found = ReadingChecks bytes (model_of bytes) found
 
--- an outcome says of bytes that they are no document
-abbrev pub IsUnread : Refusal → Outcome → Type 0
-IsUnread refusal found = HasStatusAndText MODEL_REFUSED (AddsUnread (refusal_line refusal)) found
+-- both say what to mend, of the same refusal of the same bytes
+pub record AreAdvisedAlike (one other : Outcome) : Type 0 where
+  pub bytes : List ℕ
+  pub model : Option SystemModel
+  pub refusal : Refusal
+  pub first : IsAdvised bytes model refusal one
+  pub second : IsAdvised bytes model refusal other
 
--- two outcomes are equal, or both say that of bytes
+-- two outcomes are equal, or both say what to mend
 abbrev pub ChecksTheSame : (one other : Outcome) → Type 0
-ChecksTheSame one other = (one ≡ other) ⊎ ((refusal : Refusal) × IsUnread refusal one × IsUnread refusal other)
+ChecksTheSame one other = (one ≡ other) ⊎ AreAdvisedAlike one other
 
 -- at most one step for each task of the model that is read, and none where none is
 abbrev pub read_steps : Result SystemModel Refusal → ℕ

@@ -1,8 +1,7 @@
-ghost use Rattle.std.specs.Prelude.{◌≡◌, ◌+◌, ◌≤◌, length, Some, Ok, IfOk};
+ghost use Rattle.std.specs.Prelude.{◌≡◌, ◌+◌, ◌≤◌, length, Some, Ok, IfOk, IfSome};
 ghost use Rattle.std.specs.Option.{option_copied};
 ghost use Rattle.cl_model.specs.Answers.{IsFaultOf};
 ghost use Rattle.cl_model.specs.Ranges.{IsInRange};
-ghost use Rattle.cl_model.specs.Reading.{document_of, model_of};
 ghost use Rattle.cl_model.specs.Validity.{refusals_of, refusal_of};
 ghost use Rattle.cl_explain.specs.Accepted.{accepted_text};
 ghost use Rattle.cl_engine.specs.Content.{Bytes};
@@ -49,7 +48,7 @@ fn checked_model<L: Ledger>(
 ) -> Result<Outcome, NoMemory>
     requires { IsInRange model }
     ensures outcome { IfOk result
-        (ValidityChecks (document_of bytes.now) model (refusal_of model)) }
+        (ValidityChecks bytes.now model (refusal_of model)) }
     ensures steps { steps.new ≤ steps.old + length model.tasks }
 {
     match validate(alloc, model) {
@@ -65,9 +64,10 @@ fn refused_model(
     model: &SystemModel,
     fault: ValidFault,
 ) -> Result<Outcome, NoMemory>
-    requires { IsFaultOf (refusals_of model.now) fault }
+    requires in_range { IsInRange model.now }
+    requires fault { IsFaultOf (refusals_of model.now) fault }
     ensures { IfOk result
-        (ValidityChecks (document_of bytes.now) model.now (refusal_of model.now)) }
+        (ValidityChecks bytes.now model.now (refusal_of model.now)) }
 {
     match fault {
         ValidFault::Refused(refusal) => advised(alloc, bytes, Some(model), refusal),
@@ -95,7 +95,8 @@ fn advised(
     model: Option<&SystemModel>,
     refusal: Refusal,
 ) -> Result<Outcome, NoMemory>
-    ensures { IfOk result (IsAdvised (document_of bytes.now) (option_copied model.entry) refusal) }
+    requires { IfSome (option_copied model) IsInRange }
+    ensures { IfOk result (IsAdvised bytes.now (option_copied model.entry) refusal) }
 {
     let mut outcome = Outcome::model_refused(alloc, refusal)?;
     put_advice(&mut outcome.text, alloc, bytes, model, refusal)?;

@@ -9,4 +9,4 @@ returns-in-Ok c =
     rw (document_of-text c.args.bytes.now text.1, sym text.0) c.put_of_text.ensures
 
 pub returns-in-Err : goal.returns-in-Err
-returns-in-Err c = rw (no_document c.args.bytes.now c.in-Err.ensures.cases.0) c.put_unread.ensures
+returns-in-Err c = rw (no_document c.args.bytes.now c.in-Err.ensures.cases.0) c.put_no_document.ensures

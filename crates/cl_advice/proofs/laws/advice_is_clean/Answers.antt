@@ -1,5 +1,9 @@
-use Rattle.cl_advice.proofs.CleanMends.{clean_advice, clean_unread}
+use Rattle.cl_advice.proofs.CleanMends.{clean_advice}
+use Rattle.cl_advice.proofs.CleanUnread.{clean_at, clean_unread}
 use Rattle.cl_advice.proofs.laws.advice_is_clean.Goals as goal
+
+pub returns-clause-place : goal.returns-clause-place
+returns-clause-place c = clean_at
 
 pub returns-clause-document : goal.returns-clause-document
 returns-clause-document c = clean_advice

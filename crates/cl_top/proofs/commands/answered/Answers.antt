@@ -18,6 +18,10 @@ pub returns-in-Help-clause-outcome : goal.returns-in-Help-clause-outcome
 returns-in-Help-clause-outcome g c = as_asked (λ asked content. IfOk c.helped.result (IsOutcomeOf asked content)) c.args.asked command.Help (content_of c.args.given)
     c.in-Help.is refl c.requires.fits c.helped.ensures
 
+pub returns-in-HelpOn-clause-outcome : goal.returns-in-HelpOn-clause-outcome
+returns-in-HelpOn-clause-outcome g c = as_asked (λ asked content. IfOk c.helped_on.result (IsOutcomeOf asked content)) c.args.asked (command.HelpOn c.in-HelpOn.topic) (content_of c.args.given)
+    c.in-HelpOn.is refl c.requires.fits c.helped_on.ensures
+
 pub returns-in-Version-clause-outcome : goal.returns-in-Version-clause-outcome
 returns-in-Version-clause-outcome g c = as_asked (λ asked content. IfOk c.named_version.result (IsOutcomeOf asked content)) c.args.asked command.Version (content_of c.args.given)
     c.in-Version.is refl c.requires.fits c.named_version.ensures

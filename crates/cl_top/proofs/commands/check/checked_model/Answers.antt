@@ -2,7 +2,6 @@ use Rattle.std.proofs.Common.{◌≡◌, Option, None, sym, ap, subst}
 use Rattle.std.specs.Prelude.{IfOk}
 use Rattle.cl_model.specs.declared.model.SystemModel.{SystemModel}
 use Rattle.cl_model.specs.declared.refusal.Refusal.{Refusal}
-use Rattle.cl_model.specs.Reading.{document_of}
 use Rattle.cl_model.specs.Refusals.{first}
 use Rattle.cl_model.specs.Validity.{refusal_of}
 use Rattle.cl_explain.specs.Accepted.{accepted_text}
@@ -14,5 +13,5 @@ use Rattle.cl_top.proofs.commands.check.checked_model.Goals as goal
 pub returns-in-Ok-clause-outcome : goal.returns-in-Ok-clause-outcome
 returns-in-Ok-clause-outcome g c =
     let none : refusal_of c.args.model ≡ None = ap first c.in-Ok.ensures.valid.accepted in
-    subst (λ (refusal : Option Refusal). IfOk c.accepted_model.result (ValidityChecks (document_of c.args.bytes.now) c.args.model refusal)) (sym none)
+    subst (λ (refusal : Option Refusal). IfOk c.accepted_model.result (ValidityChecks c.args.bytes.now c.args.model refusal)) (sym none)
     (subst (λ (model : SystemModel). IfOk c.accepted_model.result (IsDone (λ text. text ≡ accepted_text model))) c.in-Ok.ensures.same c.accepted_model.ensures.outcome)

@@ -1,0 +1,34 @@
+-- Where something begins in the text of a document. Offsets count bytes. The tokens are those of TOML 1.1.
+use Rattle.std.specs.Prelude.{◌≡◌, ℕ, ◌≤◌, ◌⊎◌, Bool, ◌&&◌, ◌==◌, List, length, drop, slice_index, IsSome}
+use Rattle.toml.specs.Parse.{skip_bom}
+use Rattle.toml_parser.specs.Lexical.{first, left_bracket, left_brace}
+use Rattle.toml_parser.specs.Strings.{key, quoted}
+use Rattle.toml_parser.specs.Numbers.{unquoted}
+
+-- a text begins with a byte order mark
+abbrev pub has_mark : List ℕ → Bool
+has_mark text = (first text == 0xEF && slice_index text 1 == 0xBB) && slice_index text 2 == 0xBF
+
+-- the front of a document, behind a byte order mark
+abbrev pub IsFront : (document : List ℕ) → (at : ℕ) → Type 0
+IsFront document at = drop at document ≡ skip_bom document
+
+-- a text begins with a header or with an array
+abbrev pub BeginsBracket : List ℕ → Type 0
+BeginsBracket text = first text ≡ left_bracket
+
+-- a text begins with a key, bare or quoted
+abbrev pub BeginsKey : List ℕ → Type 0
+BeginsKey text = IsSome (key text)
+
+-- a text begins with what an array may hold besides arrays: an inline table, a string, or a number, a date or a word
+abbrev pub BeginsItem : List ℕ → Type 0
+BeginsItem text = (first text ≡ left_brace) ⊎ (IsSome (quoted text) ⊎ IsSome (unquoted text))
+
+-- a place in a document: the front, or where a header, a key or an item begins
+abbrev pub Begins : List ℕ → Type 0
+Begins text = BeginsBracket text ⊎ (BeginsKey text ⊎ BeginsItem text)
+
+pub record IsPlaceIn (document : List ℕ) (at : ℕ) : Type 0 where
+  pub within : at ≤ length document
+  pub begins : IsFront document at ⊎ Begins (drop at document)

@@ -1,0 +1,89 @@
+//! The place that a refusal is about, in the text of a document.
+ghost use Rattle.std.specs.Prelude.{◌≡◌, true, is_ok, IfOk};
+ghost use Rattle.toml_parser.specs.Strings.{key};
+ghost use Rattle.cl_place.specs.Places.{BeginsItem, Begins, IsPlaceIn};
+
+use crate::mark::mark_length;
+use crate::steps::steps_to;
+use crate::walk::walk_to;
+use cl_model::Place;
+use cl_time::NoMemory;
+use std::alloc::Global;
+use toml_parser::text::first;
+use toml_parser::{ParseError, dotted_key, quoted, starts_string, unquoted};
+
+/// Whether something could be read.
+fn is_read<T: Drop>(read: Result<T, ParseError>) -> Result<bool, NoMemory>
+    ensures { IfOk result (λ yes. yes ≡ is_ok read) }
+{
+    match read {
+        Ok(_) => Ok(true),
+        Err(ParseError::OutOfMemory) => Err(NoMemory),
+        Err(_) => Ok(false),
+    }
+}
+
+/// Whether a text begins with an inline table, a string, a number, a date or a word.
+fn begins_item(alloc: Global, text: &str) -> Result<bool, NoMemory>
+    ensures { IfOk result (λ yes. yes ≡ true → BeginsItem text.now) }
+{
+    if first(text) == b'{' {
+        Ok(true)
+    } else if starts_string(text) {
+        is_read(quoted(alloc, text))
+    } else {
+        is_read(unquoted(alloc, text))
+    }
+}
+
+/// Whether a text begins with a header, an array, a key or an item.
+fn begins(alloc: Global, text: &str) -> Result<bool, NoMemory>
+    ensures { IfOk result (λ yes. yes ≡ true → Begins text.now) }
+{
+    if first(text) == b'[' || is_read(dotted_key(alloc, text))? {
+        Ok(true)
+    } else {
+        begins_item(alloc, text)
+    }
+}
+
+/// Whether something begins at an offset.
+fn is_place(alloc: Global, document: &str, at: usize) -> Result<bool, NoMemory>
+    ensures { IfOk result (λ yes. yes ≡ true → IsPlaceIn document.now at) }
+{
+    if document.is_char_boundary(at) {
+        begins(alloc, &document[at..])
+    } else {
+        Ok(false)
+    }
+}
+
+/// Returns the offset of the front, behind a byte order mark.
+fn front_of(document: &str) -> usize
+    ensures { IsPlaceIn document.now result }
+{
+    mark_length(document.as_bytes())
+}
+
+/// Returns the offset in bytes of a place in the text of a document, where `key` is the key that it
+/// is about: that of the key or of the item, else of the header or the table of the entry in which
+/// it is absent, else of the front. What the walk finds is looked at again.
+///
+/// Fails with `NoMemory` where there is no memory for the walk.
+pub fn place_of(
+    alloc: Global,
+    document: &str,
+    place: Place,
+    key: Option<&str>,
+) -> Result<usize, NoMemory>
+    ensures { IfOk result (IsPlaceIn document.now) }
+{
+    let front = front_of(document);
+    let steps = steps_to(alloc, place, key)?;
+    let at = walk_to(alloc, document, front, &steps)?;
+    if is_place(alloc, document, at)? {
+        Ok(at)
+    } else {
+        Ok(front)
+    }
+}
