@@ -103,7 +103,7 @@ printed_want want.Boolean = refl
 printed_want (want.Array limit) = refl
 printed_want want.Table = refl
 
-printed_limit : (w : Want) → Printed (limit_text w)
+pub printed_limit : (w : Want) → Printed (limit_text w)
 printed_limit (want.Array limit) =
     printed_both (codes "at most " ++ decimal limit) (codes " entries") (printed_both (codes "at most ") (decimal limit) refl (printed_decimal limit)) refl
 printed_limit other = printed_want other
@@ -124,7 +124,7 @@ printed_wanted ms place code.M9 = printed_want (want_at (version_in ms) place)
 printed_wanted ms place code.M10 = printed_limit (want_at (version_in ms) place)
 printed_wanted ms place _ = tt
 
-printed_want_if : (words : Option (List ℕ)) → IfSome words Printed → Printed (want_line words)
+pub printed_want_if : (words : Option (List ℕ)) → IfSome words Printed → Printed (want_line words)
 printed_want_if None h = refl
 printed_want_if (Some words) h = printed_line (codes "wanted " ++ words) (printed_both (codes "wanted ") words refl h)
 

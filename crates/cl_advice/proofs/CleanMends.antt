@@ -88,7 +88,7 @@ printed_unknown_if : (place : Place) (word : Option (List ℕ)) → IfSome (opti
 printed_unknown_if place None = tt
 printed_unknown_if place (Some word) = printed_unknown place word
 
-printed_code : (c : Code) → IfSome (code_mend c) Printed
+pub printed_code : (c : Code) → IfSome (code_mend c) Printed
 printed_code code.E1 = tt
 printed_code code.E2 = tt
 printed_code code.E3 = tt
@@ -103,7 +103,7 @@ printed_mend ms place code.M6 = printed_kind place (want_at (version_in ms) plac
 printed_mend ms place code.M9 = printed_word ms place place.part
 printed_mend ms place other = printed_code other
 
-printed_mend_if : (words : Option (List ℕ)) → IfSome words Printed → Printed (mended_line words)
+pub printed_mend_if : (words : Option (List ℕ)) → IfSome words Printed → Printed (mended_line words)
 printed_mend_if None h = refl
 printed_mend_if (Some words) h = printed_line (codes "mend " ++ words) (printed_both (codes "mend ") words refl h)
 
@@ -113,7 +113,7 @@ either_printed : (one other : Option (List ℕ)) → IfSome one Printed → IfSo
 either_printed None other h o = o
 either_printed (Some words) other h o = h
 
-printed_handed : (model : Option SystemModel) (place : Place) → IfSome model AreNamed → IfSome (handed_or_both model place) Printed
+pub printed_handed : (model : Option SystemModel) (place : Place) → IfSome model AreNamed → IfSome (handed_or_both model place) Printed
 printed_handed None place named = refl
 printed_handed (Some model) place named =
     either_printed (lacking_text model place) (code_mend code.M45) (printed_lacking_text model place named) refl

@@ -105,7 +105,7 @@ step_named_at model place behind named =
     (λ chain h. item IsName chain.runnables (option_map (λ k. k + behind) place.spot) h.runnables) (item IsChainNamed model.chains place.item named.chains)
 
 -- the name of what is named
-name_of_runnable : (o : Option RunnableDef) → IfSome o IsRunnableNamed → IfSome (option_map (λ (runnable : RunnableDef). runnable.name) o) IsName
+pub name_of_runnable : (o : Option RunnableDef) → IfSome o IsRunnableNamed → IfSome (option_map (λ (runnable : RunnableDef). runnable.name) o) IsName
 name_of_runnable o h = mapped IsRunnableNamed IsName (λ (runnable : RunnableDef). runnable.name) o (λ runnable named. named.name) h
 
 -- ---- all lines

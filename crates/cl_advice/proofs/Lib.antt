@@ -8,6 +8,7 @@ pub mod CleanLines
 pub mod CleanNames
 pub mod CleanMeasured
 pub mod CleanMends
+pub mod CleanEdits
 pub mod Clashes
 pub mod UnknownKeys
 pub mod FirstOf

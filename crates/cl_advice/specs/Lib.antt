@@ -12,3 +12,4 @@ pub mod Hop
 pub mod Unread
 pub mod Mend
 pub mod Advice
+pub mod OfEdits

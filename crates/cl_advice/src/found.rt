@@ -1,11 +1,11 @@
 //! The lines of the key that a refusal is about, and of the value there.
-ghost use Rattle.std.specs.Prelude.{◌≡◌, ◌++◌, if◌then◌else◌, codes, decimal, OnOk, IfSome};
+ghost use Rattle.std.specs.Prelude.{◌≡◌, ◌++◌, if◌then◌else◌, codes, decimal, option_map, OnOk, IfSome};
 ghost use Rattle.std.specs.Option.{option_copied};
 ghost use Rattle.std.specs.Fmt.{signed_decimal};
 ghost use Rattle.toml.specs.View.{view, table_view};
 ghost use Rattle.cl_model.specs.Ranges.{IsInRange};
 ghost use Rattle.cl_advice.specs.Keys.{refused_value};
-ghost use Rattle.cl_advice.specs.Found.{value_text, key_line, value_line, found_line};
+ghost use Rattle.cl_advice.specs.Found.{value_text, shown_key_line, key_line, value_line, found_line};
 
 use crate::keys::{refused_key, refused_value};
 use crate::measured::put_jitter_found;
@@ -16,11 +16,12 @@ use cl_time::NoMemory;
 use itoa::Buffer;
 use toml::{Table, Value};
 
-/// Appends the line of the key that a refusal is about, if there is one.
-pub(crate) fn put_key(text: &mut Text, table: &Table, refusal: Refusal) -> Result<(), NoMemory>
-    ensures { OnOk result (text.new ≡ text.old ++ key_line (table_view table.now) refusal) }
+/// Appends the line of a key, if there is one.
+pub(crate) fn put_key_word(text: &mut Text, word: Option<&str>) -> Result<(), NoMemory>
+    ensures { OnOk result
+        (text.new ≡ text.old ++ shown_key_line (option_map (λ word. word.now) word.entry)) }
 {
-    match refused_key(table, refusal) {
+    match word {
         Some(word) => {
             text.put(b"key ")?;
             put_shown(text, word.as_bytes())?;
@@ -28,6 +29,13 @@ pub(crate) fn put_key(text: &mut Text, table: &Table, refusal: Refusal) -> Resul
         }
         None => Ok(()),
     }
+}
+
+/// Appends the line of the key that a refusal is about, if there is one.
+pub(crate) fn put_key(text: &mut Text, table: &Table, refusal: Refusal) -> Result<(), NoMemory>
+    ensures { OnOk result (text.new ≡ text.old ++ key_line (table_view table.now) refusal) }
+{
+    put_key_word(text, refused_key(table, refusal))
 }
 
 /// Appends a whole number.

@@ -183,7 +183,7 @@ fn unknown_value(table: &Table, place: Place) -> Option<&Value>
 }
 
 /// Returns the word of a key, if there is one.
-fn word_of(key: Option<Key>) -> Option<&'static str>
+pub(crate) fn word_of(key: Option<Key>) -> Option<&'static str>
     ensures { option_map (λ word. word.now) result ≡ option_map key_text key }
 {
     match key {

@@ -54,7 +54,7 @@ fn first_few<T>(entries: &[T]) -> &[T]
 }
 
 /// Appends the line of the first names of these entries, nothing where there is none.
-fn put_known_names<T: Named>(text: &mut Text, entries: &[T]) -> Result<(), NoMemory>
+pub fn put_known_names<T: Named>(text: &mut Text, entries: &[T]) -> Result<(), NoMemory>
     ensures { OnOk result (text.new ≡ text.old ++ known_names (map T.name_of entries.now)) }
 {
     if entries.is_empty() {

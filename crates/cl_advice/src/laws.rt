@@ -19,6 +19,7 @@ ghost use Rattle.cl_advice.specs.Keys.{is_listed, unknown_among};
 ghost use Rattle.cl_advice.specs.Wanted.{section_want};
 ghost use Rattle.cl_advice.specs.WantsOfFields.{AsksByCheck};
 ghost use Rattle.cl_advice.specs.With.{rival_of, writer_of};
+ghost use Rattle.cl_advice.specs.OfEdits.{edit_advice_text};
 ghost use Rattle.cl_advice.specs.Unread.{unread_text};
 ghost use Rattle.cl_advice.specs.Advice.{advice_text, at_line};
 
@@ -42,13 +43,16 @@ pub fn limits_of_shown_bytes()
     ensures string { MOST_QUOTED ≡ 62 }
 {}
 
-/// Each byte of an advice is printable ASCII or the end of a line, whatever the file holds.
+/// Each byte of an advice, on a file or on an edit, is printable ASCII or the end of a line,
+/// whatever the file holds.
 pub fn advice_is_clean()
     ensures document { (ms : Members) (model : Option SystemModel) (refusal : Refusal) →
         IfSome model AreNamed → AllPass is_printed (advice_text ms model refusal) }
     ensures place { (row column : ℕ) → AllPass is_printed (at_line row column) }
     ensures no_document { (bytes message : List ℕ)
         → AllPass is_printed (unread_text bytes message) }
+    ensures edit { (model : Option SystemModel) (refusal : Refusal) → IfSome model AreNamed
+        → AllPass is_printed (edit_advice_text model refusal) }
 {}
 
 /// In a table that has a key which it may not have, such a key is found, and so is its value.

@@ -10,6 +10,7 @@ mod known;
 pub mod laws;
 mod measured;
 mod mend;
+mod of_edits;
 mod position;
 mod sentence;
 mod shown;
@@ -20,6 +21,7 @@ mod wanted;
 mod with;
 
 pub use advice::put_advice;
-pub use known::MOST_KNOWN;
-pub use shown::{MOST_QUOTED, MOST_SHOWN};
+pub use known::{MOST_KNOWN, put_known_names};
+pub use of_edits::put_edit_advice;
+pub use shown::{MOST_QUOTED, MOST_SHOWN, put_quoted, put_shown};
 pub use want::Want;

@@ -181,7 +181,7 @@ fn other_word(table: &Table, place: Place) -> &'static [u8]
 
 /// Says what to write for a code that needs nothing else to say it: `None` for M4, M6 and M9, and
 /// for the codes of edits.
-fn code_words(code: Code) -> Option<&'static [u8]>
+pub(crate) fn code_words(code: Code) -> Option<&'static [u8]>
     ensures { option_map (λ words. words.now) result ≡ code_mend code }
 {
     match code {
@@ -248,7 +248,7 @@ fn words(table: &Table, place: Place, code: Code) -> Option<&'static [u8]>
 }
 
 /// Appends the line of what to write, if there is something.
-fn put_words(text: &mut Text, words: Option<&[u8]>) -> Result<(), NoMemory>
+pub(crate) fn put_words(text: &mut Text, words: Option<&[u8]>) -> Result<(), NoMemory>
     ensures { OnOk result
         (text.new ≡ text.old ++ mended_line (option_map (λ words. words.now) words.entry)) }
 {

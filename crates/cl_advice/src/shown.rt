@@ -62,14 +62,14 @@ fn put_in(text: &mut Text, room: usize, bytes: &[u8]) -> Result<(), NoMemory>
 }
 
 /// Appends a text as it is shown.
-pub(crate) fn put_shown(text: &mut Text, bytes: &[u8]) -> Result<(), NoMemory>
+pub fn put_shown(text: &mut Text, bytes: &[u8]) -> Result<(), NoMemory>
     ensures { OnOk result (text.new ≡ text.old ++ shown bytes.now) }
 {
     put_in(text, MOST_SHOWN, bytes)
 }
 
 /// Appends a string as it is shown, in quotes.
-pub(crate) fn put_quoted(text: &mut Text, bytes: &[u8]) -> Result<(), NoMemory>
+pub fn put_quoted(text: &mut Text, bytes: &[u8]) -> Result<(), NoMemory>
     ensures { OnOk result (text.new ≡ text.old ++ quoted bytes.now) }
 {
     text.put(b"\"")?;

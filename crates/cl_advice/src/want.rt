@@ -103,7 +103,7 @@ impl Want {
     }
 
     /// Returns what the reader wants at a section, or at the top level.
-    fn of_section(part: Part) -> Want
+    pub(crate) fn of_section(part: Part) -> Want
         ensures { result ≡ section_want part }
     {
         match part {

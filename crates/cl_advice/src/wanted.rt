@@ -152,7 +152,7 @@ fn put_want_line(text: &mut Text, want: Want) -> Result<(), NoMemory>
 }
 
 /// Appends the line of the most entries of an array that is wanted.
-fn put_limit_line(text: &mut Text, want: Want) -> Result<(), NoMemory>
+pub(crate) fn put_limit_line(text: &mut Text, want: Want) -> Result<(), NoMemory>
     ensures { OnOk result (text.new ≡ text.old ++ want_line (Some (limit_text want))) }
 {
     text.put(b"wanted ")?;

@@ -35,7 +35,7 @@ pub(crate) fn item_if<T>(items: &List<T>, number: Option<u32>) -> Option<&T>
     }
 }
 
-fn core_name(model: &SystemModel, place: Place) -> Option<&Name>
+pub(crate) fn core_name(model: &SystemModel, place: Place) -> Option<&Name>
     ensures { option_copied result ≡ option_map
         (λ core. core.name) (item_if model.now.cores place.item) }
 {
@@ -45,7 +45,7 @@ fn core_name(model: &SystemModel, place: Place) -> Option<&Name>
     }
 }
 
-fn stimulus_name(model: &SystemModel, place: Place) -> Option<&Name>
+pub(crate) fn stimulus_name(model: &SystemModel, place: Place) -> Option<&Name>
     ensures { option_copied result ≡ option_map
         (λ stimulus. stimulus.name) (item_if model.now.stimuli place.item) }
 {
@@ -55,7 +55,7 @@ fn stimulus_name(model: &SystemModel, place: Place) -> Option<&Name>
     }
 }
 
-fn label_name(model: &SystemModel, place: Place) -> Option<&Name>
+pub(crate) fn label_name(model: &SystemModel, place: Place) -> Option<&Name>
     ensures { option_copied result ≡ option_map
         (λ label. label.name) (item_if model.now.labels place.item) }
 {
@@ -65,7 +65,7 @@ fn label_name(model: &SystemModel, place: Place) -> Option<&Name>
     }
 }
 
-fn task_name(model: &SystemModel, place: Place) -> Option<&Name>
+pub(crate) fn task_name(model: &SystemModel, place: Place) -> Option<&Name>
     ensures { option_copied result ≡ option_map
         (λ task. task.name) (item_if model.now.tasks place.item) }
 {
@@ -86,7 +86,7 @@ fn stimulus_of(model: &SystemModel, place: Place) -> Option<&Name>
     }
 }
 
-fn chain_name(model: &SystemModel, place: Place) -> Option<&Name>
+pub(crate) fn chain_name(model: &SystemModel, place: Place) -> Option<&Name>
     ensures { option_copied result ≡ option_map
         (λ chain. chain.name) (item_if model.now.chains place.item) }
 {
@@ -96,7 +96,7 @@ fn chain_name(model: &SystemModel, place: Place) -> Option<&Name>
     }
 }
 
-fn requirement_name(model: &SystemModel, place: Place) -> Option<&Name>
+pub(crate) fn requirement_name(model: &SystemModel, place: Place) -> Option<&Name>
     ensures { option_copied result
         ≡ option_map (λ requirement. requirement.name) (item_if model.now.requirements place.item) }
 {
@@ -106,7 +106,7 @@ fn requirement_name(model: &SystemModel, place: Place) -> Option<&Name>
     }
 }
 
-fn name_of(runnable: Option<&RunnableDef>) -> Option<&Name>
+pub(crate) fn name_of(runnable: Option<&RunnableDef>) -> Option<&Name>
     ensures { option_copied result ≡ option_map
         (λ runnable. runnable.name) (option_copied runnable.entry) }
 {

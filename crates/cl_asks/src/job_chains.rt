@@ -59,6 +59,8 @@ fn of_chain(
     requires is_chain { chain < length model.now.chains }
     requires legal { IsLegal (system_of model.now) run.now }
 {
+    // So that it is known that the model is valid.
+    let _valid = model.plain();
     match word(words, 1) {
         "measure" => measured(alloc, &measure(alloc, model, run, chain)?),
         "delay" => one_chain(alloc, &measure_delay(alloc, model, run, chain)?),
@@ -95,6 +97,8 @@ fn of_job(
     requires is_chain { chain < length model.now.chains }
     requires legal { IsLegal (system_of model.now) run.now }
 {
+    // So that it is known that the model is valid.
+    let _valid = model.plain();
     match word(words, 1) {
         "forward" => one_chain(alloc, &forward(alloc, model, run, chain, job)?),
         _ => one_chain(alloc, &backward(alloc, model, run, chain, job)?),

@@ -149,17 +149,6 @@ module _ (system : System) (run : Run) (all : List Group) where
         subst (λ n. IsForwardOver (with_events arrivals group.writes ∷ rest) (chain_with (n ∷ later))) (sym (next m))
         (run_of_delay group rest are arrivals arrive m later from to is)
 
-    -- a complete chain over such moments is one of the run whose first job has the number before
-    pub some_delay : (plain : List GroupMoments) → AreTables system run all plain → (jobs : List ℕ)
-        → IsForwardOver (set plain 0 (with_events arrivals (writes_in plain 0))) (chain_with jobs)
-        → (others : List ℕ) × IsDelayChain system run all (chain_with others)
-    some_delay [] are jobs is = absurd (omega (arith, is.jobs.some))
-    some_delay (group ∷ rest) are [] is = absurd (omega (arith, is.jobs.one_a_group))
-    some_delay (group ∷ rest) are (zero ∷ later) is =
-        let first = forward_written (with_events arrivals group.writes ∷ rest) (zero ∷ later) (suc (length rest)) to is.jobs 0 (omega arith) in
-        absurd (omega (arith, first.1.not_first))
-    some_delay (group ∷ rest) are (suc m ∷ later) is = (m ∷ later, delay_of_run group rest are arrivals arrive m later from to is)
-
   module _ (tables : List GroupMoments) (are : AreEventTables system run all tables) where
     pub delay_to : (chain : JobChain) → IsDelayOver tables chain → IsDelayChain system run all chain
     delay_to chain is = to_run are.arrivals are.arrive chain.from chain.to are.plain are.are_tables chain.jobs
@@ -168,8 +157,3 @@ module _ (system : System) (run : Run) (all : List Group) where
     pub delay_from : (chain : JobChain) → IsDelayChain system run all chain → IsDelayOver tables chain
     delay_from chain is = subst (λ (ts : List GroupMoments). IsForwardOver ts (after_event chain)) (sym are.is)
         (from_run are.arrivals are.arrive chain.from chain.to are.plain are.are_tables chain.jobs is)
-
-    pub delay_in_run : (chain : JobChain) → IsForwardOver tables chain
-        → (jobs : List ℕ) × IsDelayChain system run all (record { from = chain.from; to = chain.to; jobs = jobs })
-    delay_in_run chain is = some_delay are.arrivals are.arrive chain.from chain.to are.plain are.are_tables chain.jobs
-        (subst (λ (ts : List GroupMoments). IsForwardOver ts chain) are.is is)

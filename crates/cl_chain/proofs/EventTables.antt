@@ -4,32 +4,28 @@ use Rattle.std.specs.Prelude.{slice_index}
 use Rattle.std.proofs.lemmas.List.{get_or-set_same}
 use Rattle.cl_model.specs.declared.model.SystemModel.{SystemModel}
 use Rattle.cl_model.specs.declared.group.Group.{Group}
-use Rattle.cl_model.specs.ByNumber.{chain_at}
-use Rattle.cl_model.specs.Groups.{groups_of, groups_at, steps_of}
+use Rattle.cl_model.specs.Groups.{groups_at}
 use Rattle.cl_model.specs.Validity.{IsValid}
 use Rattle.cl_runs.specs.declared.job.Job.{Job}
 use Rattle.cl_runs.specs.Table.{no_job}
 use Rattle.cl_runs.specs.TaskTiming.{System}
 use Rattle.cl_runs.specs.SystemOf.{system_of}
 use Rattle.cl_runs.specs.Run.{Run, jobs_of, IsInForm}
-use Rattle.cl_runs.specs.Legal.{IsLegal}
 use Rattle.cl_runs.specs.Chains.{JobChain, first_job}
 use Rattle.cl_runs.specs.Delays.{IsDelayChain}
-use Rattle.cl_runs.specs.Measured.{IsLongest, IsMeasuredBy}
 use Rattle.cl_runs.proofs.ChainsUnique.{chain_same}
 use Rattle.cl_runs.proofs.ModelSystem.{system_sound}
-use Rattle.cl_runs.proofs.OrderedMoments.{run_in_order}
-use Rattle.cl_run_data.specs.Parts.{ShowsGroups}
+use Rattle.cl_check.specs.InOrder.{AreGroupsInOrder}
 use Rattle.cl_chain.specs.declared.group_moments.GroupMoments.{GroupMoments}
+use Rattle.cl_chain.specs.GreatestDelays.{IsGreatestDelay, IsGreatestDelayBy}
 use Rattle.cl_chain.specs.Inner.GroupTables.{moment_at, AreMomentsAt, NeverFall, writes_in}
 use Rattle.cl_chain.specs.Inner.ChainsOver.{IsForwardOver, AreForwardOrdered}
 use Rattle.cl_chain.specs.Inner.Events.{JobArrives, with_events, AreEventTables, after_event, IsDelayOver}
 use Rattle.cl_chain.proofs.ForwardFacts.{forward_written}
 use Rattle.cl_chain.proofs.GroupReads.{mapped_moments}
-use Rattle.cl_chain.proofs.AlikeTables.{alike_events}
-use Rattle.cl_chain.proofs.RunTables.{writes_never_fall, same_measured}
-use Rattle.cl_chain.proofs.DelayOrder.{run_delay_ordered}
-use Rattle.cl_chain.proofs.EventChains.{delay_to, delay_from, delay_in_run}
+use Rattle.cl_chain.proofs.MomentsInOrder.{moments_in_order}
+use Rattle.cl_chain.proofs.RunTables.{writes_never_fall}
+use Rattle.cl_chain.proofs.EventChains.{delay_to, delay_from}
 
 -- ---- arrivals
 
@@ -73,17 +69,17 @@ there_and_back : (jobs : List ℕ) → 0 < length jobs → 1 ≤ slice_index job
 there_and_back [] some first = absurd (omega (arith, some))
 there_and_back (job ∷ jobs) some first = let same : job - 1 + 1 ≡ job = omega (arith, first) in ap (λ n. n ∷ jobs) same
 
-module _ (tables : List GroupMoments) (chain : JobChain) (is : IsLongest (IsForwardOver tables) first_job chain) where
+module _ (tables : List GroupMoments) (chain : JobChain) (is : IsGreatestDelay (IsForwardOver tables) chain) where
   abbrev numbered : JobChain
   numbered = record { from = chain.from; to = chain.to; jobs = set chain.jobs 0 (first_job chain - 1) }
 
   has : (0 < length chain.jobs) × (1 ≤ slice_index chain.jobs 0)
   has = has_event tables chain is.is_chain
 
-  longest_numbered : IsLongest (IsDelayOver tables) first_job numbered
-  longest_numbered = record {
+  greatest_numbered : IsGreatestDelay (IsDelayOver tables) numbered
+  greatest_numbered = record {
     is_chain = subst (IsForwardOver tables) (sym (chain_same (after_event numbered) chain refl refl (there_and_back chain.jobs has.0 has.1))) is.is_chain;
-    longest = λ other is_other. is.longest (after_event other) is_other;
+    greatest = λ other is_other. is.greatest (after_event other) is_other;
     least = λ other is_other equal.
         let some : 0 < length other.jobs
         = omega (arith, is_other.jobs.some, is_other.jobs.one_a_group, length-set other.jobs 0 (first_job other + 1)) in
@@ -96,44 +92,35 @@ module _ (tables : List GroupMoments) (chain : JobChain) (is : IsLongest (IsForw
   }
 
   pub delay_measured : (from to : ℕ) (jobs : List ℕ) → from ≡ chain.from → to ≡ chain.to → jobs ≡ set chain.jobs 0 (first_job chain - 1)
-      → IsLongest (IsDelayOver tables) first_job (record { from = from; to = to; jobs = jobs })
+      → IsGreatestDelay (IsDelayOver tables) (record { from = from; to = to; jobs = jobs })
   delay_measured from to jobs is_from is_to are =
-      subst (IsLongest (IsDelayOver tables) first_job) (sym (chain_same (record { from = from; to = to; jobs = jobs }) numbered is_from is_to are)) longest_numbered
+      subst (IsGreatestDelay (IsDelayOver tables)) (sym (chain_same (record { from = from; to = to; jobs = jobs }) numbered is_from is_to are)) greatest_numbered
 
--- ---- a chain of a valid model
+-- ---- a chain of a valid model, in a run in order
 
-module _ (model : SystemModel) (valid : IsValid model) (run : Run) (legal : IsLegal (system_of model) run) (chain : ℕ) (some : 0 < length (groups_at model chain))
+module _ (model : SystemModel) (valid : IsValid model) (run : Run) (in_form : IsInForm (system_of model) run) (chain : ℕ)
+    (ordered : AreGroupsInOrder (groups_at model chain) run) (some : 0 < length (groups_at model chain))
     (tables : List GroupMoments) (are : AreEventTables (system_of model) run (groups_at model chain) tables) where
-  delay_later : (c : JobChain) → IsDelayChain (system_of model) run (groups_at model chain) c → c.from < c.to
-  unfolding groups_of
-  delay_later = run_delay_ordered (system_of model) (system_sound model valid) run legal (steps_of model (chain_at model chain))
-
   same_count : length tables ≡ length are.plain
   same_count = ap length are.is ∙ length-set are.plain 0 (with_events are.arrivals (writes_in are.plain 0))
 
-  legal_ordered : AreForwardOrdered tables
-  legal_ordered = record {
+  pub events_ordered : AreForwardOrdered tables
+  events_ordered = record {
     some = omega (arith, some, same_count, are.are_tables.one_a_group);
     writes = λ i h.
         subst (λ (ts : List GroupMoments). NeverFall (writes_in ts i)) (sym are.is)
         (events_never_fall are.arrivals are.plain
         (writes_never_fall (system_of model) run (groups_at model chain) are.plain are.are_tables
-        (run_in_order (system_of model) (system_sound model valid) run legal (groups_at model chain)))
+        (moments_in_order (system_of model) (system_sound model valid) run in_form (groups_at model chain) ordered))
         i (omega (arith, h, same_count)));
-    forward = λ c is.
-        let (jobs, delay) = delay_in_run (system_of model) run (groups_at model chain) tables are c is in
-        omega (arith, delay_later (record { from = c.from; to = c.to; jobs = jobs }) delay);
   }
 
--- the lists of a run that shows the groups are those of a legal run
-pub events_ordered : (model : SystemModel) → IsValid model → (run : Run) → IsInForm (system_of model) run → (chain : ℕ)
-    → ShowsGroups (system_of model) (groups_at model chain) run → 0 < length (groups_at model chain) → (tables : List GroupMoments)
-    → AreEventTables (system_of model) run (groups_at model chain) tables → AreForwardOrdered tables
-events_ordered model valid run in_form chain shows some tables are = legal_ordered model valid shows.whole shows.legal chain some tables
-    (alike_events (system_of model) (groups_at model chain) run shows.whole shows.alike in_form shows.legal.in_form some tables are)
-
 -- what is found over the lists is so of the run
-pub delay_answer : (system : System) (run : Run) (all : List Group) (tables : List GroupMoments) → AreEventTables system run all tables
-    → (found : Option JobChain) → IsMeasuredBy (IsDelayOver tables) first_job found → IsMeasuredBy (IsDelayChain system run all) first_job found
-delay_answer system run all tables are = same_measured (IsDelayOver tables) (IsDelayChain system run all)
-    (delay_to system run all tables are) (delay_from system run all tables are) first_job
+module _ (system : System) (run : Run) (all : List Group) (tables : List GroupMoments) (are : AreEventTables system run all tables) where
+  pub delay_answer : (found : Option JobChain) → IsGreatestDelayBy (IsDelayOver tables) found → IsGreatestDelayBy (IsDelayChain system run all) found
+  delay_answer None none = λ chain is. none chain (delay_from system run all tables are chain is)
+  delay_answer (Some chain) is = record {
+    is_chain = delay_to system run all tables are chain is.is_chain;
+    greatest = λ other is_other. is.greatest other (delay_from system run all tables are other is_other);
+    least = λ other is_other. is.least other (delay_from system run all tables are other is_other);
+  }

@@ -7,7 +7,7 @@ pub mod ForwardFacts
 pub mod BackwardFacts
 pub mod RowFacts
 pub mod MeasuredFacts
-pub mod AlikeTables
+pub mod MomentsInOrder
 pub mod RunTables
 pub mod DecidedMoments
 pub mod ChainsByJob
@@ -16,3 +16,4 @@ pub mod SomeMeasured
 pub mod DelayOrder
 pub mod EventChains
 pub mod EventTables
+pub mod GreatestDelayFacts

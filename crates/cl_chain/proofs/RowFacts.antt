@@ -3,12 +3,13 @@ use Rattle.std.proofs.Common.{◌≡◌, ℕ, zero, suc, ◌+◌, ◌-◌, ◌<�
 use Rattle.std.specs.Prelude.{slice_index}
 use Rattle.std.proofs.lemmas.Bool.{cases_lt}
 use Rattle.std.proofs.lemmas.List.{get_or_append_left, get_or_push}
-use Rattle.cl_runs.specs.Chains.{JobChain, chain_length}
+use Rattle.cl_runs.specs.Chains.{JobChain, chain_length, first_job}
 use Rattle.cl_runs.specs.Measured.{IsMeasuredBy, IsCountOf}
 use Rattle.cl_chain.specs.declared.rows.Rows.{Rows}
+use Rattle.cl_chain.specs.GreatestDelays.{IsGreatestDelayBy}
 use Rattle.cl_chain.specs.JobChains.{IsChainOf}
 use Rattle.cl_chain.specs.Inner.GroupTables.{moment_at}
-use Rattle.cl_chain.specs.Inner.Rows.{AreRowsBelow, IsLongestRow, IsOfRows, AreRowsOf}
+use Rattle.cl_chain.specs.Inner.Rows.{AreRowsBelow, IsLongestRow, IsGreatestRow, IsOfRows, AreRowsOf}
 use Rattle.cl_chain.proofs.MomentLists.{same_some, has_place}
 use Rattle.cl_chain.proofs.ForwardFacts.{job_before, job_pushed}
 
@@ -188,3 +189,42 @@ module _ (IsChain : JobChain → Type 0) (job_of : JobChain → ℕ) (rows : Row
 
   pub rows_ordered : ((chain : JobChain) → IsChain chain → chain.from ≤ chain.to) → (i : ℕ) → i < length rows.ends → slice_index rows.starts i ≤ slice_index rows.ends i
   rows_ordered = rows_in_order IsChain job_of are.starts are.ends are.chains rows.jobs rows.starts rows.ends are.are_rows
+
+-- ---- the greatest, where rows may end before they start
+
+module _ (IsChain : JobChain → Type 0) (rows : Rows) (are : AreRowsOf IsChain first_job rows) (place : ℕ) (is : IsGreatestRow rows place) where
+  starts_at : (chain : JobChain) → IsChain chain → (i : ℕ) → i < length rows.jobs → slice_index rows.jobs i ≡ first_job chain → chain.from ≡ slice_index rows.starts i
+  starts_at = from_of IsChain first_job are.starts are.ends are.chains rows.jobs rows.starts rows.ends are.are_rows
+
+  ends_at : (chain : JobChain) → IsChain chain → (i : ℕ) → i < length rows.jobs → slice_index rows.jobs i ≡ first_job chain → chain.to ≡ slice_index rows.ends i
+  ends_at = to_of IsChain first_job are.starts are.ends are.chains rows.jobs rows.starts rows.ends are.are_rows
+
+  no_earlier : (i : ℕ) → i < length rows.jobs → place ≤ i → slice_index rows.jobs place ≤ slice_index rows.jobs i
+  no_earlier i h after = elim (cases_lt place i) [
+    | inl later ↦ omega (arith, are.are_rows.rise place i later h)
+    | inr not ↦ let same : place ≡ i = omega (arith, after, not) in omega (arith, ap (slice_index rows.jobs) same)
+  ]
+
+  greatest_found : (found : Option JobChain) → IsChainOf IsChain first_job (slice_index rows.jobs place) found → IsGreatestDelayBy IsChain found
+  greatest_found None none =
+      let (chain, is_chain, same) = chain_in IsChain first_job are.starts are.ends are.chains rows.jobs rows.starts rows.ends are.are_rows place is.within in
+      absurd (none chain is_chain same)
+  greatest_found (Some chain) found =
+      let from = starts_at chain found.0 place is.within (sym found.1) in
+      let to = ends_at chain found.0 place is.within (sym found.1) in
+      record {
+        is_chain = found.0;
+        greatest = λ other is_other.
+            let (i, h, same) = row_of IsChain first_job are.starts are.ends are.chains rows.jobs rows.starts rows.ends are.are_rows other is_other in
+            omega (arith, from, to, is.longest i h, starts_at other is_other i h same, ends_at other is_other i h same);
+        least = λ other is_other equal.
+            let (i, h, same) = row_of IsChain first_job are.starts are.ends are.chains rows.jobs rows.starts rows.ends are.are_rows other is_other in
+            elim (cases_lt i place) [
+              | inl before ↦ absurd (omega (arith, from, to, equal, is.first i before, starts_at other is_other i h same, ends_at other is_other i h same))
+              | inr not ↦ omega (arith, no_earlier i h not, same, found.1)
+            ];
+      }
+
+  pub greatest_row : (job : ℕ) → job ≡ slice_index rows.jobs place → (found : Option JobChain) → IsChainOf IsChain first_job job found
+      → IsGreatestDelayBy IsChain found
+  greatest_row job same found chain = greatest_found found (subst (λ j. IsChainOf IsChain first_job j found) same chain)

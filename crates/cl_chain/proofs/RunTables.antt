@@ -6,25 +6,23 @@ use Rattle.cl_model.specs.declared.group.Group.{Group}
 use Rattle.cl_model.specs.ByNumber.{chain_at}
 use Rattle.cl_model.specs.Groups.{groups_of, groups_at, group_at, steps_of}
 use Rattle.cl_model.specs.Validity.{IsValid}
-use Rattle.cl_runs.specs.TaskTiming.{System, IsSound}
+use Rattle.cl_runs.specs.TaskTiming.{System}
 use Rattle.cl_runs.specs.SystemOf.{system_of}
-use Rattle.cl_runs.specs.Run.{Run}
-use Rattle.cl_runs.specs.Legal.{IsLegal}
+use Rattle.cl_runs.specs.Run.{Run, IsInForm}
 use Rattle.cl_runs.specs.Chains.{JobChain, IsEarliestReader, IsLatestWriter, last_group, first_job, last_job, IsForwardChain, AreBackwardLinks, IsAgeChain, IsReducedChain}
 use Rattle.cl_runs.specs.RunChains.{run_moments}
-use Rattle.cl_runs.specs.MomentOrder.{AreInOrder}
+use Rattle.cl_runs.specs.MomentOrder.{AreInOrder, HaveReadBeforeWriting}
 use Rattle.cl_runs.specs.Measured.{IsMeasuredBy, IsCountOf, Measured, IsMeasured}
 use Rattle.cl_runs.proofs.ModelSystem.{system_sound}
-use Rattle.cl_runs.proofs.OrderedMoments.{run_in_order}
-use Rattle.cl_runs.proofs.ChainsOfRuns.{run_forward_ordered, run_age_ordered, run_reduced_ordered}
-use Rattle.cl_run_data.specs.Parts.{ShowsGroups}
+use Rattle.cl_runs.proofs.ChainsOrdered.{forward_ordered, age_ordered, reduced_ordered}
+use Rattle.cl_check.specs.InOrder.{AreGroupsInOrder}
 use Rattle.cl_chain.specs.declared.group_moments.GroupMoments.{GroupMoments}
 use Rattle.cl_chain.specs.JobChains.{IsChainOf}
 use Rattle.cl_chain.specs.Inner.GroupTables.{moment_at, NeverFall, reads_in, writes_in, AreTables}
 use Rattle.cl_chain.specs.Inner.Hops.{IsForwardHop, IsBackwardHop}
 use Rattle.cl_chain.specs.Inner.ChainsOver.{IsForwardOver, AreBackwardJobs, last_writes, IsAgeOver, IsReducedOver, AreOrdered, IsMeasuredOver}
 use Rattle.cl_chain.proofs.ForwardFacts.{forward_written}
-use Rattle.cl_chain.proofs.AlikeTables.{alike_tables}
+use Rattle.cl_chain.proofs.MomentsInOrder.{moments_in_order, have_read}
 
 module _ (system : System) (run : Run) (all : List Group) (tables : List GroupMoments) (are : AreTables system run all tables) where
   -- ---- moments
@@ -276,30 +274,29 @@ module _ (system : System) (run : Run) (all : List Group) (tables : List GroupMo
             age_to age_from measured.backward is.backward_count;
       }
 
--- ---- a chain of a valid model
+-- ---- a chain of a valid model, in a run in order
 
-module _ (model : SystemModel) (valid : IsValid model) (run : Run) (legal : IsLegal (system_of model) run) (chain : ℕ) (some : 0 < length (groups_at model chain))
+module _ (model : SystemModel) (valid : IsValid model) (run : Run) (in_form : IsInForm (system_of model) run) (chain : ℕ)
+    (ordered : AreGroupsInOrder (groups_at model chain) run) (some : 0 < length (groups_at model chain))
     (tables : List GroupMoments) (are : AreTables (system_of model) run (groups_at model chain) tables) where
-  sound : IsSound (system_of model)
-  sound = system_sound model valid
+  order : AreInOrder (run_moments (system_of model) run) (groups_at model chain)
+  order = moments_in_order (system_of model) (system_sound model valid) run in_form (groups_at model chain) ordered
+
+  read_first : HaveReadBeforeWriting (run_moments (system_of model) run) (groups_at model chain)
+  unfolding groups_of
+  read_first = have_read (system_of model) (system_sound model valid) run in_form (steps_of model (chain_at model chain)) ordered
 
   forward_later : (c : JobChain) → IsForwardChain (run_moments (system_of model) run) (groups_at model chain) c → c.from < c.to
-  unfolding groups_of
-  forward_later = run_forward_ordered (system_of model) sound run legal (steps_of model (chain_at model chain))
+  forward_later = forward_ordered (run_moments (system_of model) run) (groups_at model chain) order read_first
 
   age_later : (c : JobChain) → IsAgeChain (run_moments (system_of model) run) (groups_at model chain) c → c.from < c.to
-  unfolding groups_of
-  age_later = run_age_ordered (system_of model) sound run legal (steps_of model (chain_at model chain))
+  age_later = age_ordered (run_moments (system_of model) run) (groups_at model chain) order read_first
 
   reduced_later : (c : JobChain) → IsReducedChain (run_moments (system_of model) run) (groups_at model chain) c → c.from < c.to
-  unfolding groups_of
-  reduced_later = run_reduced_ordered (system_of model) sound run legal (steps_of model (chain_at model chain))
+  reduced_later = reduced_ordered (run_moments (system_of model) run) (groups_at model chain) order read_first
 
-  order : AreInOrder (run_moments (system_of model) run) (groups_at model chain)
-  order = run_in_order (system_of model) sound run legal (groups_at model chain)
-
-  legal_ordered : AreOrdered tables
-  legal_ordered = record {
+  pub tables_ordered : AreOrdered tables
+  tables_ordered = record {
     some = omega (arith, some, are.one_a_group);
     reads = reads_never_fall (system_of model) run (groups_at model chain) tables are order;
     writes = writes_never_fall (system_of model) run (groups_at model chain) tables are order;
@@ -307,9 +304,3 @@ module _ (model : SystemModel) (valid : IsValid model) (run : Run) (legal : IsLe
     age = λ c is. omega (arith, age_later c (age_of_run (system_of model) run (groups_at model chain) tables are c is));
     reduced = λ c is. omega (arith, reduced_later c (reduced_of_run (system_of model) run (groups_at model chain) tables are c is));
   }
-
--- the lists of a run that shows the groups are those of a legal run
-pub tables_ordered : (model : SystemModel) → IsValid model → (run : Run) (chain : ℕ) → ShowsGroups (system_of model) (groups_at model chain) run
-    → 0 < length (groups_at model chain) → (tables : List GroupMoments) → AreTables (system_of model) run (groups_at model chain) tables → AreOrdered tables
-tables_ordered model valid run chain shows some tables are = legal_ordered model valid shows.whole shows.legal chain some tables
-    (alike_tables (system_of model) (groups_at model chain) run shows.whole shows.alike tables are)

@@ -1,2 +1,3 @@
 pub mod JobChains
+pub mod GreatestDelays
 pub mod Inner

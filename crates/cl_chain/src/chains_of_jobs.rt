@@ -2,9 +2,10 @@
 ghost use Rattle.std.specs.Prelude.{◌<◌, length, IfOk};
 ghost use Rattle.cl_model.specs.Groups.{groups_at};
 ghost use Rattle.cl_runs.specs.SystemOf.{system_of};
-ghost use Rattle.cl_runs.specs.Legal.{IsLegal};
+ghost use Rattle.cl_runs.specs.Run.{IsInForm};
 ghost use Rattle.cl_runs.specs.Chains.{first_job, last_job, IsForwardChain, IsAgeChain};
 ghost use Rattle.cl_runs.specs.RunChains.{run_moments};
+ghost use Rattle.cl_check.specs.InOrder.{AreGroupsInOrder};
 ghost use Rattle.cl_chain.specs.JobChains.{option_of, IsChainOf};
 
 use crate::backward_jobs::age_over;
@@ -19,10 +20,11 @@ use std::alloc::Global;
 /// Finds the complete forward chain whose first job is `job`: from the read of the job before it to
 /// the write of the last job. Returns `None` exactly where the run has no such chain.
 ///
-/// The run is legal for the model. `NoMemory` comes where there is no memory for the moments of the
-/// chain's groups or for the chain; it leaves nothing. Takes time linear in the stretches of the
-/// run, its numbers of tasks and cores, and, for each group of the chain, the execution times of
-/// the jobs of its task.
+/// The run is in form, and in order: each execution time of the tasks of the chain's groups is 1
+/// tick or more, and the arrivals of each such task rise. It need not be legal. `NoMemory` comes
+/// where there is no memory for the moments of the chain's groups or for the chain; it leaves
+/// nothing. Takes time linear in the stretches of the run, its numbers of tasks and cores, and, for
+/// each group of the chain, the execution times of the jobs of its task.
 pub fn forward(
     alloc: Global,
     model: &ValidModel,
@@ -31,7 +33,8 @@ pub fn forward(
     job: u64,
 ) -> Result<Option<JobChain>, NoMemory>
     requires is_chain { chain < length model.now.chains }
-    requires legal { IsLegal (system_of model.now) run.now }
+    requires in_form { IsInForm (system_of model.now) run.now }
+    requires ordered { AreGroupsInOrder (groups_at model.now chain) run.now }
     ensures { IfOk result (λ found.
         IsChainOf (IsForwardChain (run_moments (system_of model.now) run.now) (groups_at model.now chain)) first_job job (option_of found)) }
 {
@@ -42,10 +45,11 @@ pub fn forward(
 /// Finds the complete backward chain whose last job is `job`: from its first read to the write of
 /// the job after the last. Returns `None` exactly where the run has no such chain.
 ///
-/// The run is legal for the model. `NoMemory` comes where there is no memory for the moments of the
-/// chain's groups or for the chain; it leaves nothing. Takes time linear in the stretches of the
-/// run, its numbers of tasks and cores, and, for each group of the chain, the execution times of
-/// the jobs of its task.
+/// The run is in form, and in order: each execution time of the tasks of the chain's groups is 1
+/// tick or more, and the arrivals of each such task rise. It need not be legal. `NoMemory` comes
+/// where there is no memory for the moments of the chain's groups or for the chain; it leaves
+/// nothing. Takes time linear in the stretches of the run, its numbers of tasks and cores, and, for
+/// each group of the chain, the execution times of the jobs of its task.
 pub fn backward(
     alloc: Global,
     model: &ValidModel,
@@ -54,7 +58,8 @@ pub fn backward(
     job: u64,
 ) -> Result<Option<JobChain>, NoMemory>
     requires is_chain { chain < length model.now.chains }
-    requires legal { IsLegal (system_of model.now) run.now }
+    requires in_form { IsInForm (system_of model.now) run.now }
+    requires ordered { AreGroupsInOrder (groups_at model.now chain) run.now }
     ensures { IfOk result (λ found.
         IsChainOf (IsAgeChain (run_moments (system_of model.now) run.now) (groups_at model.now chain)) last_job job (option_of found)) }
 {

@@ -14,13 +14,17 @@ ghost use Rattle.cl_runs.specs.Delays.{IsDelayChain};
 ghost use Rattle.cl_runs.specs.Measured.{IsMeasuredBy};
 ghost use Rattle.cl_run_data.specs.Parts.{ShowsGroups};
 ghost use Rattle.cl_check.specs.Apart.{StandApart};
+ghost use Rattle.cl_check.specs.InOrder.{AreGroupsInOrder};
+ghost use Rattle.cl_chain.specs.GreatestDelays.{IsGreatestDelayBy};
 ghost use Rattle.cl_chain.specs.JobChains.{option_of};
-ghost use Rattle.cl_chain.specs.Inner.ChainsOver.{AreForwardOrdered};
+ghost use Rattle.cl_chain.specs.Inner.ChainsOver.{IsForwardOver, AreForwardOrdered};
 ghost use Rattle.cl_chain.specs.Inner.Events.{AreEventTables, IsDelayOver};
 
+use crate::forward_jobs::forward_over;
 use crate::group_moments::{GroupMoments, arrivals_of, moments_of_groups_apart};
 use crate::job_chain::JobChain;
-use crate::measuring::{forward_measured, moments_before};
+use crate::measuring::{forward_rows, moments_before};
+use crate::rows::greatest;
 use cl_check::tasks_apart;
 use cl_model::{List, ValidModel};
 use cl_run_data::RunData;
@@ -38,7 +42,7 @@ fn moments_after_events(
 ) -> Result<List<GroupMoments>, NoMemory>
     requires is_chain { chain < length model.now.chains }
     requires in_form { IsInForm (system_of model.now) run.now }
-    requires shows { ShowsGroups (system_of model.now) (groups_at model.now chain) run.now }
+    requires ordered { AreGroupsInOrder (groups_at model.now chain) run.now }
     requires apart { StandApart (system_of model.now) run.now apart.now }
     ensures tables { IfOk result
         (AreEventTables (system_of model.now) run.now (groups_at model.now chain)) }
@@ -66,14 +70,26 @@ fn without_event(chain: JobChain) -> JobChain
     chain
 }
 
+/// Finds the complete forward chain of the first of the rows that last longest, where chains may end
+/// before they begin.
+fn greatest_forward(alloc: Global, groups: &[GroupMoments]) -> Result<Option<JobChain>, NoMemory>
+    requires { AreForwardOrdered groups.now }
+    ensures { IfOk result (λ found. IsGreatestDelayBy (IsForwardOver groups.now) (option_of found)) }
+{
+    let rows = forward_rows(alloc, groups)?;
+    match greatest(&rows) {
+        Some(place) => forward_over(alloc, groups, rows.jobs.as_slice()[place]),
+        None => Ok(None),
+    }
+}
+
 /// Finds the chain of the greatest delay over the moments of groups with an event before each job
 /// of the first.
 fn delay_over(alloc: Global, groups: &[GroupMoments]) -> Result<Option<JobChain>, NoMemory>
     requires { AreForwardOrdered groups.now }
-    ensures { IfOk result
-        (λ found. IsMeasuredBy (IsDelayOver groups.now) first_job (option_of found)) }
+    ensures { IfOk result (λ found. IsGreatestDelayBy (IsDelayOver groups.now) (option_of found)) }
 {
-    let (found, _) = forward_measured(alloc, groups)?;
+    let found = greatest_forward(alloc, groups)?;
     match found {
         Some(chain) => Ok(Some(without_event(chain))),
         None => Ok(None),
@@ -84,10 +100,13 @@ fn delay_over(alloc: Global, groups: &[GroupMoments]) -> Result<Option<JobChain>
 /// event on, from the arrival of the first job to the write of the last, and, among equals, the one
 /// of the least first job. Returns `None` exactly where the run has no such chain.
 ///
-/// The run is legal for the model. `NoMemory` comes where there is no memory for the moments of the
-/// chain's groups or for the chain; it leaves nothing. Takes time linear in the stretches of the
-/// run, its numbers of tasks and cores, and, for each group of the chain, the execution times of
-/// the jobs of its task, whatever the number of ticks.
+/// The run is in form, and in order: each execution time of the tasks of the chain's groups is 1
+/// tick or more, and the arrivals of each such task rise. It need not be legal. Where it isn't, a
+/// job may have run before it arrived; then a delay may be negative, and counts as that. `NoMemory`
+/// comes where there is no memory for the moments of the chain's groups or for the chain; it leaves
+/// nothing. Takes time linear in the stretches of the run, its numbers of tasks and cores, and, for
+/// each group of the chain, the execution times of the jobs of its task, whatever the number of
+/// ticks.
 pub fn measure_delay(
     alloc: Global,
     model: &ValidModel,
@@ -95,20 +114,24 @@ pub fn measure_delay(
     chain: u32,
 ) -> Result<Option<JobChain>, NoMemory>
     requires is_chain { chain < length model.now.chains }
-    requires legal { IsLegal (system_of model.now) run.now }
-    ensures { IfOk result (λ found.
+    requires in_form { IsInForm (system_of model.now) run.now }
+    requires ordered { AreGroupsInOrder (groups_at model.now chain) run.now }
+    ensures greatest { IfOk result (λ found.
+        IsGreatestDelayBy (IsDelayChain (system_of model.now) run.now (groups_at model.now chain)) (option_of found)) }
+    ensures legal { IsLegal (system_of model.now) run.now
+        → IfOk result (λ found.
         IsMeasuredBy (IsDelayChain (system_of model.now) run.now (groups_at model.now chain)) first_job (option_of found)) }
 {
     let apart = tasks_apart(alloc, model, run)?;
     measure_delay_apart(alloc, model, run, &apart, chain)
 }
 
-/// Finds the greatest delay of a chain of the model in a run as `measure_delay` does, with the same
-/// errors. `apart` has a list of entries for each task, as `tasks_apart` returns it.
+/// Finds the greatest delay of a chain of the model in a run as `measure_delay` does, for the same
+/// runs and with the same errors. `apart` has a list of entries for each task, as `tasks_apart`
+/// returns it.
 ///
-/// The run is in form. It need not be legal: it is enough that a legal run has the same entries and
-/// jobs on the cores of the chain's groups. Takes time linear, for each group of the chain, in the
-/// stretches of the list of its task and the execution times of the jobs of that task.
+/// Takes time linear, for each group of the chain, in the stretches of the list of its task and the
+/// execution times of the jobs of that task.
 pub fn measure_delay_apart(
     alloc: Global,
     model: &ValidModel,
@@ -118,9 +141,12 @@ pub fn measure_delay_apart(
 ) -> Result<Option<JobChain>, NoMemory>
     requires is_chain { chain < length model.now.chains }
     requires in_form { IsInForm (system_of model.now) run.now }
-    requires shows { ShowsGroups (system_of model.now) (groups_at model.now chain) run.now }
+    requires ordered { AreGroupsInOrder (groups_at model.now chain) run.now }
     requires apart { StandApart (system_of model.now) run.now apart.now }
-    ensures { IfOk result (λ found.
+    ensures greatest { IfOk result (λ found.
+        IsGreatestDelayBy (IsDelayChain (system_of model.now) run.now (groups_at model.now chain)) (option_of found)) }
+    ensures shown { ShowsGroups (system_of model.now) (groups_at model.now chain) run.now
+        → IfOk result (λ found.
         IsMeasuredBy (IsDelayChain (system_of model.now) run.now (groups_at model.now chain)) first_job (option_of found)) }
 {
     let groups = moments_after_events(alloc, model, run, apart, chain)?;

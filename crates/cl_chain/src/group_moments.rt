@@ -5,11 +5,10 @@ ghost use Rattle.cl_model.specs.ByNumber.{task_at};
 ghost use Rattle.cl_model.specs.Groups.{groups_at};
 ghost use Rattle.cl_model.specs.Validity.{IsValid};
 ghost use Rattle.cl_runs.specs.SystemOf.{system_of};
-ghost use Rattle.cl_runs.specs.Run.{IsInForm};
-ghost use Rattle.cl_runs.specs.Legal.{IsLegal};
+ghost use Rattle.cl_runs.specs.Run.{IsInForm, jobs_of};
 ghost use Rattle.cl_runs.specs.Moments.{Reads, Writes};
-ghost use Rattle.cl_run_data.specs.Parts.{ShowsTask, ShowsGroups};
 ghost use Rattle.cl_check.specs.Apart.{StandApart};
+ghost use Rattle.cl_check.specs.InOrder.{AreTimesPositive, AreGroupsInOrder};
 ghost use Rattle.cl_check.specs.JobMoments.{IsMomentOf, EndsAt};
 ghost use Rattle.cl_chain.specs.Inner.GroupTables.{AreMomentsAt, AreTables, IsTimedWrite, AreTimedWrites};
 
@@ -42,7 +41,7 @@ fn ends_of(
     requires is_task { task < length model.now.tasks }
     requires is_runnable { place < length (task_at model.now task).runnables }
     requires in_form { IsInForm (system_of model.now) run.now }
-    requires shows { ShowsTask (system_of model.now) task run.now }
+    requires times { AreTimesPositive (jobs_of run.now task) }
     requires apart { StandApart (system_of model.now) run.now apart.now }
     ensures { IfOk result (λ ends.
         AreMomentsAt (λ job t. EndsAt end (system_of model.now) run.now task job place t) ends) }
@@ -114,7 +113,7 @@ fn reads_of(
     requires is_task { task < length model.now.tasks }
     requires is_runnable { place < length (task_at model.now task).runnables }
     requires in_form { IsInForm (system_of model.now) run.now }
-    requires shows { ShowsTask (system_of model.now) task run.now }
+    requires times { AreTimesPositive (jobs_of run.now task) }
     requires apart { StandApart (system_of model.now) run.now apart.now }
     ensures { IfOk result (λ reads.
         AreMomentsAt (λ job t. Reads (system_of model.now) run.now task job place t) reads) }
@@ -138,7 +137,7 @@ fn writes_of(
     requires is_task { task < length model.now.tasks }
     requires is_runnable { place < length (task_at model.now task).runnables }
     requires in_form { IsInForm (system_of model.now) run.now }
-    requires shows { ShowsTask (system_of model.now) task run.now }
+    requires times { AreTimesPositive (jobs_of run.now task) }
     requires apart { StandApart (system_of model.now) run.now apart.now }
     ensures { IfOk result (λ writes.
         AreMomentsAt (λ job t. Writes (system_of model.now) run.now task job place t) writes) }
@@ -173,7 +172,7 @@ pub(crate) fn moments_of_groups_apart(
 ) -> Result<List<GroupMoments>, NoMemory>
     requires is_chain { chain < length model.now.chains }
     requires in_form { IsInForm (system_of model.now) run.now }
-    requires shows { ShowsGroups (system_of model.now) (groups_at model.now chain) run.now }
+    requires ordered { AreGroupsInOrder (groups_at model.now chain) run.now }
     requires apart { StandApart (system_of model.now) run.now apart.now }
     ensures tables { IfOk result
         (AreTables (system_of model.now) run.now (groups_at model.now chain)) }
@@ -201,7 +200,8 @@ pub(crate) fn moments_of_groups(
     chain: u32,
 ) -> Result<List<GroupMoments>, NoMemory>
     requires is_chain { chain < length model.now.chains }
-    requires legal { IsLegal (system_of model.now) run.now }
+    requires in_form { IsInForm (system_of model.now) run.now }
+    requires ordered { AreGroupsInOrder (groups_at model.now chain) run.now }
     ensures tables { IfOk result
         (AreTables (system_of model.now) run.now (groups_at model.now chain)) }
     ensures some { IfOk result (λ _. 0 < length (groups_at model.now chain)) }

@@ -8,7 +8,8 @@ pub struct JobChain {
     /// The moment from which it lasts: a read of the first group or, where the chain is one of a
     /// delay, the arrival of its first job.
     pub from: u64,
-    /// The moment to which it lasts: a write of the last group.
+    /// The moment to which it lasts: a write of the last group. It lies after `from`, but for the
+    /// chain of a delay in a run that isn't legal.
     pub to: u64,
     /// The number of the job of each group, in the order of the groups.
     pub jobs: List<u64>,

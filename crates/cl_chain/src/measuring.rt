@@ -3,12 +3,11 @@ ghost use Rattle.std.specs.Prelude.{◌≡◌, ◌-◌, ◌<◌, ◌∷◌, None
 ghost use Rattle.cl_model.specs.Groups.{groups_at};
 ghost use Rattle.cl_runs.specs.SystemOf.{system_of};
 ghost use Rattle.cl_runs.specs.Run.{IsInForm};
-ghost use Rattle.cl_runs.specs.Legal.{IsLegal};
 ghost use Rattle.cl_runs.specs.Chains.{first_job, last_job};
 ghost use Rattle.cl_runs.specs.RunChains.{run_moments};
 ghost use Rattle.cl_runs.specs.Measured.{IsMeasured, IsMeasuredBy, IsCountOf};
-ghost use Rattle.cl_run_data.specs.Parts.{ShowsGroups};
 ghost use Rattle.cl_check.specs.Apart.{StandApart};
+ghost use Rattle.cl_check.specs.InOrder.{AreGroupsInOrder};
 ghost use Rattle.cl_check.specs.JobMoments.{IsMomentOf};
 ghost use Rattle.cl_chain.specs.JobChains.{option_of, measured_of};
 ghost use Rattle.cl_chain.specs.Inner.GroupTables.{AreMomentsAt};
@@ -89,7 +88,7 @@ fn longest_forward(
     groups: &[GroupMoments],
     rows: &Rows,
 ) -> Result<Option<JobChain>, NoMemory>
-    requires ordered { AreForwardOrdered groups.now }
+    requires ordered { AreOrdered groups.now }
     requires rows { AreRowsOf (IsForwardOver groups.now) first_job rows.now }
     ensures { IfOk result
         (λ found. IsMeasuredBy (IsForwardOver groups.now) first_job (option_of found)) }
@@ -136,7 +135,7 @@ fn longest_reduced(
 }
 
 /// Lists the rows of the complete forward chains.
-fn forward_rows(alloc: Global, groups: &[GroupMoments]) -> Result<Rows, NoMemory>
+pub(crate) fn forward_rows(alloc: Global, groups: &[GroupMoments]) -> Result<Rows, NoMemory>
     requires { AreForwardOrdered groups.now }
     ensures { IfOk result (AreRowsOf (IsForwardOver groups.now) first_job) }
 {
@@ -174,11 +173,11 @@ fn reduced_rows(
 }
 
 /// Finds the longest complete forward chain, and counts the complete forward chains.
-pub(crate) fn forward_measured(
+fn forward_measured(
     alloc: Global,
     groups: &[GroupMoments],
 ) -> Result<(Option<JobChain>, u64), NoMemory>
-    requires { AreForwardOrdered groups.now }
+    requires { AreOrdered groups.now }
     ensures { IfOk result
         (λ found. IsMeasuredBy (IsForwardOver groups.now) first_job (option_of found.0)
         × IsCountOf (IsForwardOver groups.now) found.1) }
@@ -242,10 +241,12 @@ fn measured_over(alloc: Global, groups: &[GroupMoments]) -> Result<Measured, NoM
 /// counts the complete chains. A kind has no longest chain exactly where the run has no complete
 /// chain of it.
 ///
-/// The run is legal for the model. `NoMemory` comes where there is no memory for the moments of the
-/// chain's groups or for the chains; it leaves nothing. Takes time linear in the stretches of the
-/// run, its numbers of tasks and cores, and, for each group of the chain, the execution times of
-/// the jobs of its task, whatever the number of ticks.
+/// The run is in form, and in order: each execution time of the tasks of the chain's groups is 1
+/// tick or more, and the arrivals of each such task rise. It need not be legal. `NoMemory` comes
+/// where there is no memory for the moments of the chain's groups or for the chains; it leaves
+/// nothing. Takes time linear in the stretches of the run, its numbers of tasks and cores, and, for
+/// each group of the chain, the execution times of the jobs of its task, whatever the number of
+/// ticks.
 pub fn measure(
     alloc: Global,
     model: &ValidModel,
@@ -253,7 +254,8 @@ pub fn measure(
     chain: u32,
 ) -> Result<Measured, NoMemory>
     requires is_chain { chain < length model.now.chains }
-    requires legal { IsLegal (system_of model.now) run.now }
+    requires in_form { IsInForm (system_of model.now) run.now }
+    requires ordered { AreGroupsInOrder (groups_at model.now chain) run.now }
     ensures { IfOk result (λ measured.
         IsMeasured (run_moments (system_of model.now) run.now) (groups_at model.now chain) (measured_of measured)) }
 {
@@ -261,12 +263,11 @@ pub fn measure(
     measure_apart(alloc, model, run, &apart, chain)
 }
 
-/// Measures a chain of the model in a run as `measure` does, with the same errors. `apart` has a
-/// list of entries for each task, as `tasks_apart` returns it.
+/// Measures a chain of the model in a run as `measure` does, for the same runs and with the same
+/// errors. `apart` has a list of entries for each task, as `tasks_apart` returns it.
 ///
-/// The run is in form. It need not be legal: it is enough that a legal run has the same entries and
-/// jobs on the cores of the chain's groups. Takes time linear, for each group of the chain, in the
-/// stretches of the list of its task and the execution times of the jobs of that task.
+/// Takes time linear, for each group of the chain, in the stretches of the list of its task and the
+/// execution times of the jobs of that task.
 pub fn measure_apart(
     alloc: Global,
     model: &ValidModel,
@@ -276,7 +277,7 @@ pub fn measure_apart(
 ) -> Result<Measured, NoMemory>
     requires is_chain { chain < length model.now.chains }
     requires in_form { IsInForm (system_of model.now) run.now }
-    requires shows { ShowsGroups (system_of model.now) (groups_at model.now chain) run.now }
+    requires ordered { AreGroupsInOrder (groups_at model.now chain) run.now }
     requires apart { StandApart (system_of model.now) run.now apart.now }
     ensures { IfOk result (λ measured.
         IsMeasured (run_moments (system_of model.now) run.now) (groups_at model.now chain) (measured_of measured)) }

@@ -1,6 +1,6 @@
 //! Rows of starts and ends, and the longest of them. Moments are in ticks.
-ghost use Rattle.std.specs.Prelude.{◌≡◌, ◌+◌, ◌≤◌, length, slice_index, EachIndex, MatchOption, IfOk, OnOk};
-ghost use Rattle.cl_chain.specs.Inner.Rows.{AreRowsBelow, AreRows, IsLongestRow};
+ghost use Rattle.std.specs.Prelude.{◌≡◌, ◌↔◌, ◌+◌, ◌<◌, ◌≤◌, length, slice_index, EachIndex, IsTrue, MatchOption, IfOk, OnOk};
+ghost use Rattle.cl_chain.specs.Inner.Rows.{AreRowsBelow, AreRows, IsLongestRow, LastsLonger, IsGreatestRow};
 
 use crate::hops::moment_at;
 use cl_lanes::{first_gap, greatest_gap};
@@ -70,4 +70,39 @@ pub(crate) fn longest(rows: &Rows) -> Option<usize>
     let ends = rows.ends.as_slice();
     let gap = greatest_gap(ends, starts)?;
     first_gap(ends, starts, gap)
+}
+
+/// Checks whether one row lasts longer than another. A row that ends before it starts lasts the less
+/// the further its end lies before its start.
+fn lasts_longer(rows: &Rows, one: usize, other: usize) -> bool
+    requires one_starts { one < length rows.now.starts }
+    requires one_ends { one < length rows.now.ends }
+    requires other_starts { other < length rows.now.starts }
+    requires other_ends { other < length rows.now.ends }
+    ensures { IsTrue result ↔ LastsLonger rows.now one other }
+{
+    let starts = rows.starts.as_slice();
+    let ends = rows.ends.as_slice();
+    u128::from(ends[one]) + u128::from(starts[other])
+        > u128::from(ends[other]) + u128::from(starts[one])
+}
+
+/// Finds the index of the first of the rows that last longest, where rows may end before they start.
+/// Returns `None` exactly where there is no row.
+pub(crate) fn greatest(rows: &Rows) -> Option<usize>
+    requires starts { length rows.now.starts ≡ length rows.now.jobs }
+    requires ends { length rows.now.ends ≡ length rows.now.jobs }
+    ensures { MatchOption result (length rows.now.jobs ≡ 0) (IsGreatestRow rows.now) }
+{
+    let count = rows.jobs.len();
+    if count == 0 {
+        return None;
+    }
+    let mut best = 0;
+    for place in 1..count {
+        if lasts_longer(rows, place, best) {
+            best = place;
+        }
+    }
+    Some(best)
 }

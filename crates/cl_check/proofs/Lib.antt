@@ -1,4 +1,6 @@
 pub mod WalkFacts
+pub mod JobsInOrder
+pub mod ModelsInOrder
 pub mod MomentsFound
 pub mod MomentsOfRun
 pub mod TableFaults

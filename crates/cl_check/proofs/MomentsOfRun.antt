@@ -1,4 +1,4 @@
--- The moments that walks find are the starts and finishes of a run that shows those of a legal one.
+-- The moments that walks find are the starts and finishes of a run whose jobs take time.
 use Rattle.std.proofs.Common.{◌≡◌, ℕ, suc, ◌-◌, ◌<◌, ◌≤◌, inl, inr, Option, Some, None, List, length, get_or, refl, sym, ap, ◌∙◌, subst, arith}
 use Rattle.std.specs.Prelude.{slice_index, All}
 use Rattle.std.proofs.lemmas.Bool.{cases_lt}
@@ -15,32 +15,24 @@ use Rattle.cl_runs.specs.Work.{work_before, work_through}
 use Rattle.cl_runs.specs.Moments.{Starts, Finishes}
 use Rattle.cl_runs.proofs.Climbing.{climb_grows}
 use Rattle.cl_runs.proofs.Executed.{executed_zero, executed_climbs, executed_grew}
-use Rattle.cl_runs.proofs.LegalFacts.{time_positive}
 use Rattle.cl_runs.proofs.ModelSystem.{timing_is, count_is, range_count_is, system_sound}
 use Rattle.cl_run_data.specs.declared.stretches.Stretch.{Stretch}
 use Rattle.cl_run_data.specs.Stretches.{entries_from, AreStretchesOf}
-use Rattle.cl_run_data.specs.Parts.{ShowsTask}
 use Rattle.cl_check.specs.declared.job_moments.Moment.{Moment}
 use Rattle.cl_check.specs.declared.job_ends.End.{End}
 use Rattle.cl_check.specs.declared.job_ends.End.TheVariants.{Start, Finish}
+use Rattle.cl_check.specs.InOrder.{AreTimesPositive}
 use Rattle.cl_check.specs.JobMoments.{IsMomentOf, AreMoments, EndsAt, AreEndsOfJobs}
 use Rattle.cl_check.specs.Inner.Walks.{executed_in, RunsAfter, EndsAfter, AreMomentsIn, EndsIn, AreEndsIn}
 use Rattle.cl_check.specs.Apart.{StandApart}
+use Rattle.cl_check.proofs.JobsInOrder.{job_time}
 use Rattle.cl_check.proofs.WalkFacts.{executed_more, executed_grows}
 use Rattle.cl_check.proofs.ApartMoments.{ends_alike_in}
 
--- ---- a task of a run that shows it, and the entries of its core
+-- ---- a task of a run, and the entries of its core
 
--- its jobs are those of a legal run, so they take time
-job_time : (system : System) → IsSound system → (run : Run) (task : ℕ) → ShowsTask system task run → task < length system.tasks
-    → (job place : ℕ) → job < length (jobs_of run task) → place < length (timing_at system task).ranges
-    → 1 ≤ slice_index (job_at (jobs_of run task) job).times place
-job_time system sound run task shows is job place in_table is_runnable =
-    let same : jobs_of run task ≡ jobs_of shows.whole task = shows.alike.jobs task is refl in
-    rw same (time_positive system sound shows.whole shows.legal task is job place (omega (arith, in_table, ap length same)) is_runnable)
-
-module _ (system : System) (sound : IsSound system) (run : Run) (in_form : IsInForm system run) (task : ℕ) (shows : ShowsTask system task run)
-    (is : task < length system.tasks) (entries : List (Option ℕ)) (of : entries ≡ core_entries run (timing_at system task).core) where
+module _ (system : System) (sound : IsSound system) (run : Run) (in_form : IsInForm system run) (task : ℕ)
+    (is : task < length system.tasks) (times : AreTimesPositive (jobs_of run task)) (entries : List (Option ℕ)) (of : entries ≡ core_entries run (timing_at system task).core) where
   executed_is : (t : ℕ) → executed system run task t ≡ executed_in entries task t
   unfolding executed
   executed_is t = ap (λ (es : List (Option ℕ)). executed_in es task t) (sym of)
@@ -50,7 +42,7 @@ module _ (system : System) (sound : IsSound system) (run : Run) (in_form : IsInF
 
   module _ (job place : ℕ) (in_table : job < length (jobs_of run task)) (is_runnable : place < length (timing_at system task).ranges) where
     some_time : 1 ≤ slice_index (job_at (jobs_of run task) job).times place
-    some_time = job_time system sound run task shows is job place in_table is_runnable
+    some_time = job_time system run in_form task is times job place in_table is_runnable
 
     starts_there : (t : ℕ) → RunsAfter entries task (work_before (jobs_of run task) job place) t → Starts system run task job place t
     starts_there t runs = record {
@@ -129,7 +121,7 @@ module _ (system : System) (sound : IsSound system) (run : Run) (in_form : IsInF
 -- ---- a task of a valid model
 
 module _ (model : SystemModel) (valid : IsValid model) (run : Run) (in_form : IsInForm (system_of model) run) (task : ℕ)
-    (shows : ShowsTask (system_of model) task run) (is : task < length model.tasks) (core : ℕ) (core_is : core ≡ core_of model task) where
+    (times : AreTimesPositive (jobs_of run task)) (is : task < length model.tasks) (core : ℕ) (core_is : core ≡ core_of model task) where
   is_task : task < length (system_of model).tasks
   is_task = omega (arith, is, count_is model)
 
@@ -162,7 +154,7 @@ module _ (model : SystemModel) (valid : IsValid model) (run : Run) (in_form : Is
     pub each_has_time : All (λ (job : Job). 1 ≤ slice_index job.times place) (jobs_of run task)
     each_has_time k d h = omega (
       arith,
-      job_time (system_of model) sound run task shows is_task k place h place_is,
+      job_time (system_of model) run in_form task is_task times k place h place_is,
       ap (λ (job : Job). slice_index job.times place) (get_or_default (jobs_of run task) k d no_job h),
     )
 
@@ -172,15 +164,15 @@ module _ (model : SystemModel) (valid : IsValid model) (run : Run) (in_form : Is
 
       -- the core has as many entries as the run has ticks
       pub entries_count : length (entries_from 0 ss) ≡ run.table.ticks
-      entries_count = as_many (system_of model) sound run in_form task shows is_task _ entries_are
+      entries_count = as_many (system_of model) sound run in_form task is_task times _ entries_are
 
       found_are : (moments : List Moment)
           → (length moments ≡ length (jobs_of run task)) × AreMomentsIn (entries_from 0 ss) (jobs_of run task) task place moments
           → AreMoments (system_of model) run task place moments
       found_are moments found = record {
         one_a_job = found.0;
-        starts = λ job h. is_start (system_of model) sound run in_form task shows is_task _ entries_are job place (omega (arith, h, found.0)) place_is _ (found.1.starts job h);
-        finishes = λ job h. is_finish (system_of model) sound run in_form task shows is_task _ entries_are job place (omega (arith, h, found.0)) place_is _ (found.1.finishes job h);
+        starts = λ job h. is_start (system_of model) sound run in_form task is_task times _ entries_are job place (omega (arith, h, found.0)) place_is _ (found.1.starts job h);
+        finishes = λ job h. is_finish (system_of model) sound run in_form task is_task times _ entries_are job place (omega (arith, h, found.0)) place_is _ (found.1.finishes job h);
       }
 
       pub moments_are : (jobs : List Job) → jobs ≡ jobs_of run task → (moments : List Moment)
@@ -202,5 +194,5 @@ module _ (model : SystemModel) (valid : IsValid model) (run : Run) (in_form : Is
         same (found.0, on_its_core) in
         record {
           one_a_job = as_jobs.0;
-          each = λ job h. is_end (system_of model) sound run in_form task shows is_task _ refl job place (omega (arith, h, as_jobs.0)) place_is end _ (as_jobs.1.each job h);
+          each = λ job h. is_end (system_of model) sound run in_form task is_task times _ refl job place (omega (arith, h, as_jobs.0)) place_is end _ (as_jobs.1.each job h);
         }

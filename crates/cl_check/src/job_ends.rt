@@ -3,10 +3,10 @@ ghost use Rattle.std.specs.Prelude.{◌≡◌, ◌-◌, ◌^◌, ◌+◌, ◌<�
 ghost use Rattle.cl_model.specs.ByNumber.{task_at};
 ghost use Rattle.cl_runs.specs.declared.job.Job.{Job};
 ghost use Rattle.cl_runs.specs.SystemOf.{system_of};
-ghost use Rattle.cl_runs.specs.Run.{IsInForm};
-ghost use Rattle.cl_run_data.specs.Parts.{ShowsTask};
+ghost use Rattle.cl_runs.specs.Run.{IsInForm, jobs_of};
 ghost use Rattle.cl_run_data.specs.Stretches.{entries_from, AreLongest};
 ghost use Rattle.cl_check.specs.Apart.{StandApart};
+ghost use Rattle.cl_check.specs.InOrder.{AreTimesPositive};
 ghost use Rattle.cl_check.specs.JobMoments.{IsMomentOf, AreEndsOfJobs};
 ghost use Rattle.cl_check.specs.Inner.Walks.{IsEndAfter, StandsIn, AreEndsIn};
 
@@ -87,11 +87,11 @@ fn ends_in(
 /// Finds when a runnable of a task starts, or finishes, in each job: one entry for each job, in the
 /// order of the jobs. `apart` has a list of entries for each task, as `tasks_apart` returns it.
 ///
-/// The run is in form. It need not be legal: it is enough that a legal run has the same entries and
-/// jobs on the core of the task. An entry is `None` exactly where the runnable doesn't start below
-/// the end of the run, or hasn't finished at the end. `NoMemory` comes where there is no memory for
-/// the entries; it leaves nothing. Takes time linear in the stretches of the task's list and the
-/// execution times of its jobs.
+/// The run is in form, and each execution time of the task's jobs is 1 tick or more. It need not be
+/// legal. An entry is `None` exactly where the runnable doesn't start below the end of the run, or
+/// hasn't finished at the end. `NoMemory` comes where there is no memory for the entries; it leaves
+/// nothing. Takes time linear in the stretches of the task's list and the execution times of its
+/// jobs.
 pub fn ends_apart(
     alloc: Global,
     model: &ValidModel,
@@ -104,7 +104,7 @@ pub fn ends_apart(
     requires is_task { task < length model.now.tasks }
     requires is_runnable { place < length (task_at model.now task).runnables }
     requires in_form { IsInForm (system_of model.now) run.now }
-    requires shows { ShowsTask (system_of model.now) task run.now }
+    requires times { AreTimesPositive (jobs_of run.now task) }
     requires apart { StandApart (system_of model.now) run.now apart.now }
     ensures { IfOk result (AreEndsOfJobs end (system_of model.now) run.now task place) }
 {

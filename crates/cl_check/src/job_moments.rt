@@ -3,8 +3,9 @@ ghost use Rattle.std.specs.Prelude.{◌≡◌, ◌+◌, ◌-◌, ◌^◌, ◌<�
 ghost use Rattle.cl_model.specs.ByNumber.{task_at};
 ghost use Rattle.cl_runs.specs.declared.job.Job.{Job};
 ghost use Rattle.cl_runs.specs.SystemOf.{system_of};
-ghost use Rattle.cl_runs.specs.Legal.{IsLegal};
+ghost use Rattle.cl_runs.specs.Run.{IsInForm, jobs_of};
 ghost use Rattle.cl_run_data.specs.Stretches.{entries_from, AreLongest};
+ghost use Rattle.cl_check.specs.InOrder.{AreTimesPositive};
 ghost use Rattle.cl_check.specs.JobMoments.{IsMomentOf, AreMoments};
 ghost use Rattle.cl_check.specs.Inner.Walks.{RunsAfter, EndsAfter, StandsIn, AreMomentsIn};
 
@@ -89,10 +90,11 @@ fn moments_in(
 /// Finds when a runnable of a task starts and finishes in each job: one entry for each job, in the
 /// order of the jobs.
 ///
-/// The run is legal for the model. An entry has no start exactly where the runnable doesn't start
-/// below the end of the run, and no finish exactly where it hasn't finished at the end. `NoMemory`
-/// comes where there is no memory for the entries; it leaves nothing. Takes time linear in the
-/// stretches of the core and the execution times of the task's jobs, whatever the number of ticks.
+/// The run is in form, and each execution time of the task's jobs is 1 tick or more. It need not be
+/// legal. An entry has no start exactly where the runnable doesn't start below the end of the run,
+/// and no finish exactly where it hasn't finished at the end. `NoMemory` comes where there is no
+/// memory for the entries; it leaves nothing. Takes time linear in the stretches of the core and
+/// the execution times of the task's jobs, whatever the number of ticks.
 pub fn moments(
     alloc: Global,
     model: &ValidModel,
@@ -102,7 +104,8 @@ pub fn moments(
 ) -> Result<List<Moment>, NoMemory>
     requires is_task { task < length model.now.tasks }
     requires is_runnable { place < length (task_at model.now task).runnables }
-    requires legal { IsLegal (system_of model.now) run.now }
+    requires in_form { IsInForm (system_of model.now) run.now }
+    requires times { AreTimesPositive (jobs_of run.now task) }
     ensures { IfOk result (AreMoments (system_of model.now) run.now task place) }
 {
     let runnables = model.task(task).runnables.len();

@@ -53,6 +53,8 @@ pub(crate) fn longest_reaction(
     requires is_chain { chain < length model.now.chains }
     ensures { IfOk result (IsDrawnReaction model.now run.now chain) }
 {
+    // So that it is known that the model is valid.
+    let _valid = model.plain();
     let measured = measure(alloc, model, run, chain)?;
     match &measured.reaction {
         Some(longest) => Ok(Some(reaction_of(alloc, model, run, chain, longest)?)),

@@ -51,6 +51,8 @@ fn start_of(
     requires starts { (t : ℕ) × Starts (system_of model.now) run.now task job place t }
     ensures { IfOk result (Starts (system_of model.now) run.now task job place) }
 {
+    // So that it is known that the model is valid.
+    let _valid = model.plain();
     let found = moments(alloc, model, run, task, place)?;
     match found.as_slice()[job as usize].start {
         Some(start) => Ok(start),
@@ -73,6 +75,8 @@ fn finish_of(
     requires finishes { (t : ℕ) × Finishes (system_of model.now) run.now task job place t }
     ensures { IfOk result (Finishes (system_of model.now) run.now task job place) }
 {
+    // So that it is known that the model is valid.
+    let _valid = model.plain();
     let found = moments(alloc, model, run, task, place)?;
     match found.as_slice()[job as usize].finish {
         Some(finish) => Ok(finish),

@@ -1,6 +1,7 @@
 -- The lines of a list of edits: where they stand in a text, which of them say something, and what.
-use Rattle.std.specs.Prelude.{◌≡◌, ◌≢◌, ℕ, ◌+◌, Bool, true, false, not, ◌==◌, nat_eq, ◌||◌, if◌then◌else◌, List, [], ◌∷◌, drop, codes, filter}
+use Rattle.std.specs.Prelude.{◌≡◌, ◌≢◌, ℕ, ◌+◌, Bool, true, false, not, ◌==◌, nat_eq, ◌||◌, if◌then◌else◌, List, [], ◌∷◌, drop, codes, filter, Option, Some, None}
 use Rattle.std.specs.List.{slice_split, join_with_byte, starts_with}
+use Rattle.std.specs.Str.{bytes_eq}
 use Rattle.cl_edit.specs.declared.version.Version.{Version}
 use Rattle.cl_edit.specs.declared.version.Version.TheVariants.{One, Two}
 
@@ -82,3 +83,24 @@ pub record IsTitled (version : Version) (text : List ℕ) (others : List (List �
   pub title : List ℕ
   pub parts : lines text ≡ title ∷ others
   pub is : IsTitle version title others
+
+-- ---- the version that a text names
+
+-- the first of some lines, and what stands before the first line feed of a text
+abbrev pub first_of_lines : List (List ℕ) → List ℕ
+first_of_lines [] = []
+first_of_lines (line ∷ lines) = line
+
+abbrev pub first_line : List ℕ → List ℕ
+first_line text = first_of_lines (lines text)
+
+-- the version that a first line names: that of a list whose title it is, but for the end of a line of version 1
+unfoldable pub version_of_line : (line : List ℕ) → Option Version
+version_of_line line =
+    if bytes_eq (plain (without_mark line)) (codes "chainlat edits 2") then Some Two
+    else if bytes_eq (without_return line) (codes "chainlat edits 1") then Some One
+    else None
+
+-- the version that a text names in its first line, whether or not it lists edits
+abbrev pub version_named : (text : List ℕ) → Option Version
+version_named text = version_of_line (first_line text)

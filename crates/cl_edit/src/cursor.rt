@@ -26,7 +26,7 @@ pub(crate) struct Cursor<'a> {
 
 /// Splits a text behind its first line: the line without its end, and what follows the end, if it
 /// has one.
-fn first_line(text: &[u8]) -> (&[u8], Option<&[u8]>)
+pub(crate) fn first_line(text: &[u8]) -> (&[u8], Option<&[u8]>)
     ensures { lines text.now ≡ result.0.now ∷ lines_left result.1 }
 {
     match memchr(b'\n', text) {

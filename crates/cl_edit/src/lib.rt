@@ -3,6 +3,7 @@
 #![tactic(auto)]
 
 mod change;
+mod changed;
 mod check;
 mod check_lists;
 mod check_move;
@@ -30,10 +31,12 @@ mod reading;
 mod resolve;
 mod said;
 mod task_line;
+mod title;
 mod version;
 mod words;
 
 pub use change::Change;
+pub use changed::changed_model;
 pub use check::check_edit;
 use cl_model::ModelFault;
 pub use edit::{Edit, NamedPriority};
@@ -42,6 +45,7 @@ pub use fault::EditsFault;
 pub use limits::{MOST_EDITS, MOST_REPORTS};
 pub use make::{apply_edit, edit_valid};
 pub use reading::read_edits;
+pub use title::version_named;
 pub use version::Version;
 
 /// Why an edit isn't applied: its first refusal, or memory ran out.

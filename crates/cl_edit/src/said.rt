@@ -12,7 +12,8 @@ fn is_blank(byte: u8) -> bool
     byte == b' ' || byte == b'\t'
 }
 
-fn without_return(line: &[u8]) -> &[u8]
+/// Returns a line without the carriage return that it may end with.
+pub(crate) fn without_return(line: &[u8]) -> &[u8]
     ensures { result.now ≡ without_return line.now }
 {
     line.strip_suffix(b"\r".as_slice()).unwrap_or(line)

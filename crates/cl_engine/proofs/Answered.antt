@@ -10,12 +10,12 @@ use Rattle.cl_engine.specs.declared.status.TheConstants.{NO_MEMORY}
 use Rattle.cl_engine.specs.Calls.{ShelfCall, SinkCall}
 use Rattle.cl_engine.specs.Content.{Content, content_of, Means, Fits}
 use Rattle.cl_engine.specs.Fetched.{Unasked, EachFile, FileGave, TellsFiles, WaitsForModel}
-use Rattle.cl_engine.specs.Files.{File, files_named, word}
+use Rattle.cl_engine.specs.Files.{File, files_named, files_limited, word}
 use Rattle.cl_engine.specs.Inner.Leaving.{LeavesRest, Cause, IsCaused}
 use Rattle.cl_engine.specs.Inner.Opened.{AreOpenedAs, HaveOpened, LeavesOthers}
 use Rattle.cl_engine.specs.SoundCall.{IsSoundCall}
-use Rattle.cl_engine.specs.Language.{Language, MayEnd, files_asked, files_of}
-use Rattle.cl_engine.specs.Outcome.{words_refused, Opens}
+use Rattle.cl_engine.specs.Language.{Language, files_asked, files_of, limited_asked}
+use Rattle.cl_engine.specs.Outcome.{words_refused, MayEnd, Opens}
 use Rattle.cl_engine.specs.Run.{ComesAs, ComesTo, IsOutOfMemory}
 use Rattle.cl_engine.specs.Steps.{TakesOfContent, AreFewSteps}
 use Rattle.cl_engine.proofs.Comings.{stops_cause, ended_cause}
@@ -54,9 +54,6 @@ module _ {C : Type 0} (language : Language C) (words : List (List ℕ)) (shelf :
     each_named : (P : File → Type 0) → EachFile (files_of language words) P → EachFile (files_named named) P
     each_named P each = subst (λ (n : Files). EachFile (files_named n) P) (sym is_named) (subst (λ (c : Option C). EachFile (files_asked language c) P) spelled each)
 
-    files_are : files_named named ≡ files_of language words
-    files_are = ap files_named is_named ∙ ap (files_asked language) (sym spelled)
-
     module _ (opens : Opened) (has : HaveOpened named words shelf opens) where
       comes_of : (found : Outcome) → Opens named has.gave (language.comes_to asked) found → ComesTo language words shelf found
       comes_of found follows = subst (λ (c : Option C). ComesAs language c words shelf found) (sym spelled) (record {
@@ -66,8 +63,9 @@ module _ {C : Type 0} (language : Language C) (words : List (List ℕ)) (shelf :
         follows = subst (λ (n : Files). Opens n has.gave (language.comes_to asked) found) is_named follows;
       })
 
-      cause_of : (found : Outcome) → Cause (files_named named) words shelf found → IsCaused language words shelf found
-      cause_of found cause = inr (subst (λ files. Cause files words shelf found) files_are cause)
+      cause_of : (found : Outcome) → Cause (files_named named) (files_limited named) words shelf found → IsCaused language words shelf found
+      cause_of found cause = inr (subst (λ (c : Option C). Cause (files_asked language c) (limited_asked language c) words shelf found) (sym spelled)
+          (subst (λ (n : Files). Cause (files_named n) (files_limited n) words shelf found) is_named cause))
 
       -- what the files hold
       module _ (given : Given) (is : opens ≡ opened.Held given) where
@@ -77,8 +75,9 @@ module _ {C : Type 0} (language : Language C) (words : List (List ℕ)) (shelf :
         pub given_fits : Fits (language.files asked) (content_of given)
         given_fits = subst (λ (n : Files). Fits n (content_of given)) is_named (gives_fit named has.gave (content_of given) (subst (AreOpenedAs named has.gave) is has.are))
 
-        pub given_caused : (found : Outcome) → MayEnd (language.files asked) found.status → IsCaused language words shelf found
-        given_caused found may = cause_of found (ended_cause named words shelf found (subst (λ (n : Files). MayEnd n found.status) (sym is_named) may))
+        pub given_caused : (found : Outcome) → MayEnd (content_of given) (language.files asked) found → IsCaused language words shelf found
+        given_caused found may = cause_of found (ended_cause words shelf has.gave found (content_of given) named (subst (AreOpenedAs named has.gave) is has.are) has.may has.waits
+            (subst (λ (n : Files). MayEnd (content_of given) n found) (sym is_named) may))
 
         -- the steps of what they hold, where the shelf tells them
         pub given_steps : (steps steps_after : ℕ) → language.takes asked (content_of given) steps steps_after → (contents : ℕ → List ℕ)

@@ -7,7 +7,7 @@ use Rattle.cl_engine.specs.Calls.{ShelfCall, SinkCall}
 use Rattle.cl_engine.specs.Fetched.{FileRose, FileTooLong, NoneAfter}
 use Rattle.cl_engine.specs.Files.{File}
 use Rattle.cl_engine.specs.Inner.Leaving.{Cause, OfFault, OfLength, OfRefusal, OfContent, IsCaused}
-use Rattle.cl_engine.specs.Language.{Language, files_of, IsOfContent}
+use Rattle.cl_engine.specs.Language.{Language, files_of, limited_of, IsOfContent}
 use Rattle.cl_engine.specs.Outcome.{words_refused, read_fault, long_file}
 use Rattle.cl_engine.specs.Run.{ComesAs, ComesTo, IsWhole, IsCutShort, WritesOfFile}
 
@@ -28,35 +28,35 @@ of_content status content is = absurd (omega (arith, content, is))
 moved : {K : Type 0} (sink : SinkCall K) (found : Outcome) (status : ℕ) (other : Outcome) → found ≡ other → IsWhole sink found status → IsWhole sink other status
 moved sink found status other is whole = subst (λ (o : Outcome). IsWhole sink o status) is whole
 
-module _ (files : List File) (words : List (List ℕ)) (shelf : ShelfCall) (found : Outcome) where
+module _ (files limited : List File) (words : List (List ℕ)) (shelf : ShelfCall) (found : Outcome) where
   -- a cause is none of the words
-  not_words : Cause files words shelf found → found.status ≡ 2 → ⊥
+  not_words : Cause files limited words shelf found → found.status ≡ 2 → ⊥
   not_words (OfFault fault) status = omega (arith, status, status_is found (read_fault fault.0.place) fault.2.2)
   not_words (OfLength length) status = omega (arith, status, status_is found (long_file length.0.place) length.2.2)
   not_words (OfRefusal none is) status = omega (arith, status, is)
   not_words (OfContent content) status = of_content found.status content (inl status)
 
   -- nor of a call that failed, nor of a program without words
-  not_failed : Cause files words shelf found → (found.status ≡ WRITE_FAULT) ⊎ ((found.status ≡ NO_MEMORY) ⊎ (found.status ≡ ARGUMENT_NOT_TEXT)) → ⊥
+  not_failed : Cause files limited words shelf found → (found.status ≡ WRITE_FAULT) ⊎ ((found.status ≡ NO_MEMORY) ⊎ (found.status ≡ ARGUMENT_NOT_TEXT)) → ⊥
   not_failed (OfFault fault) failed = omega (arith, failed, status_is found (read_fault fault.0.place) fault.2.2)
   not_failed (OfLength length) failed = omega (arith, failed, status_is found (long_file length.0.place) length.2.2)
   not_failed (OfRefusal none is) failed = omega (arith, failed, is)
   not_failed (OfContent content) failed = omega (arith, content, failed)
 
-  refusal_leaves : Cause files words shelf found → found.status ≡ 5 → NoneAfter files words shelf 1
+  refusal_leaves : Cause files limited words shelf found → found.status ≡ 5 → NoneAfter files words shelf 1
   refusal_leaves (OfFault fault) refused = absurd (omega (arith, refused, status_is found (read_fault fault.0.place) fault.2.2))
   refusal_leaves (OfLength length) refused = absurd (omega (arith, refused, status_is found (long_file length.0.place) length.2.2))
   refusal_leaves (OfRefusal none is) refused = none
   refusal_leaves (OfContent content) refused = of_content found.status content (inr (inr (inr refused)))
 
   module _ {K : Type 0} (sink : SinkCall K) (status : ℕ) where
-    fault_writes : Cause files words shelf found → found.status ≡ 3 → IsWhole sink found status → WritesOfFile files words shelf (FileRose words shelf) read_fault sink status
+    fault_writes : Cause files limited words shelf found → found.status ≡ 3 → IsWhole sink found status → WritesOfFile files words shelf (FileRose words shelf) read_fault sink status
     fault_writes (OfFault cause) fault whole = (cause.0, cause.1, (cause.2.0, cause.2.1, moved sink found status (read_fault cause.0.place) cause.2.2 whole))
     fault_writes (OfLength cause) fault whole = absurd (omega (arith, fault, status_is found (long_file cause.0.place) cause.2.2))
     fault_writes (OfRefusal none is) fault whole = absurd (omega (arith, fault, is))
     fault_writes (OfContent content) fault whole = of_content found.status content (inr (inl fault))
 
-    length_writes : Cause files words shelf found → found.status ≡ 4 → IsWhole sink found status → WritesOfFile files words shelf (FileTooLong words shelf) long_file sink status
+    length_writes : Cause files limited words shelf found → found.status ≡ 4 → IsWhole sink found status → WritesOfFile limited words shelf (FileTooLong words shelf) long_file sink status
     length_writes (OfFault cause) long whole = absurd (omega (arith, long, status_is found (read_fault cause.0.place) cause.2.2))
     length_writes (OfLength cause) long whole = (cause.0, cause.1, (cause.2.0, cause.2.1, moved sink found status (long_file cause.0.place) cause.2.2 whole))
     length_writes (OfRefusal none is) long whole = absurd (omega (arith, long, is))
@@ -71,7 +71,7 @@ module _ {C : Type 0} (language : Language C) (words : List (List ℕ)) (shelf :
   -- no outcome has the status of a call that failed, or that of a program without words
   other_outcome : IsCaused language words shelf found → (found.status ≡ WRITE_FAULT) ⊎ ((found.status ≡ NO_MEMORY) ⊎ (found.status ≡ ARGUMENT_NOT_TEXT)) → ⊥
   other_outcome (inl refused) failed = omega (arith, failed, words_status refused)
-  other_outcome (inr cause) failed = not_failed (files_of language words) words shelf found cause failed
+  other_outcome (inr cause) failed = not_failed (files_of language words) (limited_of language words) words shelf found cause failed
 
   of_none : (command : Option C) → ComesAs language command words shelf found → command ≡ None → found.status ≡ 2
   of_none None comes none = status_is found words_refused comes.follows
@@ -79,7 +79,7 @@ module _ {C : Type 0} (language : Language C) (words : List (List ℕ)) (shelf :
 
   refused_words : IsCaused language words shelf found → found.status ≡ 2 → language.spelled words ≡ None
   refused_words (inl refused) is = refused.0
-  refused_words (inr cause) is = absurd (not_words (files_of language words) words shelf found cause is)
+  refused_words (inr cause) is = absurd (not_words (files_of language words) (limited_of language words) words shelf found cause is)
 
   module _ {K : Type 0} (sink : SinkCall K) (status : ℕ) (caused : IsCaused language words shelf found) where
     pub words_refused_by : Carried sink found status → status ≡ WORDS_REFUSED → language.spelled words ≡ None
@@ -93,23 +93,23 @@ module _ {C : Type 0} (language : Language C) (words : List (List ℕ)) (shelf :
 
     faulted : IsCaused language words shelf found → found.status ≡ 3 → IsWhole sink found status → WritesOfFile (files_of language words) words shelf (FileRose words shelf) read_fault sink status
     faulted (inl refused) is whole = absurd (omega (arith, is, words_status refused))
-    faulted (inr cause) is whole = fault_writes (files_of language words) words shelf found sink status cause is whole
+    faulted (inr cause) is whole = fault_writes (files_of language words) (limited_of language words) words shelf found sink status cause is whole
 
     pub read_fault_ends : Carried sink found status → status ≡ READ_FAULT → WritesOfFile (files_of language words) words shelf (FileRose words shelf) read_fault sink status
     read_fault_ends (inl whole) is = faulted caused (omega (arith, whole.own_status, is)) whole
     read_fault_ends (inr cut) is = absurd (omega (arith, cut.fault_status, is))
 
-    overlong : IsCaused language words shelf found → found.status ≡ 4 → IsWhole sink found status → WritesOfFile (files_of language words) words shelf (FileTooLong words shelf) long_file sink status
+    overlong : IsCaused language words shelf found → found.status ≡ 4 → IsWhole sink found status → WritesOfFile (limited_of language words) words shelf (FileTooLong words shelf) long_file sink status
     overlong (inl refused) is whole = absurd (omega (arith, is, words_status refused))
-    overlong (inr cause) is whole = length_writes (files_of language words) words shelf found sink status cause is whole
+    overlong (inr cause) is whole = length_writes (files_of language words) (limited_of language words) words shelf found sink status cause is whole
 
-    pub long_file_ends : Carried sink found status → status ≡ LONG_FILE → WritesOfFile (files_of language words) words shelf (FileTooLong words shelf) long_file sink status
+    pub long_file_ends : Carried sink found status → status ≡ LONG_FILE → WritesOfFile (limited_of language words) words shelf (FileTooLong words shelf) long_file sink status
     long_file_ends (inl whole) is = overlong caused (omega (arith, whole.own_status, is)) whole
     long_file_ends (inr cut) is = absurd (omega (arith, cut.fault_status, is))
 
     refused_model : IsCaused language words shelf found → found.status ≡ 5 → NoneAfter (files_of language words) words shelf 1
     refused_model (inl refused) is = absurd (omega (arith, is, words_status refused))
-    refused_model (inr cause) is = refusal_leaves (files_of language words) words shelf found cause is
+    refused_model (inr cause) is = refusal_leaves (files_of language words) (limited_of language words) words shelf found cause is
 
     pub model_refused_ends : Carried sink found status → status ≡ MODEL_REFUSED → NoneAfter (files_of language words) words shelf 1
     model_refused_ends (inl whole) is = refused_model caused (omega (arith, whole.own_status, is))

@@ -3,6 +3,8 @@ use Rattle.std.proofs.Common.{◌≡◌, ◌≢◌, ℕ, inl, inr, List, [], ◌
 use Rattle.std.specs.List.{AllByRecursion}
 use Rattle.std.specs.declared.alloc.Global.{Global}
 use Rattle.cl_model.specs.declared.model.SystemModel.{SystemModel}
+use Rattle.cl_model.specs.declared.refusal.Refusal.{Refusal}
+use Rattle.cl_model.specs.Reading.{model_of}
 use Rattle.cl_engine.specs.declared.files.Files.{Files}
 use Rattle.cl_engine.specs.declared.files.Files.TheVariants as files
 use Rattle.cl_engine.specs.declared.files.TheConstants.{FILE_LIMIT}
@@ -15,12 +17,12 @@ use Rattle.cl_engine.specs.declared.opening.OpenedModel.TheVariants as model_ope
 use Rattle.cl_engine.specs.declared.opening.Opened.{Opened}
 use Rattle.cl_engine.specs.declared.opening.Opened.TheVariants as opened
 use Rattle.cl_engine.specs.Calls.{ShelfCall, FetchesAlone}
-use Rattle.cl_engine.specs.Content.{Content, Model, ModelAnd, content_of, MeansModel}
+use Rattle.cl_engine.specs.Content.{Content, Bytes as Whole, Model, ModelAnd, content_of, MeansModel}
 use Rattle.cl_engine.specs.Fetched.{Fetched, Unasked, Bytes, MayGive, EachFile, FileGave, NoneAfter, WaitsForModel}
 use Rattle.cl_engine.specs.Files.{File, model_file, second_file, files_named, word}
 use Rattle.cl_engine.specs.Inner.Opened.{NoNext, given, IsOpenedAs, IsSecondAs, HasOpened, HasOpenedSecond, GivesModel, GivesContent, AreOpenedAs, HaveOpened, LeavesOthers}
-use Rattle.cl_engine.specs.Outcome.{read_fault, long_file, OpensTo, Opens}
-use Rattle.cl_engine.proofs.Openings.{gives_model, gives_accepted, model_stops, next_model, stops_more}
+use Rattle.cl_engine.specs.Outcome.{read_fault, long_file, model_refused, IsOfRefusal, ReadsEither, ReadsTo, OpensTo, Opens}
+use Rattle.cl_engine.proofs.Openings.{gives_model, gives_accepted, gives_none, model_refuses, model_stops, next_model}
 use Rattle.cl_engine.proofs.TwoCalls.{Follows, through, LeavesTwo, fetches_two, first_may, second_may}
 
 -- ---- what is left
@@ -101,21 +103,18 @@ module _ (words : List (List ℕ)) (shelf : ShelfCall) where
 
   -- the model of a file
   module _ (gives : OpenedModel) (has : HasOpened shelf (word words 1) gives) where
-    pub model_opens : (model : SystemModel) → gives ≡ model_opened.Valid model → HaveOpened files.Model words shelf (opened.Held (held.Model model))
-    model_opens model is = record {
-      gave = λ _. has.fetch;
-      may = (has.may, tt);
-      waits = λ _. none_after_one;
-      are = gives_model has.fetch model (subst (IsOpenedAs has.fetch) is has.is);
-    }
+    model_gives : (opens : Opened) → AreOpenedAs files.Model (λ _. has.fetch) opens → HaveOpened files.Model words shelf opens
+    model_gives opens are = record { gave = λ _. has.fetch; may = (has.may, tt); waits = λ _. none_after_one; are = are }
 
-    pub model_none : (found : Outcome) → gives ≡ model_opened.Stopped found → HaveOpened files.Model words shelf (opened.Stopped found)
-    model_none found is = record {
-      gave = λ _. has.fetch;
-      may = (has.may, tt);
-      waits = λ _. none_after_one;
-      are = model_stops has.fetch found (subst (IsOpenedAs has.fetch) is has.is);
-    }
+    pub model_opens : (model : SystemModel) → gives ≡ model_opened.Valid model → HaveOpened files.Model words shelf (opened.Held (held.Model model))
+    model_opens model is = model_gives (opened.Held (held.Model model)) (gives_model has.fetch model (subst (IsOpenedAs has.fetch) is has.is))
+
+    pub model_none : (bytes : Vec ℕ Global) (refusal : Refusal) (found : Outcome) → gives ≡ model_opened.Refused bytes refusal → found ≡ model_refused refusal
+        → HaveOpened files.Model words shelf (opened.Stopped found)
+    model_none bytes refusal found is refused = model_gives (opened.Stopped found) (model_refuses bytes refusal found refused NoNext has.fetch (subst (IsOpenedAs has.fetch) is has.is))
+
+    pub model_unread : (found : Outcome) → gives ≡ model_opened.Stopped found → HaveOpened files.Model words shelf (opened.Stopped found)
+    model_unread found is = model_gives (opened.Stopped found) (model_stops has.fetch found (λ bytes. ReadsTo (model_of bytes) NoNext) (subst (IsOpenedAs has.fetch) is has.is))
 
 -- what two fetches gave: that of the first file, and that of the second
 abbrev both : (first second : Fetched) → File → Fetched
@@ -123,37 +122,71 @@ both first second file = cond (nat_eq file.place 1) first second
 
 module _ (words : List (List ℕ)) (limit : ℕ) where
   -- the model is opened, and then the second file
-  pub both_open : (one two : ShelfCall) → Follows one two → FetchesAlone one (word words 1) → FetchesAlone two (word words 2)
-      → (gives : OpenedModel) → HasOpened one (word words 1) gives → (model : SystemModel) → gives ≡ model_opened.Valid model
-      → (opens : Opened) → HasOpenedSecond two (word words 2) limit model opens → HaveOpened (files.ModelAnd limit) words (through one two) opens
-  both_open one two joins alone later gives has model valid opens second = record {
-    gave = both has.fetch second.fetch;
-    may = (
+  module _ (one two : ShelfCall) (joins : Follows one two) (alone : FetchesAlone one (word words 1)) (later : FetchesAlone two (word words 2))
+      (gives : OpenedModel) (has : HasOpened one (word words 1) gives) (model : SystemModel) (valid : gives ≡ model_opened.Valid model)
+      (opens : Opened) (second : HasOpenedSecond two (word words 2) limit model opens) where
+    gives_it : GivesModel has.fetch model
+    gives_it = gives_model has.fetch model (subst (IsOpenedAs has.fetch) valid has.is)
+
+    both_may : EachFile (model_file ∷ second_file limit ∷ []) (FileGave words (through one two) (both has.fetch second.fetch))
+    both_may = (
       first_may one two joins (word words 1) (word words 2) alone later FILE_LIMIT has.fetch has.may,
       (second_may one two joins (word words 1) (word words 2) alone later limit second.fetch second.may, tt),
-    );
-    waits = λ refused. absurd (refused (gives_accepted has.fetch model gives_it));
-    are = by_second opens second.is;
-  }
-    where
-      gives_it : GivesModel has.fetch model
-      gives_it = gives_model has.fetch model (subst (IsOpenedAs has.fetch) valid has.is)
+    )
 
-      by_second : (opens : Opened) → IsSecondAs model second.fetch opens → AreOpenedAs (files.ModelAnd limit) (both has.fetch second.fetch) opens
-      by_second (opened.Held given) (text, is, gave) =
-          subst (λ (content : Content). GivesContent (files.ModelAnd limit) (both has.fetch second.fetch) content) (sym is) (gives_it, gave)
-      by_second (opened.Stopped found) is =
-          next_model found has.fetch model (λ m. OpensTo 2 second.fetch NoNext) gives_it is
+    both_waits : WaitsForModel (model_file ∷ second_file limit ∷ []) words (through one two) (both has.fetch second.fetch)
+    both_waits = λ refused. absurd (refused (gives_accepted has.fetch model gives_it))
 
-  -- the model stops the command
-  pub first_stops : (shelf : ShelfCall) → FetchesAlone shelf (word words 1) → (gives : OpenedModel) → HasOpened shelf (word words 1) gives
-      → (found : Outcome) → gives ≡ model_opened.Stopped found → HaveOpened (files.ModelAnd limit) words shelf (opened.Stopped found)
-  first_stops shelf alone gives has found stopped = record {
-    gave = both has.fetch Unasked;
-    may = (has.may, (tt, tt));
-    waits = λ refused. (
+    -- beside a model that has to be valid
+    pub both_open : HaveOpened (files.ModelAnd limit) words (through one two) opens
+    both_open = record { gave = both has.fetch second.fetch; may = both_may; waits = both_waits; are = by_second opens second.is }
+      where
+        by_second : (found : Opened) → IsSecondAs model second.fetch found → AreOpenedAs (files.ModelAnd limit) (both has.fetch second.fetch) found
+        by_second (opened.Held given) (text, is, gave) =
+            subst (λ (content : Content). GivesContent (files.ModelAnd limit) (both has.fetch second.fetch) content) (sym is) (gives_it, gave)
+        by_second (opened.Stopped found) is = next_model found has.fetch model (λ bytes. IsOfRefusal) (λ m. OpensTo 2 second.fetch NoNext) gives_it is
+
+    -- beside a model that may be refused
+    pub either_open : HaveOpened (files.ContentAnd limit) words (through one two) opens
+    either_open = record { gave = both has.fetch second.fetch; may = both_may; waits = both_waits; are = by_second opens second.is }
+      where
+        by_second : (found : Opened) → IsSecondAs model second.fetch found → AreOpenedAs (files.ContentAnd limit) (both has.fetch second.fetch) found
+        by_second (opened.Held given) (text, is, gave) =
+            subst (λ (content : Content). GivesContent (files.ContentAnd limit) (both has.fetch second.fetch) content) (sym is) (gives_it, gave)
+        by_second (opened.Stopped found) is =
+            next_model found has.fetch model (λ bytes refusal. NoNext (Whole bytes)) (λ m. OpensTo 2 second.fetch NoNext) gives_it is
+
+  -- the first file alone is fetched
+  module _ (shelf : ShelfCall) (alone : FetchesAlone shelf (word words 1)) (gives : OpenedModel) (has : HasOpened shelf (word words 1) gives) where
+    first_waits : WaitsForModel (model_file ∷ second_file limit ∷ []) words shelf (both has.fetch Unasked)
+    first_waits = λ refused. (
       λ less. absurd (omega (arith, less)),
       (λ less apart. record { faults = alone.faults.others (word words 2) apart; longest = alone.longest.others (word words 2) apart }, tt),
-    );
-    are = stops_more found has.fetch (λ m. OpensTo 2 Unasked NoNext) (model_stops has.fetch found (subst (IsOpenedAs has.fetch) stopped has.is));
-  }
+    )
+
+    -- a model that has to be valid
+    first_gives : (opens : Opened) → AreOpenedAs (files.ModelAnd limit) (both has.fetch Unasked) opens → HaveOpened (files.ModelAnd limit) words shelf opens
+    first_gives opens are = record { gave = both has.fetch Unasked; may = (has.may, (tt, tt)); waits = first_waits; are = are }
+
+    pub first_refused : (bytes : Vec ℕ Global) (refusal : Refusal) (found : Outcome) → gives ≡ model_opened.Refused bytes refusal → found ≡ model_refused refusal
+        → HaveOpened (files.ModelAnd limit) words shelf (opened.Stopped found)
+    first_refused bytes refusal found is refused =
+        first_gives (opened.Stopped found) (model_refuses bytes refusal found refused (λ m. OpensTo 2 Unasked NoNext) has.fetch (subst (IsOpenedAs has.fetch) is has.is))
+
+    pub first_stops : (found : Outcome) → gives ≡ model_opened.Stopped found → HaveOpened (files.ModelAnd limit) words shelf (opened.Stopped found)
+    first_stops found is =
+        first_gives (opened.Stopped found)
+        (model_stops has.fetch found (λ bytes. ReadsTo (model_of bytes) (λ m. OpensTo 2 Unasked NoNext)) (subst (IsOpenedAs has.fetch) is has.is))
+
+    -- a model that may be refused
+    either_gives : (opens : Opened) → AreOpenedAs (files.ContentAnd limit) (both has.fetch Unasked) opens → HaveOpened (files.ContentAnd limit) words shelf opens
+    either_gives opens are = record { gave = both has.fetch Unasked; may = (has.may, (tt, tt)); waits = first_waits; are = are }
+
+    pub either_refused : (bytes : Vec ℕ Global) (refusal : Refusal) → gives ≡ model_opened.Refused bytes refusal
+        → HaveOpened (files.ContentAnd limit) words shelf (opened.Held (held.Content bytes))
+    either_refused bytes refusal is = either_gives (opened.Held (held.Content bytes)) (gives_none bytes refusal has.fetch (subst (IsOpenedAs has.fetch) is has.is))
+
+    pub either_stops : (found : Outcome) → gives ≡ model_opened.Stopped found → HaveOpened (files.ContentAnd limit) words shelf (opened.Stopped found)
+    either_stops found is =
+        either_gives (opened.Stopped found)
+        (model_stops has.fetch found (λ bytes. ReadsEither (model_of bytes) (λ refusal. NoNext (Whole bytes)) (λ m. OpensTo 2 Unasked NoNext)) (subst (IsOpenedAs has.fetch) is has.is))

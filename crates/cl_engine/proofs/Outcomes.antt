@@ -1,6 +1,6 @@
 -- Outcomes of files that are open: there is one, two say the same, and one with a status of the command's own is that of
 -- what the files hold.
-use Rattle.std.proofs.Common.{◌≡◌, ℕ, ◌≤◌, inl, inr, Bool, true, false, List, Option, Some, None, Result, Ok, Err, refl, sym, ap, ◌∙◌, subst, arith, length}
+use Rattle.std.proofs.Common.{◌≡◌, ℕ, ◌≤◌, inl, inr, Bool, true, false, List, [], ◌∷◌, Option, Some, None, Result, Ok, Err, refl, sym, ap, ◌∙◌, subst, arith, length}
 use Rattle.std.specs.Prelude.{nat_lt, if◌then◌else◌}
 use Rattle.cl_model.specs.declared.model.SystemModel.{SystemModel}
 use Rattle.cl_model.specs.declared.refusal.Refusal.{Refusal}
@@ -13,12 +13,12 @@ use Rattle.cl_engine.specs.declared.files.Files.TheVariants as files
 use Rattle.cl_engine.specs.declared.files.TheConstants.{FILE_LIMIT}
 use Rattle.cl_engine.specs.declared.outcome.Outcome.{Outcome}
 use Rattle.cl_engine.specs.declared.status.TheConstants.{WRITE_FAULT, NO_MEMORY}
-use Rattle.cl_engine.specs.Content.{Content, Nothing, Bytes as Whole, Model, ModelAnd, Fits, MeansModel, Means}
+use Rattle.cl_engine.specs.Content.{Content, Nothing, Bytes as Whole, Model, ModelAnd, Fits, MeansModel, MeansNone, Means}
 use Rattle.cl_engine.specs.Fetched.{Fetched, Unasked, Bytes, Fault, TooLong, EachFile, WasFetched, told_fetch}
 use Rattle.cl_engine.specs.Files.{File, model_file, second_file, files_named}
 use Rattle.cl_engine.specs.Language.{IsOfContent}
-use Rattle.cl_engine.specs.Outcome.{read_fault, long_file, model_refused, ValidatesTo, ReadsTo, OpensTo, Opens}
-use Rattle.cl_engine.proofs.Openings.{valid_read}
+use Rattle.cl_engine.specs.Outcome.{read_fault, long_file, model_refused, IsOfRefusal, ValidatesEither, ValidatesTo, ReadsEither, ReadsTo, OpensTo, OpensSecond, OpensBoth, Opens}
+use Rattle.cl_engine.proofs.Openings.{valid_read, none_of_refused, none_of_unread}
 
 -- the model of a file that was opened is valid, and its names are names
 abbrev pub IsOpened : Content → Type 0
@@ -35,14 +35,19 @@ SomeOutcome P = (found : Outcome) × P found
 
 -- ---- there is an outcome
 
-module _ (next : SystemModel → Outcome → Type 0) (some : (model : SystemModel) → IsValid model × AreNamed model → SomeOutcome (next model)) where
-  some_validated : (bytes : List ℕ) (model : SystemModel) (refusal : Option Refusal) → model_of bytes ≡ Ok model → refusal_of model ≡ refusal → SomeOutcome (ValidatesTo model refusal next)
+module _ (refused : Refusal → Outcome → Type 0) (stops : (refusal : Refusal) → SomeOutcome (refused refusal))
+    (next : SystemModel → Outcome → Type 0) (some : (model : SystemModel) → IsValid model × AreNamed model → SomeOutcome (next model)) where
+  some_validated : (bytes : List ℕ) (model : SystemModel) (refusal : Option Refusal) → model_of bytes ≡ Ok model → refusal_of model ≡ refusal
+      → SomeOutcome (ValidatesEither model refusal refused next)
   some_validated bytes model None means none = some model (good_model bytes model (record { means = means; unrefused = none }))
-  some_validated bytes model (Some refusal) means is = (model_refused refusal, refl)
+  some_validated bytes model (Some refusal) means is = stops refusal
 
-  some_read : (bytes : List ℕ) (read : Result SystemModel Refusal) → model_of bytes ≡ read → SomeOutcome (ReadsTo read next)
+  some_read : (bytes : List ℕ) (read : Result SystemModel Refusal) → model_of bytes ≡ read → SomeOutcome (ReadsEither read refused next)
   some_read bytes (Ok model) means = some_validated bytes model (refusal_of model) means refl
-  some_read bytes (Err refusal) means = (model_refused refusal, refl)
+  some_read bytes (Err refusal) means = stops refusal
+
+some_refusal : (refusal : Refusal) → SomeOutcome (IsOfRefusal refusal)
+some_refusal refusal = (model_refused refusal, refl)
 
 some_file : (place : ℕ) (fetch : Fetched) → WasFetched fetch → (next : List ℕ → Outcome → Type 0) → ((bytes : List ℕ) → SomeOutcome (next bytes)) → SomeOutcome (OpensTo place fetch next)
 some_file place Unasked fetched next some = absurd fetched
@@ -51,6 +56,15 @@ some_file place TooLong fetched next some = (long_file place, refl)
 some_file place (Bytes bytes) fetched next some = some bytes
 
 module _ (gave : File → Fetched) (next : Content → Outcome → Type 0) where
+  some_both : (limit : ℕ) → EachFile (model_file ∷ second_file limit ∷ []) (λ file. WasFetched (gave file)) → (refused : List ℕ → Refusal → Outcome → Type 0)
+      → ((bytes : List ℕ) (refusal : Refusal) → SomeOutcome (refused bytes refusal))
+      → ((model : SystemModel) (text : List ℕ) → IsValid model × AreNamed model → SomeOutcome (next (ModelAnd model text))) → SomeOutcome (OpensBoth limit gave refused next)
+  some_both limit fetched refused stops some =
+      some_file 1 (gave model_file) fetched.0 (λ bytes. ReadsEither (model_of bytes) (refused bytes) (OpensSecond limit gave next))
+      (λ bytes. some_read (refused bytes) (stops bytes) (OpensSecond limit gave next)
+      (λ model good. some_file 2 (gave (second_file limit)) fetched.1.0 (λ text. next (ModelAnd model text)) (λ text. some model text good))
+      bytes (model_of bytes) refl)
+
   pub some_opens : (named : Files) → EachFile (files_named named) (λ file. WasFetched (gave file))
       → ((content : Content) → Fits named content → IsOpened content → SomeOutcome (next content)) → SomeOutcome (Opens named gave next)
   unfolding Fits
@@ -58,25 +72,27 @@ module _ (gave : File → Fetched) (next : Content → Outcome → Type 0) where
   some_opens files.Content fetched some = some_file 1 (gave model_file) fetched.0 (λ bytes. next (Whole bytes)) (λ bytes. some (Whole bytes) tt tt)
   some_opens files.Model fetched some =
       some_file 1 (gave model_file) fetched.0 (λ bytes. ReadsTo (model_of bytes) (λ model. next (Model model)))
-      (λ bytes. some_read (λ model. next (Model model)) (λ model good. some (Model model) tt good) bytes (model_of bytes) refl)
-  some_opens (files.ModelAnd limit) fetched some =
-      let second : SystemModel → Outcome → Type 0 = λ model. OpensTo 2 (gave (second_file limit)) (λ text. next (ModelAnd model text)) in
-      some_file 1 (gave model_file) fetched.0 (λ bytes. ReadsTo (model_of bytes) second)
-      (λ bytes. some_read second (λ model good. some_file 2 (gave (second_file limit)) fetched.1.0 (λ text. next (ModelAnd model text)) (λ text. some (ModelAnd model text) tt good))
-      bytes (model_of bytes) refl)
+      (λ bytes. some_read IsOfRefusal some_refusal (λ model. next (Model model)) (λ model good. some (Model model) tt good) bytes (model_of bytes) refl)
+  some_opens (files.ModelAnd limit) fetched some = some_both limit fetched (λ bytes. IsOfRefusal) (λ bytes. some_refusal) (λ model text good. some (ModelAnd model text) tt good)
+  some_opens (files.ContentAnd limit) fetched some =
+      some_both limit fetched (λ bytes refusal. next (Whole bytes)) (λ bytes refusal. some (Whole bytes) tt tt) (λ model text good. some (ModelAnd model text) tt good)
 
 -- ---- two outcomes say the same
 
 module _ (Same : Outcome → Outcome → Type 0) (equal : (one other : Outcome) → one ≡ other → Same one other) (one other : Outcome) where
-  module _ (next : SystemModel → Outcome → Type 0) (same : (model : SystemModel) → IsValid model × AreNamed model → next model one → next model other → Same one other) where
-    same_validated : (bytes : List ℕ) (model : SystemModel) (refusal : Option Refusal) → model_of bytes ≡ Ok model → refusal_of model ≡ refusal → ValidatesTo model refusal next one
-        → ValidatesTo model refusal next other → Same one other
+  module _ (refused : Refusal → Outcome → Type 0) (stop : (refusal : Refusal) → refused refusal one → refused refusal other → Same one other)
+      (next : SystemModel → Outcome → Type 0) (same : (model : SystemModel) → IsValid model × AreNamed model → next model one → next model other → Same one other) where
+    same_validated : (bytes : List ℕ) (model : SystemModel) (refusal : Option Refusal) → model_of bytes ≡ Ok model → refusal_of model ≡ refusal → ValidatesEither model refusal refused next one
+        → ValidatesEither model refusal refused next other → Same one other
     same_validated bytes model None means none h k = same model (good_model bytes model (record { means = means; unrefused = none })) h k
-    same_validated bytes model (Some refusal) means is h k = equal one other (h ∙ sym k)
+    same_validated bytes model (Some refusal) means is h k = stop refusal h k
 
-    same_read : (bytes : List ℕ) (read : Result SystemModel Refusal) → model_of bytes ≡ read → ReadsTo read next one → ReadsTo read next other → Same one other
+    same_read : (bytes : List ℕ) (read : Result SystemModel Refusal) → model_of bytes ≡ read → ReadsEither read refused next one → ReadsEither read refused next other → Same one other
     same_read bytes (Ok model) means h k = same_validated bytes model (refusal_of model) means refl h k
-    same_read bytes (Err refusal) means h k = equal one other (h ∙ sym k)
+    same_read bytes (Err refusal) means h k = stop refusal h k
+
+  same_refusal : (refusal : Refusal) → IsOfRefusal refusal one → IsOfRefusal refusal other → Same one other
+  same_refusal refusal h k = equal one other (h ∙ sym k)
 
   same_file : (place : ℕ) (fetch : Fetched) (next : List ℕ → Outcome → Type 0) → ((bytes : List ℕ) → next bytes one → next bytes other → Same one other)
       → OpensTo place fetch next one → OpensTo place fetch next other → Same one other
@@ -86,17 +102,22 @@ module _ (Same : Outcome → Outcome → Type 0) (equal : (one other : Outcome) 
   same_file place (Bytes bytes) next same h k = same bytes h k
 
   module _ (gave : File → Fetched) (next : Content → Outcome → Type 0) (same : (content : Content) → IsOpened content → next content one → next content other → Same one other) where
+    same_both : (limit : ℕ) (refused : List ℕ → Refusal → Outcome → Type 0) → ((bytes : List ℕ) (refusal : Refusal) → refused bytes refusal one → refused bytes refusal other → Same one other)
+        → OpensBoth limit gave refused next one → OpensBoth limit gave refused next other → Same one other
+    same_both limit refused stop h k =
+        same_file 1 (gave model_file) (λ bytes. ReadsEither (model_of bytes) (refused bytes) (OpensSecond limit gave next))
+        (λ bytes. same_read (refused bytes) (stop bytes) (OpensSecond limit gave next)
+        (λ model good. same_file 2 (gave (second_file limit)) (λ text. next (ModelAnd model text)) (λ text. same (ModelAnd model text) good))
+        bytes (model_of bytes) refl) h k
+
     pub same_opens : (named : Files) → Opens named gave next one → Opens named gave next other → Same one other
     same_opens files.Nothing h k = same Nothing tt h k
     same_opens files.Content h k = same_file 1 (gave model_file) (λ bytes. next (Whole bytes)) (λ bytes. same (Whole bytes) tt) h k
     same_opens files.Model h k =
         same_file 1 (gave model_file) (λ bytes. ReadsTo (model_of bytes) (λ model. next (Model model)))
-        (λ bytes. same_read (λ model. next (Model model)) (λ model. same (Model model)) bytes (model_of bytes) refl) h k
-    same_opens (files.ModelAnd limit) h k =
-        let second : SystemModel → Outcome → Type 0 = λ model. OpensTo 2 (gave (second_file limit)) (λ text. next (ModelAnd model text)) in
-        same_file 1 (gave model_file) (λ bytes. ReadsTo (model_of bytes) second)
-        (λ bytes. same_read second (λ model good. same_file 2 (gave (second_file limit)) (λ text. next (ModelAnd model text)) (λ text. same (ModelAnd model text) good))
-        bytes (model_of bytes) refl) h k
+        (λ bytes. same_read IsOfRefusal same_refusal (λ model. next (Model model)) (λ model. same (Model model)) bytes (model_of bytes) refl) h k
+    same_opens (files.ModelAnd limit) h k = same_both limit (λ bytes. IsOfRefusal) (λ bytes. same_refusal) h k
+    same_opens (files.ContentAnd limit) h k = same_both limit (λ bytes refusal. next (Whole bytes)) (λ bytes refusal. same (Whole bytes) tt) h k
 
 -- ---- an outcome with a status of the command's own
 
@@ -171,6 +192,30 @@ module _ (contents : ℕ → List ℕ) (next : Content → Outcome → Type 0) (
       let (bytes, gave, (m, means, comes)) = done_model found own (told_fetch contents model_file) n opens in
       (m, subst (λ (b : List ℕ). MeansModel b m) (same_bytes FILE_LIMIT (contents 1) bytes gave) means, comes)
 
+  told_second : (limit : ℕ) (m : SystemModel) → OpensSecond limit (told_fetch contents) next m found → (text : List ℕ) × (text ≡ contents 2) × next (ModelAnd m text) found
+  told_second limit m opens =
+      let (text, gave, comes) = done_file found own 2 (told_fetch contents (second_file limit)) (λ text. next (ModelAnd m text)) opens in
+      (text, same_bytes limit (contents 2) text gave, comes)
+
+  -- the first file may be refused
+  module _ (limit : ℕ) (bytes : List ℕ) (same : bytes ≡ contents 1) where
+    told_none : MeansNone bytes → next (Whole bytes) found → IsOfTold (files.ContentAnd limit) contents next found
+    told_none none comes = record { content = Whole bytes; means = (same, none); opened = tt; comes = comes }
+
+    told_validated : (model : SystemModel) (refusal : Option Refusal) → model_of bytes ≡ Ok model → refusal_of model ≡ refusal
+        → ValidatesEither model refusal (λ r. next (Whole bytes)) (OpensSecond limit (told_fetch contents) next) found → IsOfTold (files.ContentAnd limit) contents next found
+    told_validated model None reads none opens =
+        let of_bytes : MeansModel bytes model = record { means = reads; unrefused = none } in
+        let means : MeansModel (contents 1) model = subst (λ (b : List ℕ). MeansModel b model) same of_bytes in
+        let (text, is, comes) = told_second limit model opens in
+        record { content = ModelAnd model text; means = (means, is); opened = good_model (contents 1) model means; comes = comes }
+    told_validated model (Some refusal) reads some comes = told_none (none_of_refused bytes model refusal reads some) comes
+
+    told_read : (read : Result SystemModel Refusal) → model_of bytes ≡ read
+        → ReadsEither read (λ r. next (Whole bytes)) (OpensSecond limit (told_fetch contents) next) found → IsOfTold (files.ContentAnd limit) contents next found
+    told_read (Ok model) reads opens = told_validated model (refusal_of model) reads refl opens
+    told_read (Err refusal) reads comes = told_none (none_of_unread bytes refusal reads) comes
+
   pub opens_of_told : (named : Files) → Opens named (told_fetch contents) next found → IsOfTold named contents next found
   opens_of_told files.Nothing opens = record { content = Nothing; means = tt; opened = tt; comes = opens }
   opens_of_told files.Content opens =
@@ -180,6 +225,10 @@ module _ (contents : ℕ → List ℕ) (next : Content → Outcome → Type 0) (
       let (m, means, comes) = told_model (λ m. next (Model m)) opens in
       record { content = Model m; means = means; opened = good_model (contents 1) m means; comes = comes }
   opens_of_told (files.ModelAnd limit) opens =
-      let (m, means, reads) = told_model (λ m. OpensTo 2 (told_fetch contents (second_file limit)) (λ text. next (ModelAnd m text))) opens in
-      let (text, gave, comes) = done_file found own 2 (told_fetch contents (second_file limit)) (λ text. next (ModelAnd m text)) reads in
-      record { content = ModelAnd m text; means = (means, same_bytes limit (contents 2) text gave); opened = good_model (contents 1) m means; comes = comes }
+      let (m, means, reads) = told_model (OpensSecond limit (told_fetch contents) next) opens in
+      let (text, is, comes) = told_second limit m reads in
+      record { content = ModelAnd m text; means = (means, is); opened = good_model (contents 1) m means; comes = comes }
+  opens_of_told (files.ContentAnd limit) opens =
+      let (bytes, gave, reads) = done_file found own 1 (told_fetch contents model_file)
+      (λ bytes. ReadsEither (model_of bytes) (λ refusal. next (Whole bytes)) (OpensSecond limit (told_fetch contents) next)) opens in
+      told_read limit bytes (same_bytes FILE_LIMIT (contents 1) bytes gave) (model_of bytes) refl reads

@@ -20,7 +20,7 @@ use Rattle.cl_engine.specs.Fetched.{Fetched, Unasked, Bytes, Fault, TooLong, Eac
 use Rattle.cl_engine.specs.Files.{File, model_file, second_file, files_named, word}
 use Rattle.cl_engine.specs.Inner.Opened.{GivesModel, GivesContent}
 use Rattle.cl_engine.specs.Language.{Language, files_asked, files_of, IsOfContent}
-use Rattle.cl_engine.specs.Outcome.{ReadsTo, ValidatesTo, OpensTo, OpensFile, Opens, HasOutcome}
+use Rattle.cl_engine.specs.Outcome.{IsOfRefusal, ReadsEither, ReadsTo, ValidatesEither, OpensTo, OpensFile, OpensSecond, OpensBoth, Opens, HasOutcome}
 use Rattle.cl_engine.specs.Run.{ComesAs, ComesTo, ComesToTold, IsFileFault, IsWhole, IsCarriedOut}
 use Rattle.cl_engine.proofs.Endings.{Carried, counted_rose}
 use Rattle.cl_engine.proofs.Outcomes.{no_fault_of_file, no_write_fault}
@@ -63,18 +63,33 @@ module _ (words : List (List ℕ)) (shelf : ShelfCall) (contents : ℕ → List 
     opens_told gave may tells opens = by_fetch (gave file) (contents file.place) tells may opens
 
   -- what comes next of a model that is read
-  module _ (next told : SystemModel → Outcome → Type 0) (after_told : (model : SystemModel) → next model found → told model found ⊎ Faulted) where
-    validated_told : (model : SystemModel) (refusal : Option Refusal) → ValidatesTo model refusal next found → ValidatesTo model refusal told found ⊎ Faulted
+  module _ (refused : Refusal → Outcome → Type 0) (next told : SystemModel → Outcome → Type 0) (after_told : (model : SystemModel) → next model found → told model found ⊎ Faulted) where
+    validated_told : (model : SystemModel) (refusal : Option Refusal) → ValidatesEither model refusal refused next found → ValidatesEither model refusal refused told found ⊎ Faulted
     validated_told model None is = after_told model is
     validated_told model (Some refusal) is = inl is
 
-    pub read_told : (read : Result SystemModel Refusal) → ReadsTo read next found → ReadsTo read told found ⊎ Faulted
+    pub read_told : (read : Result SystemModel Refusal) → ReadsEither read refused next found → ReadsEither read refused told found ⊎ Faulted
     read_told (Ok model) is = validated_told model (refusal_of model) is
     read_told (Err refusal) is = inl is
 
 module _ (words : List (List ℕ)) (shelf : ShelfCall) (contents : ℕ → List ℕ) where
   module _ (gave : File → Fetched) (next : Content → Outcome → Type 0) (found : Outcome) where
-    -- the outcome of files that are told
+    -- the outcome of two files that are told
+    told_both : (limit : ℕ) (refused : List ℕ → Refusal → Outcome → Type 0) → EachFile (model_file ∷ second_file limit ∷ []) (FileGave words shelf gave)
+        → TellsFiles (model_file ∷ second_file limit ∷ []) words shelf.held contents → OpensBoth limit gave refused next found
+        → OpensBoth limit (told_fetch contents) refused next found ⊎ Faulted words shelf contents (model_file ∷ second_file limit ∷ []) found
+    told_both limit refused may tells is =
+        let both = model_file ∷ second_file limit ∷ [] in
+        let own : SystemModel → Outcome → Type 0 = OpensSecond limit gave next in
+        let told : SystemModel → Outcome → Type 0 = OpensSecond limit (told_fetch contents) next in
+        opens_told words shelf contents both found model_file (0, omega arith, refl) (λ bytes. ReadsEither (model_of bytes) (refused bytes) own)
+        (λ bytes. ReadsEither (model_of bytes) (refused bytes) told)
+        (λ bytes. read_told words shelf contents both found (refused bytes) own told
+        (λ model. opens_told words shelf contents both found (second_file limit) (1, omega arith, refl) (λ text. next (ModelAnd model text)) (λ text. next (ModelAnd model text))
+        (λ text h. inl h) gave may.1.0 tells.1.0) (model_of bytes))
+        gave may.0 tells.0 is
+
+    -- that of files that are told
     told_opens : (named : Files) → EachFile (files_named named) (FileGave words shelf gave) → TellsFiles (files_named named) words shelf.held contents
         → Opens named gave next found → Opens named (told_fetch contents) next found ⊎ Faulted words shelf contents (files_named named) found
     told_opens files.Nothing may tells is = inl is
@@ -84,15 +99,8 @@ module _ (words : List (List ℕ)) (shelf : ShelfCall) (contents : ℕ → List 
     told_opens files.Model may tells is =
         let reads : List ℕ → Outcome → Type 0 = λ bytes. ReadsTo (model_of bytes) (λ model. next (Model model)) in
         opens_told words shelf contents (model_file ∷ []) found model_file (0, omega arith, refl) reads reads (λ bytes h. inl h) gave may.0 tells.0 is
-    told_opens (files.ModelAnd limit) may tells is =
-        let both = model_file ∷ second_file limit ∷ [] in
-        let own : SystemModel → Outcome → Type 0 = λ model. OpensFile (second_file limit) gave (λ text. next (ModelAnd model text)) in
-        let told : SystemModel → Outcome → Type 0 = λ model. OpensFile (second_file limit) (told_fetch contents) (λ text. next (ModelAnd model text)) in
-        opens_told words shelf contents both found model_file (0, omega arith, refl) (λ bytes. ReadsTo (model_of bytes) own) (λ bytes. ReadsTo (model_of bytes) told)
-        (λ bytes. read_told words shelf contents both found own told
-        (λ model. opens_told words shelf contents both found (second_file limit) (1, omega arith, refl) (λ text. next (ModelAnd model text)) (λ text. next (ModelAnd model text))
-        (λ text h. inl h) gave may.1.0 tells.1.0) (model_of bytes))
-        gave may.0 tells.0 is
+    told_opens (files.ModelAnd limit) may tells is = told_both limit (λ bytes. IsOfRefusal) may tells is
+    told_opens (files.ContentAnd limit) may tells is = told_both limit (λ bytes refusal. next (Whole bytes)) may tells is
 
   -- what the told files mean is what they gave
   bytes_told : (gave : File → Fetched) (file : File) (bytes : List ℕ) → FileGave words shelf gave file → shelf.held (word words file.place) ≡ Told (contents file.place)
@@ -123,6 +131,11 @@ module _ (words : List (List ℕ)) (shelf : ShelfCall) (contents : ℕ → List 
   gives_mean gave (files.ModelAnd limit) (Whole bytes) may tells is = absurd is
   gives_mean gave (files.ModelAnd limit) (Model model) may tells is = absurd is
   gives_mean gave (files.ModelAnd limit) (ModelAnd model text) may tells is =
+      (model_told gave model may.0 tells.0 is.0, bytes_told gave (second_file limit) text may.1.0 tells.1.0 is.1)
+  gives_mean gave (files.ContentAnd limit) Nothing may tells is = absurd is
+  gives_mean gave (files.ContentAnd limit) (Whole bytes) may tells is = (bytes_told gave model_file bytes may.0 tells.0 is.0, is.1)
+  gives_mean gave (files.ContentAnd limit) (Model model) may tells is = absurd is
+  gives_mean gave (files.ContentAnd limit) (ModelAnd model text) may tells is =
       (model_told gave model may.0 tells.0 is.0, bytes_told gave (second_file limit) text may.1.0 tells.1.0 is.1)
 
   module _ {C : Type 0} (language : Language C) where

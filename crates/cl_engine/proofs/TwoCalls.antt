@@ -88,14 +88,14 @@ module _ (one two : ShelfCall) (joins : Follows one two) (first second : List �
   -- what a fetch of either call may have given it may have given in both
   pub first_may : (limit : ℕ) (fetch : Fetched) → MayGive one first limit fetch → MayGive (through one two) first limit fetch
   first_may limit Unasked may = may
-  first_may limit (Bytes bytes) may = may
+  first_may limit (Bytes bytes) may = (may.0, may.1, omega (arith, may.2, longer))
   first_may limit Fault may = rose_on _ _ _ may more_faults
   first_may limit TooLong (inl rose, past) = (inl (rose_on _ _ _ rose more_faults), omega (arith, past, longer))
   first_may limit TooLong (inr more, past) = (inr more, omega (arith, past, longer))
 
   pub second_may : (limit : ℕ) (fetch : Fetched) → MayGive two second limit fetch → MayGive (through one two) second limit fetch
   second_may limit Unasked may = may
-  second_may limit (Bytes bytes) may = (subst (λ (h : Held). MayBe h bytes) held_is may.0, may.1)
+  second_may limit (Bytes bytes) may = (subst (λ (h : Held). MayBe h bytes) held_is may.0, may.1, may.2)
   second_may limit Fault may = rose_later _ _ _ fewer_faults later.faults.here may
   second_may limit TooLong (inl rose, past) = (inl (rose_later _ _ _ fewer_faults later.faults.here rose), past)
   second_may limit TooLong (inr more, past) = (inr (subst (λ (h : Held). MayHave h (limit + 1)) held_is more), past)

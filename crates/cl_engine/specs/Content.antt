@@ -32,6 +32,8 @@ Fits files.Nothing Nothing = Unit {0}
 Fits files.Content (Bytes bytes) = Unit {0}
 Fits files.Model (Model model) = Unit {0}
 Fits (files.ModelAnd limit) (ModelAnd model text) = Unit {0}
+Fits (files.ContentAnd limit) (Bytes bytes) = Unit {0}
+Fits (files.ContentAnd limit) (ModelAnd model text) = Unit {0}
 Fits named content = ⊥
 
 -- the bytes are those of an accepted model file: they mean this model, which nothing refuses
@@ -39,12 +41,18 @@ pub record MeansModel (bytes : List ℕ) (model : SystemModel) : Type 0 where
   pub means : model_of bytes ≡ Ok model
   pub unrefused : refusal_of model ≡ None
 
+-- the bytes are those of no accepted model file
+abbrev pub MeansNone : (bytes : List ℕ) → Type 0
+MeansNone bytes = (model : SystemModel) → ¬ MeansModel bytes model
+
 -- files of these bytes, each under its place, hold this
 abbrev pub Means : Files → (contents : ℕ → List ℕ) → Content → Type 0
 Means files.Nothing contents Nothing = Unit {0}
 Means files.Content contents (Bytes bytes) = bytes ≡ contents 1
 Means files.Model contents (Model model) = MeansModel (contents 1) model
 Means (files.ModelAnd limit) contents (ModelAnd model text) = MeansModel (contents 1) model × (text ≡ contents 2)
+Means (files.ContentAnd limit) contents (Bytes bytes) = (bytes ≡ contents 1) × MeansNone bytes
+Means (files.ContentAnd limit) contents (ModelAnd model text) = MeansModel (contents 1) model × (text ≡ contents 2)
 Means named contents content = ⊥
 
 -- ---- what is said of a content of one kind

@@ -18,11 +18,12 @@ pub data Fetched : Type 0 where
   -- more bytes than the file's limit
   TooLong : Fetched
 
--- What a fetch of the name in this call may have given: bytes within the limit that may lie there, a fault where the
--- name's count of faults rose, and too many bytes where more than the limit were taken, which lie there or the count rose.
+-- What a fetch of the name in this call may have given: bytes within the limit that may lie there and were taken, a fault
+-- where the name's count of faults rose, and too many bytes where more than the limit were taken, which lie there or the
+-- count rose.
 abbrev pub MayGive : ShelfCall → (name : List ℕ) (limit : ℕ) → Fetched → Type 0
 MayGive shelf name limit Unasked = Unit {0}
-MayGive shelf name limit (Bytes bytes) = MayBe (shelf.held name) bytes × (length bytes ≤ limit)
+MayGive shelf name limit (Bytes bytes) = MayBe (shelf.held name) bytes × (length bytes ≤ limit) × (length bytes ≤ shelf.longest_after name)
 MayGive shelf name limit Fault = RoseAt shelf name
 MayGive shelf name limit TooLong = (RoseAt shelf name ⊎ MayHave (shelf.held name) (limit + 1)) × (limit < shelf.longest_after name)
 

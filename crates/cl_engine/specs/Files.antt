@@ -24,6 +24,13 @@ files_named files.Nothing = []
 files_named files.Content = model_file ∷ []
 files_named files.Model = model_file ∷ []
 files_named (files.ModelAnd limit) = model_file ∷ second_file limit ∷ []
+files_named (files.ContentAnd limit) = model_file ∷ second_file limit ∷ []
+
+-- the files by each length past which one is too long: a second file beside a model that may be refused is so past its
+-- own limit, and may be so for the command itself past that of a model file
+abbrev pub files_limited : Files → List File
+files_limited (files.ContentAnd limit) = model_file ∷ second_file limit ∷ second_file FILE_LIMIT ∷ []
+files_limited named = files_named named
 
 -- how many there are
 abbrev pub file_count : Files → ℕ
@@ -31,6 +38,7 @@ file_count files.Nothing = 0
 file_count files.Content = 1
 file_count files.Model = 1
 file_count (files.ModelAnd limit) = 2
+file_count (files.ContentAnd limit) = 2
 
 -- the word at a place
 abbrev pub word : List (List ℕ) → (place : ℕ) → List ℕ

@@ -1,11 +1,10 @@
 -- The commands of a program: which words spell one, which files it needs, what it comes to, and the steps that it takes.
 use Rattle.std.specs.Prelude.{◌≡◌, ◌⊎◌, ℕ, ◌≤◌, ◌<◌, List, [], length, Option, Some, None}
 use Rattle.cl_engine.specs.declared.files.Files.{Files}
-use Rattle.cl_engine.specs.declared.files.Files.TheVariants as files
 use Rattle.cl_engine.specs.declared.outcome.Outcome.{Outcome}
-use Rattle.cl_engine.specs.declared.status.TheConstants.{DONE, MODEL_REFUSED}
+use Rattle.cl_engine.specs.declared.status.TheConstants.{DONE}
 use Rattle.cl_engine.specs.Content.{Content}
-use Rattle.cl_engine.specs.Files.{File, files_named, file_count}
+use Rattle.cl_engine.specs.Files.{File, files_named, files_limited, file_count}
 
 -- all that is to be known of the commands
 pub record Language (C : Type 0) : Type 1 where
@@ -36,13 +35,16 @@ files_asked language (Some asked) = files_named (language.files asked)
 abbrev pub files_of : {C : Type 0} → Language C → (words : List (List ℕ)) → List File
 files_of language words = files_asked language (language.spelled words)
 
+-- the same, by each length past which one is too long
+abbrev pub limited_asked : {C : Type 0} → Language C → Option C → List File
+limited_asked language None = []
+limited_asked language (Some asked) = files_limited (language.files asked)
+
+abbrev pub limited_of : {C : Type 0} → Language C → (words : List (List ℕ)) → List File
+limited_of language words = limited_asked language (language.spelled words)
+
 -- ---- the statuses of a command's own
 
 -- a status of what the files hold: neither of the words, nor of a fetch, nor of the model, nor of a call that failed
 abbrev pub IsOfContent : (status : ℕ) → Type 0
 IsOfContent status = (status ≡ DONE) ⊎ (((6 ≤ status) × (status ≤ 8)) ⊎ (13 ≤ status))
-
--- a command may end with this status: one that is given the bytes of a model file also with the refusal of the model
-abbrev pub MayEnd : Files → (status : ℕ) → Type 0
-MayEnd files.Content status = IsOfContent status ⊎ (status ≡ MODEL_REFUSED)
-MayEnd named status = IsOfContent status

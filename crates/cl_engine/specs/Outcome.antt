@@ -1,5 +1,5 @@
 -- The outcome of a command: its status and its text.
-use Rattle.std.specs.Prelude.{◌≡◌, ℕ, List, ◌++◌, codes, decimal, Option, Some, None, Result, Ok, Err}
+use Rattle.std.specs.Prelude.{◌≡◌, ◌⊎◌, ℕ, ◌<◌, List, length, ◌++◌, codes, decimal, Option, Some, None, Result, Ok, Err}
 use Rattle.cl_text.specs.Line.{line}
 use Rattle.cl_model.specs.declared.model.SystemModel.{SystemModel}
 use Rattle.cl_model.specs.declared.refusal.Refusal.{Refusal}
@@ -8,12 +8,13 @@ use Rattle.cl_model.specs.Refusal.{refusal_text}
 use Rattle.cl_model.specs.Validity.{refusal_of}
 use Rattle.cl_engine.specs.declared.files.Files.{Files}
 use Rattle.cl_engine.specs.declared.files.Files.TheVariants as files
+use Rattle.cl_engine.specs.declared.files.TheConstants.{FILE_LIMIT}
 use Rattle.cl_engine.specs.declared.outcome.Outcome.{Outcome}
 use Rattle.cl_engine.specs.declared.status.TheConstants.{WORDS_REFUSED, READ_FAULT, LONG_FILE, MODEL_REFUSED}
 use Rattle.cl_engine.specs.Content.{Content, Nothing, Bytes as Whole, Model, ModelAnd}
 use Rattle.cl_engine.specs.Fetched.{Fetched, Unasked, Bytes, Fault, TooLong}
 use Rattle.cl_engine.specs.Files.{File, model_file, second_file}
-use Rattle.cl_engine.specs.Language.{Language}
+use Rattle.cl_engine.specs.Language.{Language, IsOfContent}
 
 -- ---- outcomes that any command may come to
 
@@ -33,6 +34,19 @@ refusal_line refusal = line (codes "model refused " ++ refusal_text refusal)
 abbrev pub model_refused : Refusal → Outcome
 model_refused refusal = record { status = MODEL_REFUSED; text = refusal_line refusal }
 
+-- ---- the outcomes of a command's own
+
+-- a second file of more bytes than a model file may have
+abbrev pub IsOverlong : (text : List ℕ) → Outcome → Type 0
+IsOverlong text found = (FILE_LIMIT < length text) × (found ≡ long_file 2)
+
+-- A command that is given this may come to this outcome: of a status of its own; of the refusal of a model only where it
+-- is given the bytes; and of a second file that is too long for it only beside a model that may be refused.
+abbrev pub MayEnd : Content → Files → Outcome → Type 0
+MayEnd (Whole bytes) named found = IsOfContent found.status ⊎ (found.status ≡ MODEL_REFUSED)
+MayEnd (ModelAnd model text) (files.ContentAnd limit) found = IsOfContent found.status ⊎ IsOverlong text found
+MayEnd content named found = IsOfContent found.status
+
 -- ---- the opening of a file
 
 -- A file is a fault of reading, or too long, or its bytes, to which the outcome of what comes next belongs. There is no
@@ -48,18 +62,37 @@ OpensFile file gave next found = OpensTo file.place (gave file) next found
 
 -- ---- the opening of a model
 
--- A model is refused by its first refusal, or is valid, and then the outcome is that of what comes next.
-abbrev pub ValidatesTo : SystemModel → Option Refusal → (next : SystemModel → Outcome → Type 0) → Outcome → Type 0
-ValidatesTo model None next found = next model found
-ValidatesTo model (Some refusal) next found = found ≡ model_refused refusal
+-- A model is refused by its first refusal, or is valid, and the outcome is that of a refusal, or of what comes next.
+abbrev pub ValidatesEither : SystemModel → Option Refusal → (refused : Refusal → Outcome → Type 0) (next : SystemModel → Outcome → Type 0) → Outcome → Type 0
+ValidatesEither model None refused next found = next model found
+ValidatesEither model (Some refusal) refused next found = refused refusal found
 
 -- Bytes are refused by the reading, or are a model.
+abbrev pub ReadsEither : Result SystemModel Refusal → (refused : Refusal → Outcome → Type 0) (next : SystemModel → Outcome → Type 0) → Outcome → Type 0
+ReadsEither (Ok model) refused next found = ValidatesEither model (refusal_of model) refused next found
+ReadsEither (Err refusal) refused next found = refused refusal found
+
+-- Mostly a refusal is the outcome.
+abbrev pub IsOfRefusal : Refusal → Outcome → Type 0
+IsOfRefusal refusal found = found ≡ model_refused refusal
+
+abbrev pub ValidatesTo : SystemModel → Option Refusal → (next : SystemModel → Outcome → Type 0) → Outcome → Type 0
+ValidatesTo model refusal next found = ValidatesEither model refusal IsOfRefusal next found
+
 abbrev pub ReadsTo : Result SystemModel Refusal → (next : SystemModel → Outcome → Type 0) → Outcome → Type 0
-ReadsTo (Ok model) next found = ValidatesTo model (refusal_of model) next found
-ReadsTo (Err refusal) next found = found ≡ model_refused refusal
+ReadsTo read next found = ReadsEither read IsOfRefusal next found
 
 abbrev pub OpensModel : (gave : File → Fetched) → (next : SystemModel → Outcome → Type 0) → Outcome → Type 0
 OpensModel gave next found = OpensFile model_file gave (λ bytes. ReadsTo (model_of bytes) next) found
+
+-- The second file is opened beside the model of the first, and both come to what is next.
+abbrev pub OpensSecond : (limit : ℕ) (gave : File → Fetched) (next : Content → Outcome → Type 0) → SystemModel → Outcome → Type 0
+OpensSecond limit gave next model found = OpensFile (second_file limit) gave (λ text. next (ModelAnd model text)) found
+
+-- The first file is opened, and beside its model the second, or the outcome is that of its bytes and their refusal.
+abbrev pub OpensBoth : (limit : ℕ) (gave : File → Fetched) (refused : (bytes : List ℕ) → Refusal → Outcome → Type 0) (next : Content → Outcome → Type 0) → Outcome → Type 0
+OpensBoth limit gave refused next found =
+    OpensFile model_file gave (λ bytes. ReadsEither (model_of bytes) (refused bytes) (OpensSecond limit gave next)) found
 
 -- ---- the outcome of a command
 
@@ -68,8 +101,8 @@ abbrev pub Opens : Files → (gave : File → Fetched) → (next : Content → O
 Opens files.Nothing gave next found = next Nothing found
 Opens files.Content gave next found = OpensFile model_file gave (λ bytes. next (Whole bytes)) found
 Opens files.Model gave next found = OpensModel gave (λ model. next (Model model)) found
-Opens (files.ModelAnd limit) gave next found =
-    OpensModel gave (λ model. OpensFile (second_file limit) gave (λ text. next (ModelAnd model text))) found
+Opens (files.ModelAnd limit) gave next found = OpensBoth limit gave (λ bytes. IsOfRefusal) next found
+Opens (files.ContentAnd limit) gave next found = OpensBoth limit gave (λ bytes refusal. next (Whole bytes)) next found
 
 -- Words that are this command have this outcome, where each file gave this.
 abbrev pub HasOutcome : {C : Type 0} → Language C → Option C → (gave : File → Fetched) → Outcome → Type 0

@@ -5,7 +5,7 @@ use Rattle.cl_io.specs.Names.{SameAtEach}
 use Rattle.cl_engine.specs.declared.status.TheConstants.{WORDS_REFUSED, READ_FAULT, LONG_FILE, MODEL_REFUSED, WRITE_FAULT, NO_MEMORY, ARGUMENT_NOT_TEXT}
 use Rattle.cl_engine.specs.Calls.{ShelfCall, SinkCall}
 use Rattle.cl_engine.specs.Fetched.{FileRose, FileTooLong, NoneRose, StaysBeside, TellsFiles, NoneAfter}
-use Rattle.cl_engine.specs.Language.{Language, files_of}
+use Rattle.cl_engine.specs.Language.{Language, files_of, limited_of}
 use Rattle.cl_engine.specs.Outcome.{read_fault, long_file}
 use Rattle.cl_engine.specs.Run.{ComesTo, ComesToTold, Ends, KeepsToTold, WritesOfFile}
 use Rattle.cl_engine.specs.Steps.{AreFewSteps}
@@ -27,7 +27,7 @@ pub record IsSoundCall {C S K : Type 0} (language : Language C) (words : List (L
   pub words_refused : status ≡ WORDS_REFUSED → language.spelled words ≡ None
   pub no_command : language.spelled words ≡ None → (status ≡ WORDS_REFUSED) ⊎ ((status ≡ WRITE_FAULT) ⊎ (status ≡ NO_MEMORY))
   pub read_fault : status ≡ READ_FAULT → WritesOfFile (files_of language words) words shelf (FileRose words shelf) read_fault sink status
-  pub long_file : status ≡ LONG_FILE → WritesOfFile (files_of language words) words shelf (FileTooLong words shelf) long_file sink status
+  pub long_file : status ≡ LONG_FILE → WritesOfFile (limited_of language words) words shelf (FileTooLong words shelf) long_file sink status
   pub model_refused : status ≡ MODEL_REFUSED → NoneAfter (files_of language words) words shelf 1
   pub write_fault : status ≡ WRITE_FAULT → Rose (sink.faults sink.before) (sink.faults sink.after)
   pub failed_once : status ≡ WRITE_FAULT → sink.faults sink.after ≡ counted (sink.faults sink.before)

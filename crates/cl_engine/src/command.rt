@@ -1,6 +1,7 @@
 ghost use Rattle.std.specs.Prelude.{◌≡◌, IfSome, IfOk};
 ghost use Rattle.cl_engine.specs.Content.{content_of, Fits};
-ghost use Rattle.cl_engine.specs.Language.{Language, IsSpelled, HasFileWords, MayEnd};
+ghost use Rattle.cl_engine.specs.Language.{Language, IsSpelled, HasFileWords};
+ghost use Rattle.cl_engine.specs.Outcome.{MayEnd};
 
 use crate::{Files, Given, Outcome};
 use cl_io::Words;
@@ -26,9 +27,11 @@ pub trait Command: Drop {
 
     /// Finds the outcome of the command, by what its files hold. `NoMemory` is the only error.
     ///
-    /// The status is `DONE` or one of a command's own (6 to 8, or 13 and greater); for a command
-    /// that names `Files::Content` it may be `MODEL_REFUSED`, too. Whether or not memory runs out,
-    /// the steps that were counted are those that `language` allows.
+    /// The status is `DONE` or one of a command's own (6 to 8, or 13 and greater); where the command
+    /// is given `Given::Content` it may be `MODEL_REFUSED`, too. A command that names
+    /// `Files::ContentAnd` may also come to the outcome of a second file that is too long, where it
+    /// is given one of more than `FILE_LIMIT` bytes. Whether or not memory runs out, the steps that
+    /// were counted are those that `language` allows.
     fn answer<L: Ledger>(
         self,
         alloc: Global,
@@ -38,6 +41,6 @@ pub trait Command: Drop {
         requires spelled { IsSpelled language self }
         requires fits { Fits (language.files self) (content_of given) }
         ensures outcome { IfOk result (language.comes_to self (content_of given)) }
-        ensures status { IfOk result (λ outcome. MayEnd (language.files self) outcome.status) }
+        ensures status { IfOk result (MayEnd (content_of given) (language.files self)) }
         ensures steps { language.takes self (content_of given) steps.old steps.new };
 }

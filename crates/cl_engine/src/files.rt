@@ -16,6 +16,9 @@ pub enum Files {
     /// A model file, which has to hold a valid model, and behind it a second file of at most
     /// `limit` bytes.
     ModelAnd { limit: u64 },
+    /// A model file, of which the command is given the bytes where it holds no valid model; and
+    /// beside a valid one a second file of at most `limit` bytes.
+    ContentAnd { limit: u64 },
 }
 
 impl Files {
@@ -26,7 +29,7 @@ impl Files {
         match self {
             Files::Nothing => 0,
             Files::Content | Files::Model => 1,
-            Files::ModelAnd { .. } => 2,
+            Files::ModelAnd { .. } | Files::ContentAnd { .. } => 2,
         }
     }
 }

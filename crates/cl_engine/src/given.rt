@@ -1,5 +1,5 @@
 //! What the files of a command hold, as it is given to the command.
-ghost use Rattle.std.specs.Prelude.{◌≡◌, ℕ};
+ghost use Rattle.std.specs.Prelude.{◌≡◌, ℕ, IfOk, IfErr};
 ghost use Rattle.cl_engine.specs.declared.files.Files.TheVariants as files;
 ghost use Rattle.cl_engine.specs.Content.{Bytes, Model, ModelAnd, content_of, Fits};
 
@@ -10,7 +10,7 @@ use cl_model::ValidModel;
 pub enum Given {
     /// The command names no file.
     Nothing,
-    /// The bytes of its one file, whatever they are.
+    /// The bytes of its one file, whatever they are, or of a first file that holds no valid model.
     Content(Vec<u8>),
     /// The valid model of its one file.
     Model(ValidModel),
@@ -52,6 +52,21 @@ impl Given {
     {
         match self {
             Given::ModelAnd(model, text) => (model, text),
+            _ => unreachable!(),
+        }
+    }
+
+    /// Returns the model of the first file and the bytes of the second, for a command that names
+    /// `Files::ContentAnd`; or the bytes of the first as the error, where it holds no valid model.
+    #[tactic(auto, unfolding(crate::specs::Content::Fits))]
+    pub fn either(self) -> Result<(ValidModel, Vec<u8>), Vec<u8>>
+        requires { (limit : ℕ) × Fits (files.ContentAnd limit) (content_of self) }
+        ensures both { IfOk result (λ both. content_of self ≡ ModelAnd both.0 both.1.items) }
+        ensures bytes { IfErr result (λ bytes. content_of self ≡ Bytes bytes.items) }
+    {
+        match self {
+            Given::ModelAnd(model, text) => Ok((model, text)),
+            Given::Content(bytes) => Err(bytes),
             _ => unreachable!(),
         }
     }

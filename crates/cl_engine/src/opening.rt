@@ -13,7 +13,7 @@ ghost use Rattle.cl_engine.specs.Inner.Opened.{given, IsOpenedAs, IsValidatedAs,
 use crate::words::word_at;
 use crate::{FILE_LIMIT, Files, Given, Outcome};
 use cl_io::{FetchFault, Shelf, Words};
-use cl_model::{SystemModel, ValidModel};
+use cl_model::{Refusal, SystemModel, ValidModel};
 use cl_read::{ReadFault, read_model};
 use cl_time::NoMemory;
 use cl_valid::{ValidFault, validate};
@@ -35,7 +35,9 @@ pub(crate) enum FileFetch {
 pub(crate) enum OpenedModel {
     /// The valid model that the file holds.
     Valid(ValidModel),
-    /// There is no valid model, and this is the outcome of the command.
+    /// The bytes of the file, which hold no valid model, and their first refusal.
+    Refused(Vec<u8>, Refusal),
+    /// The file couldn't be read or is too long, and this is the outcome of the command.
     Stopped(Outcome),
 }
 
@@ -67,6 +69,7 @@ pub(crate) fn open<S: Shelf>(
         Files::Content => open_content(alloc, words, shelf),
         Files::Model => open_alone(alloc, words, shelf),
         Files::ModelAnd { limit } => open_two(alloc, words, limit, shelf),
+        Files::ContentAnd { limit } => open_either(alloc, words, limit, shelf),
     }
 }
 
@@ -93,6 +96,9 @@ fn open_alone<S: Shelf>(alloc: Global, words: &Words, shelf: &mut S) -> Result<O
 {
     match open_model(alloc, words, shelf)? {
         OpenedModel::Valid(model) => Ok(Opened::Held(Given::Model(model))),
+        OpenedModel::Refused(_, refusal) => {
+            Ok(Opened::Stopped(Outcome::model_refused(alloc, refusal)?))
+        }
         OpenedModel::Stopped(outcome) => Ok(Opened::Stopped(outcome)),
     }
 }
@@ -112,6 +118,29 @@ fn open_two<S: Shelf>(
 {
     match open_model(alloc, words, shelf)? {
         OpenedModel::Valid(model) => open_second(alloc, words, limit, model, shelf),
+        OpenedModel::Refused(_, refusal) => {
+            Ok(Opened::Stopped(Outcome::model_refused(alloc, refusal)?))
+        }
+        OpenedModel::Stopped(outcome) => Ok(Opened::Stopped(outcome)),
+    }
+}
+
+/// Opens the model file that word 1 names and, where it holds a valid model, the file of at most
+/// `limit` bytes that word 2 names; else gives the bytes of the first.
+fn open_either<S: Shelf>(
+    alloc: Global,
+    words: &Words,
+    limit: u64,
+    shelf: &mut S,
+) -> Result<Opened, NoMemory>
+    requires { 2 < length words.now }
+    ensures leaves { LeavesOthers (files_named (files.ContentAnd limit)) words.now (shelf_call S.held S.faults S.longest shelf.old shelf.new) }
+    ensures opened { IfOk result
+        (HaveOpened (files.ContentAnd limit) words.now (shelf_call S.held S.faults S.longest shelf.old shelf.new)) }
+{
+    match open_model(alloc, words, shelf)? {
+        OpenedModel::Valid(first) => open_second(alloc, words, limit, first, shelf),
+        OpenedModel::Refused(bytes, _) => Ok(Opened::Held(Given::Content(bytes))),
         OpenedModel::Stopped(outcome) => Ok(Opened::Stopped(outcome)),
     }
 }
@@ -157,8 +186,8 @@ fn fetch_file<S: Shelf>(
     }
 }
 
-/// Opens the model file that word 1 names: gives its valid model, or the outcome of its fault or of
-/// its refusal.
+/// Opens the model file that word 1 names: gives its valid model, its bytes and their refusal, or
+/// the outcome of its fault.
 fn open_model<S: Shelf>(
     alloc: Global,
     words: &Words,
@@ -170,44 +199,40 @@ fn open_model<S: Shelf>(
         (HasOpened (shelf_call S.held S.faults S.longest shelf.old shelf.new) (word words.now 1)) }
 {
     let fetch = fetch_file(alloc, words, 1, FILE_LIMIT, shelf)?;
-    open_fetched(alloc, &fetch)
+    open_fetched(alloc, fetch)
 }
 
-/// Makes a valid model of what the fetch of a model file gave, or the outcome that stops the
-/// command.
-fn open_fetched(alloc: Global, fetch: &FileFetch) -> Result<OpenedModel, NoMemory>
-    ensures { IfOk result (IsOpenedAs (given fetch.now)) }
+/// Makes a valid model of what the fetch of a model file gave, or says why there is none.
+fn open_fetched(alloc: Global, fetch: FileFetch) -> Result<OpenedModel, NoMemory>
+    ensures { IfOk result (IsOpenedAs (given fetch)) }
 {
     match fetch {
-        FileFetch::Bytes(bytes) => open_bytes(alloc, bytes.as_slice()),
+        FileFetch::Bytes(bytes) => open_bytes(alloc, bytes),
         FileFetch::Fault => Ok(OpenedModel::Stopped(Outcome::read_fault(alloc, 1)?)),
         FileFetch::TooLong => Ok(OpenedModel::Stopped(Outcome::long_file(alloc, 1)?)),
     }
 }
 
-/// Makes a valid model of the bytes of a model file, or the outcome of their refusal.
-fn open_bytes(alloc: Global, bytes: &[u8]) -> Result<OpenedModel, NoMemory>
-    ensures { IfOk result (IsOpenedAs (Bytes bytes.now)) }
+/// Makes a valid model of the bytes of a model file, or gives them back with their refusal.
+fn open_bytes(alloc: Global, bytes: Vec<u8>) -> Result<OpenedModel, NoMemory>
+    ensures { IfOk result (IsOpenedAs (Bytes bytes.items)) }
 {
-    match read_model(alloc, bytes) {
-        Ok(model) => open_read(alloc, model),
-        Err(ReadFault::Refused(refusal)) => {
-            Ok(OpenedModel::Stopped(Outcome::model_refused(alloc, refusal)?))
-        }
+    match read_model(alloc, bytes.as_slice()) {
+        Ok(model) => open_read(alloc, bytes, model),
+        Err(ReadFault::Refused(refusal)) => Ok(OpenedModel::Refused(bytes, refusal)),
         Err(ReadFault::NoMemory) => Err(NoMemory),
     }
 }
 
-/// Validates a model that was read: gives the valid model, or the outcome of its first refusal.
-fn open_read(alloc: Global, model: SystemModel) -> Result<OpenedModel, NoMemory>
+/// Validates a model that was read of these bytes: gives the valid model, or the bytes and the
+/// model's first refusal.
+fn open_read(alloc: Global, bytes: Vec<u8>, model: SystemModel) -> Result<OpenedModel, NoMemory>
     requires { IsInRange model }
-    ensures { IfOk result (IsValidatedAs model (refusal_of model)) }
+    ensures { IfOk result (IsValidatedAs bytes.items model (refusal_of model)) }
 {
     match validate(alloc, model) {
         Ok(model) => Ok(OpenedModel::Valid(model)),
-        Err((_, ValidFault::Refused(refusal))) => {
-            Ok(OpenedModel::Stopped(Outcome::model_refused(alloc, refusal)?))
-        }
+        Err((_, ValidFault::Refused(refusal))) => Ok(OpenedModel::Refused(bytes, refusal)),
         Err((_, ValidFault::NoMemory)) => Err(NoMemory),
     }
 }

@@ -65,8 +65,9 @@ impl Outcome {
         Outcome::of_file(alloc, status::READ_FAULT, b"read fault ", place)
     }
 
-    /// Makes the outcome where the file that word `place` names is longer than its limit.
-    pub(crate) fn long_file(alloc: Global, place: u64) -> Result<Outcome, NoMemory>
+    /// Makes the outcome where the file that word `place` names is longer than its limit: status
+    /// `LONG_FILE`, and a line with the place. `NoMemory` comes where there is no memory for it.
+    pub fn long_file(alloc: Global, place: u64) -> Result<Outcome, NoMemory>
         ensures { IfOk result (λ outcome. outcome ≡ long_file place) }
     {
         Outcome::of_file(alloc, status::LONG_FILE, b"long file ", place)

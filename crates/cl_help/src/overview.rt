@@ -10,7 +10,7 @@ verify MODEL                each deadline and requirement: met (proved), broken 
 explain MODEL               what the responses and the bounds are the sums of\n\
 witness MODEL WHAT NAME     the trace of a run near to a bound of what is named\n\
 why MODEL WHAT NAME         why what is named is answered or bounded as `verify` says\n\
-check MODEL                 what to mend in a model, or what to know of it\n\
+check MODEL [FILE]          what to mend in a model, or in a list of edits or a trace, or what to know of it\n\
 cut MODEL                   the best cuts of the chains\n\
 order MODEL                 on every core the first priorities, in dictionary order, with which no task is late\n\
 headroom MODEL              how far the greatest execution times may grow by plain bounds\n\

@@ -145,23 +145,27 @@ Statuses:\n\
 \n\
 Example: chainlat why model.toml response Task\n";
 
-const CHECK: &str = "chainlat check MODEL\n\
+const CHECK: &str = "chainlat check MODEL [FILE]\n\
 \n\
 Writes what to mend in a model file that is refused, and at which line and column; or what to know of\n\
-a model that is accepted, first what matters most.\n\
+a model that is accepted, first what matters most. With FILE it writes what to mend in that, for a\n\
+model that is accepted.\n\
 \n\
 MODEL is a model file of at most 16777216 bytes.\n\
+FILE is a list of edits of at most 16777216 bytes, or a trace of at most 268435456 bytes.\n\
 \n\
 Statuses:\n\
-0  the model is accepted\n\
+0  the model, and FILE, is accepted\n\
 2  the words are no command\n\
 3  a file can't be read\n\
 4  a file is too long\n\
 5  the model is refused\n\
+6  the trace is refused, or its run isn't legal\n\
+7  an edit is refused, and the line says which\n\
 9  the output failed\n\
 10 memory ran out\n\
 \n\
-Example: chainlat check model.toml\n";
+Example: chainlat check model.toml changes.edits\n";
 
 const CUT: &str = "chainlat cut MODEL\n\
 \n\

@@ -27,6 +27,7 @@ use Rattle.cl_run_data.proofs.ShownTasks.{part_shows_groups}
 use Rattle.cl_run_data.proofs.AlikeChains.{same_required}
 use Rattle.cl_chain.specs.declared.job_chain.JobChain.{JobChain}
 use Rattle.cl_chain.specs.declared.job_chain.Measured.{Measured}
+use Rattle.cl_chain.specs.GreatestDelays.{IsGreatestDelayBy}
 use Rattle.cl_chain.specs.JobChains.{job_chain_of, option_of, measured_of}
 use Rattle.cl_near.specs.declared.chain_plan.ChainPlan.{ChainPlan}
 use Rattle.cl_near.specs.Plans.{IsPlanOfGroups}
@@ -37,6 +38,11 @@ longest_is_chain : (IsChain : chains.JobChain → Type 0) (job_of : chains.JobCh
     → IsMeasuredBy IsChain job_of (option_of found) → IfSome found (λ (longest : JobChain). IsChain (job_chain_of longest))
 longest_is_chain IsChain job_of None measured = tt
 longest_is_chain IsChain job_of (Some longest) measured = measured.is_chain
+
+greatest_is_chain : (IsChain : chains.JobChain → Type 0) (found : Option JobChain)
+    → IsGreatestDelayBy IsChain (option_of found) → IfSome found (λ (longest : JobChain). IsChain (job_chain_of longest))
+greatest_is_chain IsChain None greatest = tt
+greatest_is_chain IsChain (Some longest) greatest = greatest.is_chain
 
 module _ (system : System) (run : Run) (groups : List Group) where
   longest_of_length_is : (length : LengthKind) (measured : Measured) → IsMeasured (run_moments system run) groups (measured_of measured)
@@ -60,11 +66,11 @@ module _ (system : System) (run : Run) (groups : List Group) where
 
   -- and so is the one of the greatest delay
   pub longest_delay_required : (kind : RequirementKind) → kind ≡ Delay
-      → (found : Option JobChain) → IsMeasuredBy (IsDelayChain system run groups) chains.first_job (option_of found)
+      → (found : Option JobChain) → IsGreatestDelayBy (IsDelayChain system run groups) (option_of found)
       → IfSome found (λ (longest : JobChain). IsChainRequired kind system run groups (job_chain_of longest))
-  longest_delay_required kind same found measured =
+  longest_delay_required kind same found greatest =
       subst (λ (k : RequirementKind). IfSome found (λ (longest : JobChain). IsChainRequired k system run groups (job_chain_of longest))) (sym same)
-      (longest_is_chain (IsDelayChain system run groups) chains.first_job found measured)
+      (greatest_is_chain (IsDelayChain system run groups) found greatest)
 
 module _ (model : SystemModel) (valid : IsValid model) (chain : ℕ) where
   group_known : (group : Group) → IsGroupOf model group → group.task < length (system_of model).tasks

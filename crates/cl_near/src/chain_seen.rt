@@ -67,6 +67,8 @@ fn longest_of_kind(
     ensures { IfOk result (λ found. IfSome found
         (λ longest. IsChainRequired kind (system_of model.now) run.now (groups_at model.now chain) (job_chain_of longest))) }
 {
+    // So that it is known that the model is valid.
+    let _valid = model.plain();
     let apart = tasks_apart(alloc, model, run)?;
     match kind {
         RequirementKind::Length(length) => {

@@ -1,7 +1,7 @@
 -- Where something begins in the text of a document. Offsets count bytes. The tokens are those of TOML 1.1.
-use Rattle.std.specs.Prelude.{◌≡◌, ℕ, ◌≤◌, ◌⊎◌, Bool, ◌&&◌, ◌==◌, List, length, drop, slice_index, IsSome}
+use Rattle.std.specs.Prelude.{◌≡◌, ℕ, ◌≤◌, ◌-◌, ◌⊎◌, Bool, false, ◌&&◌, ◌==◌, List, length, drop, slice_index, IsSome}
 use Rattle.toml.specs.Parse.{skip_bom}
-use Rattle.toml_parser.specs.Lexical.{first, left_bracket, left_brace}
+use Rattle.toml_parser.specs.Lexical.{first, left_bracket, left_brace, is_bare}
 use Rattle.toml_parser.specs.Strings.{key, quoted}
 use Rattle.toml_parser.specs.Numbers.{unquoted}
 
@@ -29,6 +29,10 @@ BeginsItem text = (first text ≡ left_brace) ⊎ (IsSome (quoted text) ⊎ IsSo
 abbrev pub Begins : List ℕ → Type 0
 Begins text = BeginsBracket text ⊎ (BeginsKey text ⊎ BeginsItem text)
 
+-- no byte of a bare key, a number or a word stands before an offset, so that it isn't in the midst of one
+abbrev pub StandsApart : (document : List ℕ) → (at : ℕ) → Type 0
+StandsApart document at = (at ≡ 0) ⊎ (is_bare (slice_index document (at - 1)) ≡ false)
+
 pub record IsPlaceIn (document : List ℕ) (at : ℕ) : Type 0 where
   pub within : at ≤ length document
-  pub begins : IsFront document at ⊎ Begins (drop at document)
+  pub begins : IsFront document at ⊎ (StandsApart document at × Begins (drop at document))

@@ -1,7 +1,8 @@
 //! The place that a refusal is about, in the text of a document.
-ghost use Rattle.std.specs.Prelude.{◌≡◌, true, is_ok, IfOk};
+ghost use Rattle.std.specs.Prelude.{◌≡◌, ◌≤◌, length, true, is_ok, IfOk};
+ghost use Rattle.toml_parser.specs.Lexical.{is_bare};
 ghost use Rattle.toml_parser.specs.Strings.{key};
-ghost use Rattle.cl_place.specs.Places.{BeginsItem, Begins, IsPlaceIn};
+ghost use Rattle.cl_place.specs.Places.{BeginsItem, Begins, StandsApart, IsPlaceIn};
 
 use crate::mark::mark_length;
 use crate::steps::steps_to;
@@ -47,11 +48,26 @@ fn begins(alloc: Global, text: &str) -> Result<bool, NoMemory>
     }
 }
 
+/// Whether a byte may stand in a bare key.
+fn is_bare(byte: u8) -> bool
+    ensures { result ≡ is_bare byte }
+{
+    byte.is_ascii_alphanumeric() || byte == b'-' || byte == b'_'
+}
+
+/// Whether no byte of a bare key, a number or a word stands before an offset.
+fn stands_apart(document: &[u8], at: usize) -> bool
+    requires { at ≤ length document.now }
+    ensures { result ≡ true → StandsApart document.now at }
+{
+    at == 0 || !is_bare(document[at - 1])
+}
+
 /// Whether something begins at an offset.
 fn is_place(alloc: Global, document: &str, at: usize) -> Result<bool, NoMemory>
     ensures { IfOk result (λ yes. yes ≡ true → IsPlaceIn document.now at) }
 {
-    if document.is_char_boundary(at) {
+    if document.is_char_boundary(at) && stands_apart(document.as_bytes(), at) {
         begins(alloc, &document[at..])
     } else {
         Ok(false)

@@ -13,8 +13,8 @@ use Rattle.cl_engine.specs.Content.{Content, Nothing, Bytes as Whole, Model, Mod
 use Rattle.cl_engine.specs.Fetched.{Fetched, Bytes, MayGive, EachFile, WasFetched, TellsFiles, told_fetch}
 use Rattle.cl_engine.specs.Files.{File, model_file, files_named, word}
 use Rattle.cl_engine.specs.SoundCall.{IsSoundCall}
-use Rattle.cl_engine.specs.Language.{IsOfContent, MayEnd, files_asked, files_of as files_of_words}
-use Rattle.cl_engine.specs.Outcome.{words_refused, HasOutcome}
+use Rattle.cl_engine.specs.Language.{IsOfContent, files_asked, files_of as files_of_words}
+use Rattle.cl_engine.specs.Outcome.{words_refused, MayEnd, HasOutcome}
 use Rattle.cl_engine.specs.Run.{ComesAs, ComesTo, IsCarriedOut, Ends}
 use Rattle.cl_engine.proofs.Openings.{valid_read}
 use Rattle.cl_engine.proofs.Outcomes.{IsOpened, SomeOutcome, some_opens, same_opens, IsOfTold, opens_of_told, done_model, no_want}
@@ -59,7 +59,7 @@ same_outcome words gave one other h k = same_of (command_of words) gave one othe
 pub none_taken : (asked : Command) (content : Content) → Fits (files_read asked) content → (steps : ℕ) → TakesStepsOf asked content steps steps
 none_taken asked content fits steps = (meant_well asked).no_steps content fits steps
 
-pub may_end : (asked : Command) (content : Content) (found : Outcome) → IsOutcomeOf asked content found → MayEnd (files_read asked) found.status
+pub may_end : (asked : Command) (content : Content) (found : Outcome) → IsOutcomeOf asked content found → MayEnd content (files_read asked) found
 may_end asked content found is = (meant_well asked).ends content found is
 
 -- a command that names no file is given nothing
@@ -168,7 +168,8 @@ module _ (words : List (List ℕ)) (shelf : ShelfCall) {S K : Type 0} (before af
     -- ---- what `analyse` has written
 
     module _ (is : command_of words ≡ Some Analyse) where
-      given : (fetch : Fetched) (bytes : List ℕ) → fetch ≡ Bytes bytes → MayGive shelf (word words 1) FILE_LIMIT fetch → MayBe (shelf.held (word words 1)) bytes × (length bytes ≤ FILE_LIMIT)
+      given : (fetch : Fetched) (bytes : List ℕ) → fetch ≡ Bytes bytes → MayGive shelf (word words 1) FILE_LIMIT fetch
+          → MayBe (shelf.held (word words 1)) bytes × (length bytes ≤ FILE_LIMIT) × (length bytes ≤ shelf.longest_after (word words 1))
       given fetch bytes gave may = subst (λ (f : Fetched). MayGive shelf (word words 1) FILE_LIMIT f) gave may
 
       by_whole : (found : Outcome) → ComesAs commands (Some Analyse) words shelf found → found.status ≡ DONE → sink.written sink.after ≡ appended (sink.written sink.before) found.text

@@ -49,7 +49,7 @@ module _ (system : System) (run : Run) where
   none_first fault found none = let is : None ≡ Some fault = sym (ap first_fault none) ∙ found in absurd cc
 
   -- the first broken rule is one
-  fault_once : (one other : RunFault) → IsFirstBroken system run one → IsFirstBroken system run other → one ≡ other
+  pub fault_once : (one other : RunFault) → IsFirstBroken system run one → IsFirstBroken system run other → one ≡ other
   fault_once one other (inl found) (inl also) = fault_same one other (sym found ∙ also)
   fault_once one other (inl found) (inr breaks) = none_first one found breaks.0
   fault_once one other (inr breaks) (inl found) = none_first other found breaks.0
@@ -65,9 +65,11 @@ answered model NoMemory = trace_refused 0
 
 module _ (model : SystemModel) (run : Run) where
   -- a legal run breaks no rule
+  pub none_broken : {X : Type 0} (rule : Rule) (place tick : ℕ) → IsLegal (system_of model) run → IsFirstBroken (system_of model) run (Illegal rule place tick) → X
+  none_broken rule place tick legal broken = absurd (illegal (system_of model) run (Illegal rule place tick) legal.in_form (inr broken) (not_memory rule place tick) legal)
+
   pub breaks_none : {X : Type 0} (found : Outcome) → IsLegal (system_of model) run → IsIllegal model run found → X
-  breaks_none found legal is =
-      absurd (illegal (system_of model) run (Illegal is.rule is.place is.tick) legal.in_form (inr is.broken) (not_memory is.rule is.place is.tick) legal)
+  breaks_none found legal is = none_broken is.rule is.place is.tick legal is.broken
 
   -- where a legal run has one outcome, each run has
   pub of_run_once : (next : Run → Outcome → Type 0) → (IsLegal (system_of model) run → (one other : Outcome) → next run one → next run other → one ≡ other)

@@ -13,7 +13,8 @@ use Rattle.cl_edit.specs.Edited.{edited}
 use Rattle.cl_edit.specs.Reading.{edits_of, AreEditsOf}
 use Rattle.cl_incr.specs.Changed.{AsksForChanges}
 use Rattle.cl_engine.specs.declared.status.TheConstants.{DONE}
-use Rattle.cl_top.specs.Commands.Edit.{line_at, edits_refused, behind, IsWrittenBy, AreAccepted, AreEditedTo}
+use Rattle.cl_top.specs.OfEdits.{line_at}
+use Rattle.cl_top.specs.Commands.Edit.{edits_refused, behind, IsWrittenBy, AreAccepted, AreEditedTo}
 use Rattle.cl_top.specs.Inner.Edits.{IsMade, HasAsked, HaveAsked}
 use Rattle.cl_top.specs.Steps.{written_steps, AsksFor, AsksThen, AskForChanges, AreFewOfEdits}
 use Rattle.cl_top.proofs.Accepted.{model_or, none_accepted, one_more_accepted}

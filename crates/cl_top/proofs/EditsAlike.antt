@@ -22,7 +22,8 @@ use Rattle.cl_edit.proofs.OneAnswer.{edits_unique, bad_lines_unique, never_both}
 use Rattle.cl_edit.proofs.SomeAnswer.{some_answer}
 use Rattle.cl_engine.specs.declared.outcome.Outcome.{Outcome}
 use Rattle.cl_engine.specs.declared.status.TheConstants.{DONE}
-use Rattle.cl_top.specs.Commands.Edit.{edit_at, line_at, edits_refused, behind, IsWrittenBy, AreAccepted, EndsDone, EndsRefused, AreEditedTo, IsOfEdits, is_verify, EditTheSame}
+use Rattle.cl_top.specs.OfEdits.{edit_at, line_at}
+use Rattle.cl_top.specs.Commands.Edit.{edits_refused, behind, IsWrittenBy, AreAccepted, EndsDone, EndsRefused, AreEditedTo, IsOfEdits, is_verify, EditTheSame}
 use Rattle.cl_top.proofs.Accepted.{none_accepted, one_more_accepted, never_accepted, made_once, pieces_once}
 use Rattle.cl_top.proofs.EditPieces.{valid_after}
 use Rattle.cl_top.proofs.Written.{some_written, one_written}

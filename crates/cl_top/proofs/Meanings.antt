@@ -9,9 +9,10 @@ use Rattle.cl_engine.specs.declared.outcome.Outcome.{Outcome}
 use Rattle.cl_engine.specs.declared.status.TheConstants.{DONE}
 use Rattle.cl_engine.specs.Content.{Content, Nothing, Bytes, Model, ModelAnd, Fits}
 use Rattle.cl_engine.specs.Done.{IsDone}
-use Rattle.cl_engine.specs.Language.{IsOfContent, MayEnd}
+use Rattle.cl_engine.specs.Language.{IsOfContent}
+use Rattle.cl_engine.specs.Outcome.{MayEnd}
 use Rattle.cl_engine.proofs.Outcomes.{IsOpened, SomeOutcome}
-use Rattle.cl_top.specs.Meaning.{Meaning, on_nothing, on_bytes, on_model, on_both}
+use Rattle.cl_top.specs.Meaning.{Meaning, of_either, on_nothing, on_bytes, on_model, on_both}
 
 -- ---- outcomes by their text
 
@@ -35,7 +36,7 @@ pub record IsMeantWell (named : Files) (meaning : Meaning) (limited : Type 0) : 
   pub once : (content : Content) → IsOpened content → (one other : Outcome) → meaning.comes_to content one → meaning.comes_to content other → meaning.same one other
   pub equally : (one other : Outcome) → one ≡ other → meaning.same one other
   -- it ends with a status of its own
-  pub ends : (content : Content) (found : Outcome) → meaning.comes_to content found → MayEnd named found.status
+  pub ends : (content : Content) (found : Outcome) → meaning.comes_to content found → MayEnd content named found
   -- no step is few
   pub no_steps : (content : Content) → Fits named content → (steps : ℕ) → meaning.takes content steps steps
   -- what it promises of its text holds at status 0
@@ -60,7 +61,7 @@ module _ (takes : Content → (before after : ℕ) → Type 0) (safe : Content �
     once_alone (Model model) one other h k = absurd h
     once_alone (ModelAnd model text) one other h k = absurd h
 
-    own_alone : (content : Content) (found : Outcome) → on_nothing each content found → IsOfContent found.status
+    own_alone : (content : Content) (found : Outcome) → on_nothing each content found → MayEnd content files.Nothing found
     own_alone Nothing found is = own found is
     own_alone (Bytes bytes) found is = absurd is
     own_alone (Model model) found is = absurd is
@@ -91,7 +92,7 @@ module _ (takes : Content → (before after : ℕ) → Type 0) (safe : Content �
 
   -- the bytes of a file
   module _ (each : List ℕ → Outcome → Type 0) (some : (bytes : List ℕ) → SomeOutcome (each bytes)) (once : (bytes : List ℕ) (one other : Outcome) → each bytes one → each bytes other → same one other)
-      (own : (bytes : List ℕ) (found : Outcome) → each bytes found → MayEnd files.Content found.status) (none : (bytes : List ℕ) (steps : ℕ) → takes (Bytes bytes) steps steps)
+      (own : (bytes : List ℕ) (found : Outcome) → each bytes found → MayEnd (Bytes bytes) files.Content found) (none : (bytes : List ℕ) (steps : ℕ) → takes (Bytes bytes) steps steps)
       (holds : (bytes : List ℕ) (found : Outcome) → each bytes found → found.status ≡ DONE → safe (Bytes bytes) found.text) where
     some_bytes : (content : Content) → Fits files.Content content → SomeOutcome (on_bytes each content)
     unfolding Fits
@@ -106,7 +107,7 @@ module _ (takes : Content → (before after : ℕ) → Type 0) (safe : Content �
     once_bytes (Model model) one other h k = absurd h
     once_bytes (ModelAnd model text) one other h k = absurd h
 
-    own_bytes : (content : Content) (found : Outcome) → on_bytes each content found → MayEnd files.Content found.status
+    own_bytes : (content : Content) (found : Outcome) → on_bytes each content found → MayEnd content files.Content found
     own_bytes Nothing found is = absurd is
     own_bytes (Bytes bytes) found is = own bytes found is
     own_bytes (Model model) found is = absurd is
@@ -153,7 +154,7 @@ module _ (takes : Content → (before after : ℕ) → Type 0) (safe : Content �
     once_model (Model model) opened one other h k = once model opened.0 one other h k
     once_model (ModelAnd model text) opened one other h k = absurd h
 
-    own_model : (content : Content) (found : Outcome) → on_model each content found → IsOfContent found.status
+    own_model : (content : Content) (found : Outcome) → on_model each content found → MayEnd content files.Model found
     own_model Nothing found is = absurd is
     own_model (Bytes bytes) found is = absurd is
     own_model (Model model) found is = own model found is
@@ -194,7 +195,7 @@ module _ (takes : Content → (before after : ℕ) → Type 0) (safe : Content �
     once_both (Model model) opened one other h k = absurd h
     once_both (ModelAnd model text) opened one other h k = once model opened.0 opened.1 text one other h k
 
-    own_both : (content : Content) (found : Outcome) → on_both each content found → IsOfContent found.status
+    own_both : (content : Content) (found : Outcome) → on_both each content found → MayEnd content (files.ModelAnd limit) found
     own_both Nothing found is = absurd is
     own_both (Bytes bytes) found is = absurd is
     own_both (Model model) found is = absurd is
@@ -215,3 +216,51 @@ module _ (takes : Content → (before after : ℕ) → Type 0) (safe : Content �
 
     pub both_well : IsMeantWell (files.ModelAnd limit) (record { comes_to = on_both each; takes = takes; safe = safe; same = same }) limited
     both_well = record { some = λ content fits opened few. some_both content fits opened; once = once_both; equally = equally; ends = own_both; no_steps = none_both; holds = holds_both }
+
+  -- the bytes of a file that holds no valid model, or a valid model and a second file
+  module _ (limit : ℕ) (first : List ℕ → Outcome → Type 0) (each : SystemModel → (second : List ℕ) → Outcome → Type 0) (some_first : (bytes : List ℕ) → SomeOutcome (first bytes))
+      (some : (model : SystemModel) → IsValid model → AreNamed model → (text : List ℕ) → SomeOutcome (each model text))
+      (once_first : (bytes : List ℕ) (one other : Outcome) → first bytes one → first bytes other → same one other)
+      (once : (model : SystemModel) → IsValid model → AreNamed model → (text : List ℕ) (one other : Outcome) → each model text one → each model text other → same one other)
+      (own_first : (bytes : List ℕ) (found : Outcome) → first bytes found → MayEnd (Bytes bytes) (files.ContentAnd limit) found)
+      (own : (model : SystemModel) (text : List ℕ) (found : Outcome) → each model text found → MayEnd (ModelAnd model text) (files.ContentAnd limit) found)
+      (none_first : (bytes : List ℕ) (steps : ℕ) → takes (Bytes bytes) steps steps) (none : (model : SystemModel) (text : List ℕ) (steps : ℕ) → takes (ModelAnd model text) steps steps)
+      (holds_first : (bytes : List ℕ) (found : Outcome) → first bytes found → found.status ≡ DONE → safe (Bytes bytes) found.text)
+      (holds : (model : SystemModel) → IsValid model → (text : List ℕ) (found : Outcome) → each model text found → found.status ≡ DONE → safe (ModelAnd model text) found.text) where
+    abbrev comes_either : Content → Outcome → Type 0
+    comes_either = of_either first each (λ found. ⊥)
+
+    some_either : (content : Content) → Fits (files.ContentAnd limit) content → IsOpened content → SomeOutcome (comes_either content)
+    unfolding Fits
+    some_either Nothing fits opened = absurd fits
+    some_either (Bytes bytes) fits opened = some_first bytes
+    some_either (Model model) fits opened = absurd fits
+    some_either (ModelAnd model text) fits opened = some model opened.0 opened.1 text
+
+    once_either : (content : Content) → IsOpened content → (one other : Outcome) → comes_either content one → comes_either content other → same one other
+    once_either Nothing opened one other h k = absurd h
+    once_either (Bytes bytes) opened one other h k = once_first bytes one other h k
+    once_either (Model model) opened one other h k = absurd h
+    once_either (ModelAnd model text) opened one other h k = once model opened.0 opened.1 text one other h k
+
+    own_either : (content : Content) (found : Outcome) → comes_either content found → MayEnd content (files.ContentAnd limit) found
+    own_either Nothing found is = absurd is
+    own_either (Bytes bytes) found is = own_first bytes found is
+    own_either (Model model) found is = absurd is
+    own_either (ModelAnd model text) found is = own model text found is
+
+    none_either : (content : Content) → Fits (files.ContentAnd limit) content → (steps : ℕ) → takes content steps steps
+    unfolding Fits
+    none_either Nothing fits steps = absurd fits
+    none_either (Bytes bytes) fits steps = none_first bytes steps
+    none_either (Model model) fits steps = absurd fits
+    none_either (ModelAnd model text) fits steps = none model text steps
+
+    holds_either : (content : Content) → IsOpened content → (found : Outcome) → comes_either content found → found.status ≡ DONE → safe content found.text
+    holds_either Nothing opened found is done = absurd is
+    holds_either (Bytes bytes) opened found is done = holds_first bytes found is done
+    holds_either (Model model) opened found is done = absurd is
+    holds_either (ModelAnd model text) opened found is done = holds model opened.0 text found is done
+
+    pub either_well : IsMeantWell (files.ContentAnd limit) (record { comes_to = comes_either; takes = takes; safe = safe; same = same }) limited
+    either_well = record { some = λ content fits opened few. some_either content fits opened; once = once_either; equally = equally; ends = own_either; no_steps = none_either; holds = holds_either }

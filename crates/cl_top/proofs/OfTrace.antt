@@ -24,7 +24,7 @@ use Rattle.cl_top.specs.Inner.LegalRuns.{NothingOf, IsCheckedAs, IsTracedAs}
 use Rattle.cl_top.specs.OfTrace.{IsOfLegal, IsOfTrace}
 use Rattle.cl_engine.specs.Language.{IsOfContent}
 
-six_content : (found : Outcome) → found.status ≡ 6 → IsOfContent found.status
+pub six_content : (found : Outcome) → found.status ≡ 6 → IsOfContent found.status
 six_content found six = inr (inl (omega (arith, six), omega (arith, six)))
 
 module _ (model : SystemModel) (next : Run → Outcome → Type 0) where

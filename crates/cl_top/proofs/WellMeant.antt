@@ -9,9 +9,10 @@ pub mod Draw
 pub mod Edit
 pub mod Apply
 pub mod Check
+pub mod CheckFile
 use Rattle.std.proofs.Common.{◌≡◌, ℕ, ◌<◌, List, [], ◌∷◌, length, Option, Some, None, subst, arith}
 use Rattle.std.proofs.lemmas.Bool.{cond_both}
-use Rattle.std.specs.Prelude.{codes}
+use Rattle.std.specs.Prelude.{◌==◌, codes}
 use Rattle.std.specs.Str.{bytes_eq}
 use Rattle.cl_gen.specs.declared.limits.TheConstants.{MOST_RUN_TICKS}
 use Rattle.cl_picture.specs.declared.window.TheConstants.{MOST_WINDOW}
@@ -26,12 +27,13 @@ use Rattle.cl_top.specs.declared.command.Command.{Command}
 use Rattle.cl_top.specs.declared.command.Command.TheVariants as command
 use Rattle.cl_help.specs.declared.overview.TheConstants.{HELP}
 use Rattle.cl_top.specs.declared.commands.help.TheConstants.{VERSION}
-use Rattle.cl_top.specs.Command.{files_read, upto, some_tasks, any_seed, whole, with_two_numbers, with_subject, with_topic, asks_help, asks_version, by_verb, command_of, AsksForFew}
+use Rattle.cl_top.specs.Command.{files_read, upto, some_tasks, any_seed, whole, checking_of, with_two_numbers, with_subject, with_topic, asks_help, asks_version, by_verb, command_of, AsksForFew}
 use Rattle.cl_top.specs.Commands.{meaning_of, of_run}
 use Rattle.cl_help.specs.Topic.{about}
 use Rattle.cl_top.proofs.WellMeant.Alone.{saying_well, generating_well, surveying_well}
 use Rattle.cl_top.proofs.WellMeant.Apply.{applying_well}
 use Rattle.cl_top.proofs.WellMeant.Check.{checking_well}
+use Rattle.cl_top.proofs.WellMeant.CheckFile.{checking_file_well}
 use Rattle.cl_top.proofs.WellMeant.Draw.{drawing_well, drawn_once}
 use Rattle.cl_top.proofs.WellMeant.Edit.{editing_well}
 use Rattle.cl_top.proofs.WellMeant.OnModels.{analysing_well, migrating_well, cutting_well, ordering_well, headroom_well, margin_well, tightening_well, verifying_well, explaining_well}
@@ -61,6 +63,7 @@ meant_well (command.Draw from to) = drawing_well from to (AsksForFew (command.Dr
 meant_well command.Edit = editing_well
 meant_well command.Apply = applying_well
 meant_well command.Check = checking_well
+meant_well command.CheckFile = checking_file_well
 meant_well (command.Generate seed tasks) = generating_well seed tasks
 meant_well (command.Survey seed tasks) = surveying_well seed tasks
 meant_well command.Help = saying_well HELP.now
@@ -82,6 +85,10 @@ module _ (P : Option Command → Type 0) (words : List (List ℕ)) (of_whole : (
     (simulate : P (with_two_numbers command.Simulate 2 (upto MOST_RUN_TICKS) any_seed words)) (draw : P (with_two_numbers command.Draw 3 (upto MOST_WINDOW) (upto MOST_WINDOW) words))
     (generate : P (with_two_numbers command.Generate 1 any_seed some_tasks words)) (survey : P (with_two_numbers command.Survey 1 any_seed some_tasks words))
     (help : P (with_topic words)) (none : P None) where
+  of_check : P (checking_of words)
+  unfolding AsksForFew
+  of_check = cond_both (length words == 2) (whole command.Check words) (whole command.CheckFile words) P (λ _. of_whole command.Check tt) (λ _. of_whole command.CheckFile tt)
+
   each_verb : (verb : List ℕ) → P (by_verb verb words)
   unfolding AsksForFew
   each_verb verb =
@@ -94,7 +101,7 @@ module _ (P : Option Command → Type 0) (words : List (List ℕ)) (of_whole : (
       cond_both (bytes_eq verb (codes "tighten")) _ _ P (λ _. of_whole command.Tighten tt) (λ _.
       cond_both (bytes_eq verb (codes "verify")) _ _ P (λ _. of_whole command.Verify tt) (λ _.
       cond_both (bytes_eq verb (codes "explain")) _ _ P (λ _. of_whole command.Explain tt) (λ _.
-      cond_both (bytes_eq verb (codes "check")) _ _ P (λ _. of_whole command.Check tt) (λ _.
+      cond_both (bytes_eq verb (codes "check")) _ _ P (λ _. of_check) (λ _.
       cond_both (bytes_eq verb (codes "witness")) _ _ P (λ _. witness) (λ _.
       cond_both (bytes_eq verb (codes "why")) _ _ P (λ _. why) (λ _.
       cond_both (bytes_eq verb (codes "simulate")) _ _ P (λ _. simulate) (λ _.

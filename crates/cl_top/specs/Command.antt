@@ -24,6 +24,7 @@ use Rattle.cl_help.specs.Topic.{topic_of}
 -- a model file that is valid, but for these
 abbrev pub files_read : Command → Files
 files_read command.Check = files.Content
+files_read command.CheckFile = files.ContentAnd TRACE_LIMIT
 files_read command.Replay = files.ModelAnd TRACE_LIMIT
 files_read (command.Draw from to) = files.ModelAnd TRACE_LIMIT
 files_read command.Edit = files.ModelAnd FILE_LIMIT
@@ -52,6 +53,10 @@ any_seed = upto 18446744073709551615
 -- a verb, a file for each that the command needs, and nothing behind them
 abbrev pub whole : Command → List (List ℕ) → Option Command
 whole asked words = if length words == file_count (files_read asked) + 1 then Some asked else None
+
+-- `check`, of a model file alone or with a second file behind it
+abbrev pub checking_of : List (List ℕ) → Option Command
+checking_of words = if length words == 2 then whole command.Check words else whole command.CheckFile words
 
 -- behind a verb and so many files two numbers within these bounds, and nothing behind them
 abbrev pub with_two_numbers : (asked : ℕ → ℕ → Command) → (place : ℕ) → (one other : Bounds) → List (List ℕ) → Option Command
@@ -117,7 +122,7 @@ by_verb verb words =
     else if bytes_eq verb (codes "tighten") then whole command.Tighten words
     else if bytes_eq verb (codes "verify") then whole command.Verify words
     else if bytes_eq verb (codes "explain") then whole command.Explain words
-    else if bytes_eq verb (codes "check") then whole command.Check words
+    else if bytes_eq verb (codes "check") then checking_of words
     else by_other_verb verb words
 
 -- the command that words spell, or none

@@ -7,6 +7,7 @@ pub mod Draw
 pub mod Edit
 pub mod Apply
 pub mod Check
+pub mod CheckFile
 use Rattle.std.specs.Prelude.{◌≡◌, ℕ, ◌+◌, ◌≤◌, List, Option, Some, None}
 use Rattle.cl_model.specs.declared.model.SystemModel.{SystemModel}
 use Rattle.cl_runs.specs.Run.{Run}
@@ -32,6 +33,7 @@ use Rattle.cl_top.specs.declared.commands.help.TheConstants.{VERSION}
 use Rattle.cl_top.specs.Command.{command_of, files_read}
 use Rattle.cl_top.specs.Commands.Apply.{applying}
 use Rattle.cl_top.specs.Commands.Check.{checking}
+use Rattle.cl_top.specs.Commands.CheckFile.{checking_file}
 use Rattle.cl_top.specs.Commands.Draw.{drawing, IsDrawn}
 use Rattle.cl_top.specs.Commands.Edit.{editing}
 use Rattle.cl_top.specs.Commands.Replay.{replaying, IsReplayed}
@@ -52,9 +54,9 @@ saying text = record {
   same = equal;
 }
 
--- What each command comes to, its steps, what it promises of its text, and when two outcomes of it say the same. Fifteen
+-- What each command comes to, its steps, what it promises of its text, and when two outcomes of it say the same. Sixteen
 -- promise something of every legal run, or of the model or the run that they print: `analyse`, `cut`, `order`, `headroom`,
--- `margin`, `tighten`, `verify`, `explain`, `witness`, `why`, `check`, `replay`, `draw`, `edit` and `apply`. The others print no
+-- `margin`, `tighten`, `verify`, `explain`, `witness`, `why`, `check` (of one file and of two), `replay`, `draw`, `edit` and `apply`. The others print no
 -- bound of a given model.
 unfoldable pub meaning_of : Command → Meaning
 meaning_of command.Analyse = printing IsReportOf (at_most model_steps) (promises IsSafeReportOf)
@@ -79,6 +81,7 @@ meaning_of (command.Draw from to) = drawing from to
 meaning_of command.Edit = editing
 meaning_of command.Apply = applying
 meaning_of command.Check = checking
+meaning_of command.CheckFile = checking_file
 meaning_of (command.Generate seed tasks) = record {
   comes_to = on_nothing (IsDone (IsTextOf (generated seed tasks)));
   takes = no_step;

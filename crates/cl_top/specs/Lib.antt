@@ -2,6 +2,7 @@ pub mod Subject
 pub mod Command
 pub mod Verified
 pub mod OfTrace
+pub mod OfEdits
 pub mod Meaning
 pub mod Headline
 pub mod Commands

@@ -16,6 +16,10 @@ pub record Meaning : Type 1 where
   -- two outcomes of it say the same
   pub same : (one other : Outcome) → Type 0
 
+-- what is said of the bytes of a file, or of a model and the bytes of a second file
+abbrev pub of_either : {X : Type 1} → (each : List ℕ → X) → (both : SystemModel → (second : List ℕ) → X) → (other : X) → Content → X
+of_either each both other content = of_bytes each (of_both both other content) content
+
 -- ---- steps
 
 -- it takes none

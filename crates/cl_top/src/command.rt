@@ -4,7 +4,7 @@ ghost use Rattle.std.specs.Option.{option_map};
 ghost use Rattle.cl_help.specs.Topic.{topic_of};
 ghost use Rattle.cl_gen.specs.declared.limits.TheConstants.{MOST_RUN_TICKS};
 ghost use Rattle.cl_picture.specs.declared.window.TheConstants.{MOST_WINDOW};
-ghost use Rattle.cl_top.specs.Command.{files_read, upto, some_tasks, any_seed, whole, with_two_numbers, subject_of, with_subject, with_topic, by_word, by_other_verb, by_verb, command_of};
+ghost use Rattle.cl_top.specs.Command.{files_read, upto, some_tasks, any_seed, whole, checking_of, with_two_numbers, subject_of, with_subject, with_topic, by_word, by_other_verb, by_verb, command_of};
 
 use crate::subject::{What, read_what};
 use cl_engine::{Bounds, FILE_LIMIT, Files, two_numbers};
@@ -67,6 +67,9 @@ pub enum Command {
     Survey { seed: u64, tasks: u64 },
     /// `check MODEL`: says what to mend in a model file, or what to know of its model.
     Check,
+    /// `check MODEL FILE`: says what to mend in a list of edits or in a trace, for a model that is
+    /// accepted.
+    CheckFile,
     /// `help`: says what the commands are.
     Help,
     /// `help COMMAND`: says what one command is.
@@ -82,6 +85,7 @@ pub(crate) fn files_read(command: &Command) -> Files
 {
     match command {
         Command::Check => Files::Content,
+        Command::CheckFile => Files::ContentAnd { limit: TRACE_LIMIT },
         Command::Replay | Command::Draw { .. } => Files::ModelAnd { limit: TRACE_LIMIT },
         Command::Edit | Command::Apply => Files::ModelAnd { limit: FILE_LIMIT },
         Command::Generate { .. }
@@ -135,7 +139,7 @@ fn read_by_verb(words: &Words, verb: &str) -> Option<Command>
         "tighten" => read_whole(words, Command::Tighten),
         "verify" => read_whole(words, Command::Verify),
         "explain" => read_whole(words, Command::Explain),
-        "check" => read_whole(words, Command::Check),
+        "check" => read_check(words),
         verb => read_other(words, verb),
     }
 }
@@ -180,6 +184,17 @@ fn read_whole(words: &Words, asked: Command) -> Option<Command>
         Some(asked)
     } else {
         None
+    }
+}
+
+/// Reads `check`, of a model file alone or with a second file behind it.
+fn read_check(words: &Words) -> Option<Command>
+    ensures { result ≡ checking_of words.now }
+{
+    if words.len() == 2 {
+        read_whole(words, Command::Check)
+    } else {
+        read_whole(words, Command::CheckFile)
     }
 }
 

@@ -7,6 +7,9 @@ ghost use Rattle.cl_top.specs.Commands.{commands, IsOutcomeOf, TakesStepsOf};
 mod analyse;
 mod apply;
 mod check;
+mod check_file;
+mod check_list;
+mod check_trace;
 mod cut;
 mod draw;
 mod edit;
@@ -31,6 +34,7 @@ use crate::command::{files_read, read_command};
 use analyse::analysed;
 use apply::applied;
 use check::checked;
+use check_file::checked_file;
 use cl_engine::{Files, Given, Outcome};
 use cl_io::Words;
 use cl_time::{NoMemory, Steps};
@@ -117,6 +121,7 @@ fn answered<L: Ledger>(
             let (model, edits) = given.both();
             applied(alloc, model, edits.as_slice())
         }
+        Command::CheckFile => checked_file(alloc, given, steps),
         Command::Check => checked(alloc, given.bytes().as_slice(), steps),
         Command::Generate { seed, tasks } => generated(alloc, seed, tasks),
         Command::Survey { seed, tasks } => surveyed(alloc, seed, tasks, steps),

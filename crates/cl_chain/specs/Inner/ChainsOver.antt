@@ -77,11 +77,10 @@ IsTheChain IsSo (Some chain) = IsSo chain
 
 -- ---- what is measured
 
--- the writes of each group are in order, and forward chains end after they begin
+-- there are groups, and the writes of each are in order
 pub record AreForwardOrdered (tables : List GroupMoments) : Type 0 where
   pub some : 0 < length tables
   pub writes : (i : ℕ) → i < length tables → NeverFall (writes_in tables i)
-  pub forward : (chain : JobChain) → IsForwardOver tables chain → chain.from ≤ chain.to
 
 -- the moments of each group are in order, and chains end after they begin
 pub record AreOrdered (tables : List GroupMoments) : Type 0 where

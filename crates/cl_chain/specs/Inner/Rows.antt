@@ -1,5 +1,5 @@
 -- Rows: the jobs that have both a start and an end, with both.
-use Rattle.std.specs.Prelude.{◌≡◌, ℕ, Option, Some, ◌-◌, ◌<◌, ◌≤◌, List, length, slice_index}
+use Rattle.std.specs.Prelude.{◌≡◌, ℕ, Option, Some, ◌+◌, ◌-◌, ◌<◌, ◌≤◌, List, length, slice_index}
 use Rattle.cl_runs.specs.Chains.{JobChain}
 use Rattle.cl_chain.specs.declared.rows.Rows.{Rows}
 use Rattle.cl_chain.specs.Inner.GroupTables.{moment_at}
@@ -28,6 +28,17 @@ pub record IsLongestRow (rows : Rows) (place : ℕ) : Type 0 where
   pub within : place < length rows.jobs
   pub longest : (i : ℕ) → i < length rows.jobs → row_length rows i ≤ row_length rows place
   pub first : (i : ℕ) → i < place → row_length rows i < row_length rows place
+
+-- one row lasts longer than another, where a row may end before it starts
+abbrev pub LastsLonger : Rows → (one other : ℕ) → Type 0
+LastsLonger rows one other = slice_index rows.ends other + slice_index rows.starts one < slice_index rows.ends one + slice_index rows.starts other
+
+-- the first of those that last longest so
+pub record IsGreatestRow (rows : Rows) (place : ℕ) : Type 0 where
+  pub within : place < length rows.jobs
+  pub longest : (i : ℕ) → i < length rows.jobs
+      → slice_index rows.ends i + slice_index rows.starts place ≤ slice_index rows.ends place + slice_index rows.starts i
+  pub first : (i : ℕ) → i < place → LastsLonger rows place i
 
 -- the chains of a kind are those of the jobs that have a start and an end
 pub record IsOfRows (IsChain : JobChain → Type 0) (job_of : JobChain → ℕ) (starts ends : List (Option ℕ)) : Type 0 where

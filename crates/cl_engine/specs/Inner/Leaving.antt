@@ -6,7 +6,7 @@ use Rattle.cl_engine.specs.declared.status.TheConstants.{MODEL_REFUSED}
 use Rattle.cl_engine.specs.Calls.{ShelfCall}
 use Rattle.cl_engine.specs.Fetched.{StaysBeside, TellsFiles, SomeFile, FileRose, FileTooLong, NoneAfter}
 use Rattle.cl_engine.specs.Files.{File}
-use Rattle.cl_engine.specs.Language.{Language, files_of, IsOfContent}
+use Rattle.cl_engine.specs.Language.{Language, files_of, limited_of, IsOfContent}
 use Rattle.cl_engine.specs.Outcome.{words_refused, read_fault, long_file}
 use Rattle.cl_engine.specs.Steps.{AreFewSteps}
 
@@ -17,13 +17,13 @@ pub record LeavesRest {C : Type 0} (language : Language C) (words : List (List �
   pub few_steps : (contents : ℕ → List ℕ) → TellsFiles (files_of language words) words shelf.held contents
       → AreFewSteps language (language.spelled words) contents steps steps_after
 
--- why an outcome of a command with these files is what it is
-pub data Cause (files : List File) (words : List (List ℕ)) (shelf : ShelfCall) (found : Outcome) : Type 0 where
-  OfFault : SomeFile files (λ file. FileRose words shelf file × NoneAfter files words shelf file.place × (found ≡ read_fault file.place)) → Cause files words shelf found
-  OfLength : SomeFile files (λ file. FileTooLong words shelf file × NoneAfter files words shelf file.place × (found ≡ long_file file.place)) → Cause files words shelf found
-  OfRefusal : NoneAfter files words shelf 1 → found.status ≡ MODEL_REFUSED → Cause files words shelf found
-  OfContent : IsOfContent found.status → Cause files words shelf found
+-- why an outcome of a command with these files, by each length past which one is too long, is what it is
+pub data Cause (files limited : List File) (words : List (List ℕ)) (shelf : ShelfCall) (found : Outcome) : Type 0 where
+  OfFault : SomeFile files (λ file. FileRose words shelf file × NoneAfter files words shelf file.place × (found ≡ read_fault file.place)) → Cause files limited words shelf found
+  OfLength : SomeFile limited (λ file. FileTooLong words shelf file × NoneAfter limited words shelf file.place × (found ≡ long_file file.place)) → Cause files limited words shelf found
+  OfRefusal : NoneAfter files words shelf 1 → found.status ≡ MODEL_REFUSED → Cause files limited words shelf found
+  OfContent : IsOfContent found.status → Cause files limited words shelf found
 
 -- and of words: they are no command, or it is that of their command
 abbrev pub IsCaused : {C : Type 0} → Language C → (words : List (List ℕ)) → ShelfCall → Outcome → Type 0
-IsCaused language words shelf found = ((language.spelled words ≡ None) × (found ≡ words_refused)) ⊎ Cause (files_of language words) words shelf found
+IsCaused language words shelf found = ((language.spelled words ≡ None) × (found ≡ words_refused)) ⊎ Cause (files_of language words) (limited_of language words) words shelf found

@@ -1,5 +1,5 @@
 -- What the opening of a command's files gives: what they hold, or the outcome that stands in the place of what comes next.
-use Rattle.std.specs.Prelude.{◌≡◌, ◌≢◌, ◌⊎◌, ℕ, List, Option, None, Result, Ok, Err}
+use Rattle.std.specs.Prelude.{◌≡◌, ◌≢◌, ℕ, List, Option, Some, None, Result, Ok, Err}
 use Rattle.cl_io.specs.Names.{SameAtEach}
 use Rattle.cl_model.specs.declared.model.SystemModel.{SystemModel}
 use Rattle.cl_model.specs.declared.refusal.Refusal.{Refusal}
@@ -16,10 +16,10 @@ use Rattle.cl_engine.specs.declared.opening.OpenedModel.TheVariants as model_ope
 use Rattle.cl_engine.specs.declared.opening.Opened.{Opened}
 use Rattle.cl_engine.specs.declared.opening.Opened.TheVariants as opened
 use Rattle.cl_engine.specs.Calls.{ShelfCall, StaysAt}
-use Rattle.cl_engine.specs.Content.{Content, Nothing, Bytes as Whole, Model, ModelAnd, content_of, MeansModel}
+use Rattle.cl_engine.specs.Content.{Content, Nothing, Bytes as Whole, Model, ModelAnd, content_of, MeansModel, MeansNone}
 use Rattle.cl_engine.specs.Fetched.{Fetched, Bytes, Fault, TooLong, MayGive, EachFile, FileGave, WaitsForModel}
 use Rattle.cl_engine.specs.Files.{File, model_file, second_file, files_named, word}
-use Rattle.cl_engine.specs.Outcome.{model_refused, ValidatesTo, ReadsTo, OpensTo, Opens}
+use Rattle.cl_engine.specs.Outcome.{OpensTo, Opens}
 
 -- a fetch, without where its bytes lie in memory
 abbrev pub given : FileFetch → Fetched
@@ -33,22 +33,25 @@ given fetch.TooLong = TooLong
 abbrev pub NoNext : {X : Type 0} → X → Outcome → Type 0
 NoNext content found = ⊥
 
--- the model, whose first refusal this is, is this valid one, or stops the command with this outcome
-abbrev pub IsValidatedAs : SystemModel → Option Refusal → OpenedModel → Type 0
-IsValidatedAs model refusal (model_opened.Valid valid) = (valid ≡ model) × (refusal ≡ None)
-IsValidatedAs model refusal (model_opened.Stopped found) = ValidatesTo model refusal NoNext found
+-- the model of these bytes, whose first refusal this is, is this valid one, or is refused with this
+abbrev pub IsValidatedAs : (bytes : List ℕ) → SystemModel → Option Refusal → OpenedModel → Type 0
+IsValidatedAs bytes model refusal (model_opened.Valid valid) = (valid ≡ model) × (refusal ≡ None)
+IsValidatedAs bytes model refusal (model_opened.Refused own why) = (own.items ≡ bytes) × (refusal ≡ Some why)
+IsValidatedAs bytes model refusal (model_opened.Stopped found) = ⊥
 
--- what was read is this valid model, or stops the command with this outcome
-abbrev pub IsReadAs : Result SystemModel Refusal → OpenedModel → Type 0
-IsReadAs (Ok model) opened = IsValidatedAs model (refusal_of model) opened
-IsReadAs (Err refusal) (model_opened.Valid valid) = ⊥
-IsReadAs (Err refusal) (model_opened.Stopped found) = found ≡ model_refused refusal
+-- what was read of these bytes is this valid model, or is refused with this
+abbrev pub IsReadAs : (bytes : List ℕ) → Result SystemModel Refusal → OpenedModel → Type 0
+IsReadAs bytes (Ok model) opened = IsValidatedAs bytes model (refusal_of model) opened
+IsReadAs bytes (Err refusal) (model_opened.Valid valid) = ⊥
+IsReadAs bytes (Err refusal) (model_opened.Refused own why) = (own.items ≡ bytes) × (why ≡ refusal)
+IsReadAs bytes (Err refusal) (model_opened.Stopped found) = ⊥
 
--- what the fetch of a model file gave is this valid model, or stops the command with this outcome
+-- what the fetch of a model file gave is this valid model, is refused with this, or stops the command with this outcome
 abbrev pub IsOpenedAs : Fetched → OpenedModel → Type 0
-IsOpenedAs (Bytes bytes) opened = IsReadAs (model_of bytes) opened
+IsOpenedAs (Bytes bytes) opened = IsReadAs bytes (model_of bytes) opened
 IsOpenedAs fetched (model_opened.Valid valid) = ⊥
-IsOpenedAs fetched (model_opened.Stopped found) = OpensTo 1 fetched (λ bytes. ReadsTo (model_of bytes) NoNext) found
+IsOpenedAs fetched (model_opened.Refused own why) = ⊥
+IsOpenedAs fetched (model_opened.Stopped found) = OpensTo 1 fetched NoNext found
 
 -- what the opening of the model file of this name gave
 pub record HasOpened (shelf : ShelfCall) (name : List ℕ) (opened : OpenedModel) : Type 0 where
@@ -75,12 +78,18 @@ pub record HasOpenedSecond (shelf : ShelfCall) (name : List ℕ) (limit : ℕ) (
 abbrev pub GivesModel : Fetched → SystemModel → Type 0
 GivesModel fetched model = (bytes : List ℕ) × (fetched ≡ Bytes bytes) × MeansModel bytes model
 
+-- it gave these bytes, which mean no such model
+abbrev pub GivesNone : Fetched → (bytes : List ℕ) → Type 0
+GivesNone fetched bytes = (fetched ≡ Bytes bytes) × MeansNone bytes
+
 -- the files gave this content
 abbrev pub GivesContent : Files → (gave : File → Fetched) → Content → Type 0
 GivesContent files.Nothing gave Nothing = Unit {0}
 GivesContent files.Content gave (Whole bytes) = gave model_file ≡ Bytes bytes
 GivesContent files.Model gave (Model model) = GivesModel (gave model_file) model
 GivesContent (files.ModelAnd limit) gave (ModelAnd model text) = GivesModel (gave model_file) model × (gave (second_file limit) ≡ Bytes text)
+GivesContent (files.ContentAnd limit) gave (Whole bytes) = GivesNone (gave model_file) bytes
+GivesContent (files.ContentAnd limit) gave (ModelAnd model text) = GivesModel (gave model_file) model × (gave (second_file limit) ≡ Bytes text)
 GivesContent named gave content = ⊥
 
 -- what the files gave is opened as this: what they hold, or an outcome

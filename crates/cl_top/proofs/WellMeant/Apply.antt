@@ -1,21 +1,22 @@
 -- `apply`: the model after all edits.
-use Rattle.std.proofs.Common.{◌≡◌, ℕ, inl, inr, List, length, Ok, ap, ◌∙◌, arith}
+use Rattle.std.proofs.Common.{◌≡◌, ℕ, inl, inr, List, length, Ok, refl, ap, ◌∙◌, arith}
 use Rattle.std.proofs.lemmas.List.{take_all}
 use Rattle.cl_model.specs.declared.model.SystemModel.{SystemModel}
-use Rattle.cl_model.specs.declared.refusal.Code.TheVariants.{E1}
-use Rattle.cl_model.specs.Place.{top}
+use Rattle.cl_model.specs.AreNamed.{AreNamed}
 use Rattle.cl_model.specs.Validity.{IsValid}
 use Rattle.cl_edit.specs.declared.edit.Edit.{Edit}
 use Rattle.cl_edit.specs.declared.edit_lines.ListedEdit.{ListedEdit}
 use Rattle.cl_edit.specs.Edited.{after}
 use Rattle.cl_edit.specs.Reading.{edits_of, AreEditsOf}
+use Rattle.cl_write.proofs.SomeTexts.{some_text}
 use Rattle.cl_engine.specs.declared.files.Files.TheVariants as files
 use Rattle.cl_engine.specs.declared.files.TheConstants.{FILE_LIMIT}
 use Rattle.cl_engine.specs.declared.outcome.Outcome.{Outcome}
 use Rattle.cl_engine.specs.declared.status.TheConstants.{DONE}
 use Rattle.cl_engine.specs.Language.{IsOfContent}
-use Rattle.cl_top.specs.Commands.Apply.{IsOfApply, HoldsEdited, applying}
-use Rattle.cl_top.specs.Commands.Edit.{line_at, edits_refused}
+use Rattle.cl_top.specs.Commands.Apply.{all_written, refused_alone, IsOfApply, HoldsEdited, applying}
+use Rattle.cl_top.specs.Commands.Edit.{edits_refused, bad_line}
+use Rattle.cl_top.specs.OfEdits.{line_at}
 use Rattle.cl_top.specs.Meaning.{no_step, promises_of_both, WritesTheSame}
 use Rattle.cl_top.proofs.Applied.{some_applied, applied_alike}
 use Rattle.cl_top.proofs.WellMeant.Edit.{seven_content}
@@ -29,13 +30,13 @@ status_of found other is = ap (λ (o : Outcome). o.status) is
 -- a model, and a refusal of an edit, are of content
 apply_content : (model : SystemModel) (text : List ℕ) (found : Outcome) → IsOfApply model text found → IsOfContent found.status
 apply_content model text found (inl has) = elim has.applied_to [
-  | inl all ↦ inl all.is_text.status_is
+  | inl all ↦ inl all.outcome.status_is
   | inr refused ↦ seven_content found (status_of found _ refused.printed)
 ]
 apply_content model text found (inr bad) = seven_content found (status_of found _ bad.printed)
 
 -- the model after all edits is valid
-all_valid : (model : SystemModel) → IsValid model → (text : List ℕ) (listed : List ListedEdit) → AreEditsOf text listed
+pub all_valid : (model : SystemModel) → IsValid model → (text : List ℕ) (listed : List ListedEdit) → AreEditsOf text listed
     → (made : SystemModel) → after model (edits_of listed) ≡ Ok made → IsValid made
 all_valid model valid text listed are made applied =
     let edits : List Edit = edits_of listed in
@@ -50,13 +51,18 @@ holds_edited model valid text found (inl has) done = elim has.applied_to [
     made = all.made;
     applied = all.applied;
     valid = all_valid model valid text has.listed has.are all.made all.applied;
-    is_text = all.is_text.text_is;
+    is_text = all.outcome.text_is;
   }
   | inr refused ↦ absurd (omega (arith, done, status_of found (edits_refused (line_at has.listed refused.count) refused.refusal) refused.printed))
 ]
 holds_edited model valid text found (inr bad) done =
-    absurd (omega (arith, done, status_of found (edits_refused bad.number (record { code = E1; place = top })) bad.printed))
+    absurd (omega (arith, done, status_of found (bad_line bad.number) bad.printed))
+
+written_some : (made : SystemModel) → IsValid made → AreNamed made → (found : Outcome) × all_written made found
+written_some made valid named = let text = some_text made valid.in_range named in (record { status = DONE; text = text.0 }, record { status_is = refl; text_is = text.1 })
 
 pub applying_well : IsMeantWell (files.ModelAnd FILE_LIMIT) applying (Unit {0})
 applying_well = both_well no_step (promises_of_both HoldsEdited) WritesTheSame (Unit {0}) (λ one other is. inl is) FILE_LIMIT IsOfApply
-    some_applied applied_alike apply_content (λ model text steps. omega arith) holds_edited
+    (λ model valid named text. some_applied all_written refused_alone bad_line written_some model valid named text)
+    (λ model valid named text one other first second. applied_alike all_written refused_alone bad_line WritesTheSame (λ model one other h k. inr (model, h, k)) (λ one other is. inl is)
+    model valid named text one other first second) apply_content (λ model text steps. omega arith) holds_edited

@@ -10,9 +10,8 @@ use Rattle.cl_explain.proofs.SafelyExplained.{safe_acceptance}
 use Rattle.cl_engine.specs.declared.files.Files.TheVariants as files
 use Rattle.cl_engine.specs.declared.outcome.Outcome.{Outcome}
 use Rattle.cl_engine.specs.declared.status.TheConstants.{DONE, MODEL_REFUSED}
-use Rattle.cl_engine.specs.Content.{MeansModel, of_bytes}
-use Rattle.cl_engine.specs.Language.{MayEnd}
-use Rattle.cl_engine.specs.Outcome.{refusal_line}
+use Rattle.cl_engine.specs.Content.{Bytes, MeansModel, of_bytes}
+use Rattle.cl_engine.specs.Outcome.{refusal_line, MayEnd}
 use Rattle.cl_engine.proofs.Openings.{valid_read}
 use Rattle.cl_top.specs.Commands.Check.{IsAdvised, ValidityChecks, ReadingChecks, IsChecked, ChecksTheSame, read_steps, IsSafeAdvice, checking}
 use Rattle.cl_top.proofs.Meanings.{IsMeantWell, done_some, done_once, bytes_well}
@@ -28,7 +27,7 @@ validity_some : (bytes : List ℕ) (model : SystemModel) (refusal : Option Refus
 validity_some bytes model None = done_some (λ text. text ≡ accepted_text model) (accepted_text model) refl
 validity_some bytes model (Some refusal) = advised_some bytes (Some model) refusal
 
-reading_some : (bytes : List ℕ) (read : Result SystemModel Refusal) → (found : Outcome) × ReadingChecks bytes read found
+pub reading_some : (bytes : List ℕ) (read : Result SystemModel Refusal) → (found : Outcome) × ReadingChecks bytes read found
 reading_some bytes (Ok model) = validity_some bytes model (refusal_of model)
 reading_some bytes (Err refusal) = advised_some bytes None refusal
 
@@ -45,7 +44,7 @@ module _ (one other : Outcome) where
       inl (done_once (λ text. text ≡ accepted_text model) (λ text again is likewise. is ∙ sym likewise) one other first second)
   validity_same bytes model (Some refusal) first second = advised_same bytes (Some model) refusal first second
 
-  reading_same : (bytes : List ℕ) (read : Result SystemModel Refusal) → ReadingChecks bytes read one → ReadingChecks bytes read other → ChecksTheSame one other
+  pub reading_same : (bytes : List ℕ) (read : Result SystemModel Refusal) → ReadingChecks bytes read one → ReadingChecks bytes read other → ChecksTheSame one other
   reading_same bytes (Ok model) first second = validity_same bytes model (refusal_of model) first second
   reading_same bytes (Err refusal) first second = advised_same bytes None refusal first second
 
@@ -56,12 +55,12 @@ validity_status : (bytes : List ℕ) (model : SystemModel) (refusal : Option Ref
 validity_status bytes model None found is = inl is.status_is
 validity_status bytes model (Some refusal) found is = inr is.status_is
 
-reading_status : (bytes : List ℕ) (read : Result SystemModel Refusal) (found : Outcome) → ReadingChecks bytes read found
+pub reading_status : (bytes : List ℕ) (read : Result SystemModel Refusal) (found : Outcome) → ReadingChecks bytes read found
     → (found.status ≡ DONE) ⊎ (found.status ≡ MODEL_REFUSED)
 reading_status bytes (Ok model) found is = validity_status bytes model (refusal_of model) found is
 reading_status bytes (Err refusal) found is = inr is.status_is
 
-check_content : (bytes : List ℕ) (found : Outcome) → IsChecked bytes found → MayEnd files.Content found.status
+check_content : (bytes : List ℕ) (found : Outcome) → IsChecked bytes found → MayEnd (Bytes bytes) files.Content found
 check_content bytes found is = elim (reading_status bytes (model_of bytes) found is) [ inl done ↦ inl (inl done) | inr refused ↦ inr refused ]
 
 -- ---- what it promises
@@ -75,7 +74,7 @@ module _ (bytes : List ℕ) (found : Outcome) (done : found.status ≡ DONE) whe
       record { model = model; means = accepted; valid = valid; accepted = safe_acceptance model valid found.text is.text_is }
   validity_safe model (Some refusal) means some is = absurd (omega (arith, done, is.status_is))
 
-  reading_safe : (read : Result SystemModel Refusal) → model_of bytes ≡ read → ReadingChecks bytes read found → IsSafeAdvice bytes found.text
+  pub reading_safe : (read : Result SystemModel Refusal) → model_of bytes ≡ read → ReadingChecks bytes read found → IsSafeAdvice bytes found.text
   reading_safe (Ok model) means is = validity_safe model (refusal_of model) means refl is
   reading_safe (Err refusal) means is = absurd (omega (arith, done, is.status_is))
 

@@ -12,7 +12,8 @@ use Rattle.cl_engine.specs.declared.outcome.Outcome.{Outcome}
 use Rattle.cl_engine.specs.declared.status.TheConstants.{DONE, EDITS_REFUSED}
 use Rattle.cl_engine.specs.Content.{of_both}
 use Rattle.cl_engine.specs.Language.{IsOfContent}
-use Rattle.cl_top.specs.Commands.Edit.{line_at, edits_refused, refused_with, behind, IsOfEdits, AreSafeTexts, StopsSafely, EditTheSame, editing}
+use Rattle.cl_top.specs.OfEdits.{line_at}
+use Rattle.cl_top.specs.Commands.Edit.{edits_refused, refused_with, behind, IsOfEdits, AreSafeTexts, StopsSafely, EditTheSame, editing}
 use Rattle.cl_top.specs.Meaning.{promises_of_both}
 use Rattle.cl_top.specs.Steps.{AreFewOfEdits}
 use Rattle.cl_top.proofs.EditSteps.{few_of_none}

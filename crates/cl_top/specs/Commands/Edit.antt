@@ -1,5 +1,5 @@
 -- `edit MODEL EDITS`: what is found of a model as it is edited.
-use Rattle.std.specs.Prelude.{◌≡◌, ◌⊎◌, ℕ, ◌<◌, ◌≤◌, Bool, true, false, List, [], ◌++◌, length, map, take, slice_index_or, codes, decimal, Ok, Err}
+use Rattle.std.specs.Prelude.{◌≡◌, ◌⊎◌, ℕ, ◌<◌, ◌≤◌, Bool, true, false, List, [], ◌++◌, length, take, slice_index_or, codes, decimal, Ok, Err}
 use Rattle.std.specs.List.{concat, list_any}
 use Rattle.cl_text.specs.Line.{line}
 use Rattle.cl_model.specs.declared.model.SystemModel.{SystemModel}
@@ -11,13 +11,14 @@ use Rattle.cl_edit.specs.declared.edit.Edit.{Edit}
 use Rattle.cl_edit.specs.declared.edit.Edit.TheVariants.{Report, Tighten, Verify}
 use Rattle.cl_edit.specs.declared.edit_lines.ListedEdit.{ListedEdit}
 use Rattle.cl_edit.specs.Edited.{edited, after}
-use Rattle.cl_edit.specs.Reading.{edits_of, AreEditsOf, IsBadEditLine}
+use Rattle.cl_edit.specs.Reading.{edits_of, AreEditsOf}
 use Rattle.cl_report.specs.Report.{IsReportOf}
 use Rattle.cl_report.specs.Tight.{tight_text}
 use Rattle.cl_verify.specs.VerifyText.{IsVerifyTextOf}
 use Rattle.cl_engine.specs.declared.outcome.Outcome.{Outcome}
 use Rattle.cl_engine.specs.declared.status.TheConstants.{DONE, EDITS_REFUSED}
 use Rattle.cl_engine.specs.Content.{of_both}
+use Rattle.cl_top.specs.OfEdits.{edit_at, line_at, HasBadLine}
 use Rattle.cl_top.specs.Headline.{IsSafeReportOf, IsSafeTightReport}
 use Rattle.cl_top.specs.Meaning.{Meaning, on_both, promises_of_both}
 use Rattle.cl_top.specs.Steps.{AreFewOfEdits}
@@ -29,6 +30,10 @@ refused_with text = record { status = EDITS_REFUSED; text = text }
 -- the line of this number is refused
 abbrev pub edits_refused : (number : ℕ) → Refusal → Outcome
 edits_refused number refusal = refused_with (line (codes "edits refused line " ++ decimal number ++ codes " " ++ refusal_text refusal))
+
+-- the line of this number is no edit, or one too many
+abbrev pub bad_line : (number : ℕ) → Outcome
+bad_line number = edits_refused number (record { code = E1; place = top })
 
 -- an outcome, with a text before its own
 abbrev pub behind : List ℕ → Outcome → Outcome
@@ -55,13 +60,6 @@ pub record AreAccepted (model : SystemModel) (edits : List Edit) (count : ℕ) (
   pub accepted : after model (take count edits) ≡ Ok made
   pub one_each : length pieces ≡ count
   pub written : (place : ℕ) → place < count → HasWrittenPiece model edits place (slice_index_or pieces place [])
-
--- the edit at a place of a list, and the number of its line
-abbrev pub edit_at : List ListedEdit → (place : ℕ) → Edit
-edit_at listed place = slice_index_or (edits_of listed) place Report
-
-abbrev pub line_at : List ListedEdit → (place : ℕ) → ℕ
-line_at listed place = slice_index_or (map (λ (one : ListedEdit). one.line) listed) place 0
 
 -- the next edit is refused of this model: its refusal stands behind the text
 pub record EndsRefused (made : SystemModel) (listed : List ListedEdit) (count : ℕ) (text : List ℕ) (found : Outcome) : Type 0 where
@@ -91,10 +89,8 @@ pub record HasEdits (model : SystemModel) (text : List ℕ) (found : Outcome) : 
   pub edited_to : AreEditedTo model listed found
 
 -- the text is none
-pub record HasBadEditLine (text : List ℕ) (found : Outcome) : Type 0 where
-  pub number : ℕ
-  pub bad : IsBadEditLine text number
-  pub printed : found ≡ edits_refused number (record { code = E1; place = top })
+abbrev pub HasBadEditLine : (text : List ℕ) → Outcome → Type 0
+HasBadEditLine text found = HasBadLine bad_line text found
 
 -- the outcome of a text, for a valid model
 abbrev pub IsOfEdits : SystemModel → (text : List ℕ) → Outcome → Type 0

@@ -5,6 +5,7 @@ ghost use Rattle.cl_edit.specs.Ranges.{IsEditInRange};
 ghost use Rattle.cl_edit.specs.Reading.{edits_of};
 ghost use Rattle.cl_engine.specs.Content.{ModelAnd};
 ghost use Rattle.cl_top.specs.Commands.{IsOutcomeOf};
+ghost use Rattle.cl_top.specs.Commands.Apply.{all_written, refused_alone};
 ghost use Rattle.cl_top.specs.Commands.Edit.{edits_refused};
 ghost use Rattle.cl_top.specs.Inner.Applying.{ApplyTo};
 
@@ -59,7 +60,7 @@ fn apply_lines(
     mut lines: EditLines<'_>,
 ) -> Result<Outcome, NoMemory>
     requires { All IsEditInRange (edits_of lines) }
-    ensures { IfOk result (ApplyTo model lines.entry) }
+    ensures { IfOk result (ApplyTo all_written refused_alone model lines.entry) }
 {
     while let Some(listed) = lines.next(alloc)? {
         let line = listed.line;

@@ -55,7 +55,7 @@ fn checked_run(alloc: Global, model: &ValidModel, run: RunData) -> Result<LegalR
 }
 
 /// Makes the outcome of a trace whose first bad line is line `number`.
-fn refused(alloc: Global, number: u64) -> Result<Outcome, NoMemory>
+pub(super) fn refused(alloc: Global, number: u64) -> Result<Outcome, NoMemory>
     ensures { IfOk result (λ outcome. outcome ≡ trace_refused number) }
 {
     let mut text = Text::new(alloc);
@@ -70,7 +70,7 @@ fn refused(alloc: Global, number: u64) -> Result<Outcome, NoMemory>
 
 /// Makes the outcome of a run that first breaks `rule`, at a tick, by the core of number `place`
 /// for its schedule, and by the task of that number for every other rule.
-fn illegal(
+pub(super) fn illegal(
     alloc: Global,
     model: &ValidModel,
     rule: Rule,

@@ -1,6 +1,10 @@
+use Rattle.cl_advice.proofs.CleanEdits.{clean_edit_advice}
 use Rattle.cl_advice.proofs.CleanMends.{clean_advice}
 use Rattle.cl_advice.proofs.CleanUnread.{clean_at, clean_unread}
 use Rattle.cl_advice.proofs.laws.advice_is_clean.Goals as goal
+
+pub returns-clause-edit : goal.returns-clause-edit
+returns-clause-edit c = clean_edit_advice
 
 pub returns-clause-place : goal.returns-clause-place
 returns-clause-place c = clean_at

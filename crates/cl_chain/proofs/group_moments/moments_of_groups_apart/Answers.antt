@@ -1,28 +1,26 @@
 use Rattle.std.proofs.Common.{◌≡◌, ℕ, ◌<◌, List, ◌∷◌, [], length, sym, ap, ◌∙◌, subst, length-append, arith}
 use Rattle.cl_model.specs.declared.group.Group.{Group}
 use Rattle.cl_model.specs.Groups.{groups_at, group_at}
-use Rattle.cl_runs.specs.TaskTiming.{System}
 use Rattle.cl_runs.specs.SystemOf.{system_of}
-use Rattle.cl_runs.specs.Run.{Run}
-use Rattle.cl_run_data.specs.Parts.{ShowsTask, ShowsGroups}
-use Rattle.cl_run_data.proofs.ShownTasks.{groups_show_task}
+use Rattle.cl_runs.specs.Run.{Run, jobs_of}
+use Rattle.cl_check.specs.InOrder.{AreTimesPositive, AreGroupsInOrder}
 use Rattle.cl_chain.specs.declared.group_moments.GroupMoments.{GroupMoments}
 use Rattle.cl_chain.proofs.GroupReads.{reads_pushed, writes_pushed}
 use Rattle.cl_chain.proofs.group_moments.moments_of_groups_apart.Goals as goal
 
 -- the task of a group that stands at a place
-group_shown : (system : System) (groups : List Group) (run : Run) → ShowsGroups system groups run → (place : ℕ) → place < length groups
-    → (group : Group) → group ≡ group_at groups place → ShowsTask system group.task run
-group_shown system groups run shows place within group is = subst (λ (g : Group). ShowsTask system g.task run) (sym is) (groups_show_task system groups run shows place within)
+group_times : (groups : List Group) (run : Run) → AreGroupsInOrder groups run → (place : ℕ) → place < length groups
+    → (group : Group) → group ≡ group_at groups place → AreTimesPositive (jobs_of run group.task)
+group_times groups run ordered place within group is = subst (λ (g : Group). AreTimesPositive (jobs_of run g.task)) (sym is) (ordered place within).times
 
-pub reads_of-requires-clause-shows : goal.reads_of-requires-clause-shows
-reads_of-requires-clause-shows c =
-    group_shown (system_of c.args.model.now) (groups_at c.args.model.now c.args.chain) c.args.run.now c.requires.shows
+pub reads_of-requires-clause-times : goal.reads_of-requires-clause-times
+reads_of-requires-clause-times c =
+    group_times (groups_at c.args.model.now c.args.chain) c.args.run.now c.requires.ordered
     c.loop-place.place (omega (arith, c.loop-place-test.true, c.group_count-place-end.ensures.count)) c.group-group.result c.group-group.ensures.group
 
-pub writes_of-requires-clause-shows : goal.writes_of-requires-clause-shows
-writes_of-requires-clause-shows c =
-    group_shown (system_of c.args.model.now) (groups_at c.args.model.now c.args.chain) c.args.run.now c.requires.shows
+pub writes_of-requires-clause-times : goal.writes_of-requires-clause-times
+writes_of-requires-clause-times c =
+    group_times (groups_at c.args.model.now c.args.chain) c.args.run.now c.requires.ordered
     c.loop-place.place (omega (arith, c.loop-place-test.true, c.group_count-place-end.ensures.count)) c.group-group.result c.group-group.ensures.group
 
 pub loop-place-preserved : goal.loop-place-preserved

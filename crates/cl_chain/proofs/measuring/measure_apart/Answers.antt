@@ -12,7 +12,7 @@ measured_over-requires c =
     let some : 0 < length (groups_at c.args.model.now c.args.chain) = c.in_ok-groups.ensures.some in
     let tables : AreTables (system_of c.args.model.now) c.args.run.now (groups_at c.args.model.now c.args.chain) c.as_slice.result.now
     = rw c.as_slice.ensures c.in_ok-groups.ensures.tables in
-    tables_ordered c.args.model.now c.in_ok-groups.ensures.valid c.args.run.now c.args.chain c.requires.shows some c.as_slice.result.now tables
+    tables_ordered c.args.model.now c.in_ok-groups.ensures.valid c.args.run.now c.requires.in_form c.args.chain c.requires.ordered some c.as_slice.result.now tables
 
 pub returns : goal.returns
 returns c =

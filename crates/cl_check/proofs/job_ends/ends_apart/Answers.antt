@@ -13,7 +13,7 @@ stretches-stretches-requires c = omega (arith, c.requires.is_task, c.requires.ap
 pub jobs_of-requires : goal.jobs_of-requires
 jobs_of-requires c = omega (
   arith,
-  jobs_within c.args.model.now c.task.ensures.valid c.args.run.now c.requires.in_form c.args.task c.requires.shows c.requires.is_task (core_of c.args.model.now c.args.task) refl,
+  jobs_within c.args.model.now c.task.ensures.valid c.args.run.now c.requires.in_form c.args.task c.requires.times c.requires.is_task (core_of c.args.model.now c.args.task) refl,
   ap (λ (t : JobTable). length t.jobs) c.table-table.ensures,
 )
 
@@ -28,19 +28,19 @@ ends_in-requires-clause-fits c = omega (
 pub ends_in-requires-clause-places : goal.ends_in-requires-clause-places
 ends_in-requires-clause-places c =
     let jobs = c.jobs_of.ensures ∙ ap (λ (t : JobTable). table_jobs t c.args.task) c.table-table.ensures in
-    rw jobs (each_has_place c.args.model.now c.task.ensures.valid c.args.run.now c.requires.in_form c.args.task c.requires.shows c.requires.is_task
+    rw jobs (each_has_place c.args.model.now c.task.ensures.valid c.args.run.now c.requires.in_form c.args.task c.requires.times c.requires.is_task
     (core_of c.args.model.now c.args.task) refl c.args.place c.requires.is_runnable)
 
 pub ends_in-requires-clause-times : goal.ends_in-requires-clause-times
 ends_in-requires-clause-times c =
     let jobs = c.jobs_of.ensures ∙ ap (λ (t : JobTable). table_jobs t c.args.task) c.table-table.ensures in
-    rw jobs (each_has_time c.args.model.now c.task.ensures.valid c.args.run.now c.requires.in_form c.args.task c.requires.shows c.requires.is_task
+    rw jobs (each_has_time c.args.model.now c.task.ensures.valid c.args.run.now c.requires.in_form c.args.task c.requires.times c.requires.is_task
     (core_of c.args.model.now c.args.task) refl c.args.place c.requires.is_runnable)
 
 pub returns : goal.returns
 returns c =
     let jobs = c.jobs_of.ensures ∙ ap (λ (t : JobTable). table_jobs t c.args.task) c.table-table.ensures in
     IfOk-weaker c.ends_in.result _ _
-    (λ ends found. ends_are_apart c.args.model.now c.task.ensures.valid c.args.run.now c.requires.in_form c.args.task c.requires.shows c.requires.is_task
+    (λ ends found. ends_are_apart c.args.model.now c.task.ensures.valid c.args.run.now c.requires.in_form c.args.task c.requires.times c.requires.is_task
     (core_of c.args.model.now c.args.task) refl c.args.place c.requires.is_runnable
     c.args.end c.args.apart.now c.requires.apart c.stretches-stretches.result.now c.stretches-stretches.ensures c.jobs_of.result.now jobs ends found) c.ends_in.ensures

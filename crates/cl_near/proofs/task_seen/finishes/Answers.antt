@@ -7,6 +7,7 @@ use Rattle.cl_runs.specs.SystemOf.{system_of}
 use Rattle.cl_runs.proofs.ModelSystem.{range_count_is}
 use Rattle.cl_check.specs.declared.job_ends.End.TheVariants.{Finish}
 use Rattle.cl_check.specs.JobMoments.{AreEndsOfJobs}
+use Rattle.cl_check.proofs.ModelsInOrder.{shown_task_in_order}
 use Rattle.cl_near.proofs.task_seen.finishes.Goals as goal
 
 pub overflow_sub-last : goal.overflow_sub-last
@@ -24,6 +25,10 @@ ends_apart-requires-clause-is_runnable c = omega (
   c.len-runnables.ensures,
   ap (λ (task : TaskDef). length task.runnables) c.task.ensures.task,
 )
+
+pub ends_apart-requires-clause-times : goal.ends_apart-requires-clause-times
+ends_apart-requires-clause-times c =
+    (shown_task_in_order c.args.model.now c.task.ensures.valid c.args.run.now c.args.task c.requires.shows c.requires.task).times
 
 pub returns : goal.returns
 returns c =

@@ -1,15 +1,13 @@
 use Rattle.std.proofs.Common.{map, arith}
-use Rattle.cl_model.specs.Groups.{groups_at}
-use Rattle.cl_runs.specs.SystemOf.{system_of}
-use Rattle.cl_run_data.proofs.ShownTasks.{legal_shows_groups}
+use Rattle.cl_check.proofs.ModelsInOrder.{legal_chain_in_order}
 use Rattle.cl_chain.specs.JobChains.{measured_of}
 use Rattle.cl_replay.proofs.MeasuredChains.{more_measured, all_measured}
 use Rattle.cl_replay.proofs.SafeMargins.{have_margins}
 use Rattle.cl_replay.proofs.measuring.measure_all.Goals as goal
 
-pub measure_apart-requires-clause-shows : goal.measure_apart-requires-clause-shows
-measure_apart-requires-clause-shows c =
-    legal_shows_groups (system_of c.args.model.now) (groups_at c.args.model.now c.loop-chain.chain) c.args.run.now c.requires
+pub measure_apart-requires-clause-ordered : goal.measure_apart-requires-clause-ordered
+measure_apart-requires-clause-ordered c =
+    legal_chain_in_order c.args.model.now c.chains-chain-end.ensures.valid c.args.run.now c.requires c.loop-chain.chain
 
 pub loop-chain-preserved : goal.loop-chain-preserved
 loop-chain-preserved c =

@@ -1,10 +1,9 @@
-use Rattle.std.proofs.Common.{ℕ, ap, ◌∙◌, inl, inr}
+use Rattle.std.proofs.Common.{ap, ◌∙◌, inl, inr}
 use Rattle.std.proofs.lemmas.Result.{IfOk-weaker}
 use Rattle.std.specs.Prelude.{Err}
-use Rattle.cl_model.specs.declared.refusal.Code.TheVariants.{E1}
-use Rattle.cl_model.specs.Place.{top}
 use Rattle.cl_top.specs.Commands.{meaning_of}
-use Rattle.cl_top.specs.Commands.Edit.{edits_refused}
+use Rattle.cl_top.specs.Commands.Apply.{all_written, refused_alone}
+use Rattle.cl_top.specs.Commands.Edit.{bad_line}
 use Rattle.cl_top.proofs.Applied.{from_each}
 use Rattle.cl_top.proofs.EditsAlike.{listed_in_range}
 use Rattle.cl_top.proofs.commands.apply.applied.Goals as goal
@@ -18,7 +17,7 @@ unfolding meaning_of
 returns-in-Ok c = IfOk-weaker c.apply_lines.result _ _ (λ outcome is. inl (record {
   listed = c.in-Ok.lines;
   are = c.in-Ok.ensures.lines;
-  applied_to = from_each c.args.model c.in-Ok.lines outcome is;
+  applied_to = from_each all_written refused_alone c.args.model c.in-Ok.lines outcome is;
 })) c.apply_lines.ensures
 
 pub returns-in-Err-BadLine : goal.returns-in-Err-BadLine
@@ -26,5 +25,5 @@ unfolding meaning_of
 returns-in-Err-BadLine c = IfOk-weaker c.bad_line.result _ _ (λ outcome is. inr (record {
   number = c.in-Err-BadLine.line;
   bad = c.in-Err-BadLine.ensures.bad_line c.in-Err-BadLine.line (ap Err c.in-Err-BadLine.field-0-is);
-  printed = is ∙ ap (λ (number : ℕ). edits_refused number (record { code = E1; place = top })) c.in-Err-BadLine.line-is;
+  printed = is ∙ ap bad_line c.in-Err-BadLine.line-is;
 })) c.bad_line.ensures

@@ -1,10 +1,11 @@
 use Rattle.std.proofs.Common.{length}
+use Rattle.cl_top.specs.Commands.Apply.{all_written, refused_alone}
 use Rattle.cl_top.proofs.LinesApplied.{AreLeftToApply}
 use Rattle.cl_top.proofs.commands.apply.apply_lines.Given as goal
 
 -- what the edits that are left come to is what all of them come to
 abbrev pub invariant-loop-model : goal.invariant-loop-model
-invariant-loop-model l = AreLeftToApply l.fn.model l.fn.lines l.model l.lines
+invariant-loop-model l = AreLeftToApply all_written refused_alone l.fn.model l.fn.lines l.model l.lines
 
 abbrev pub decreases-loop-model : goal.decreases-loop-model
 decreases-loop-model l = length l.lines

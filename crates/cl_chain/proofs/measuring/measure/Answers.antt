@@ -1,7 +1,0 @@
-use Rattle.cl_model.specs.Groups.{groups_at}
-use Rattle.cl_runs.specs.SystemOf.{system_of}
-use Rattle.cl_run_data.proofs.ShownTasks.{legal_shows_groups}
-use Rattle.cl_chain.proofs.measuring.measure.Goals as goal
-
-pub measure_apart-requires-clause-shows : goal.measure_apart-requires-clause-shows
-measure_apart-requires-clause-shows c = legal_shows_groups (system_of c.args.model.now) (groups_at c.args.model.now c.args.chain) c.args.run.now c.requires.legal

@@ -1,0 +1,4 @@
+pub mod TraceLines
+pub mod BadTraceLines
+pub mod SaidOfRules
+pub mod Titles
