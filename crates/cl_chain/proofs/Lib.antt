@@ -17,3 +17,4 @@ pub mod DelayOrder
 pub mod EventChains
 pub mod EventTables
 pub mod GreatestDelayFacts
+pub mod SomeDelay

@@ -62,7 +62,7 @@ module _ (moments : Moments) (bound : ℕ) (are : AreDecided moments bound) wher
       by_read (inl found) = by_after found.0 found.1 (lt_or_not w (suc found.0))
       by_read (inr none) = inr (λ other. none (other.0, other.1))
 
-  earliest : (g h : Group) (m : ℕ) → Decided ((k : ℕ) × IsEarliestReader moments g h m k)
+  pub earliest : (g h : Group) (m : ℕ) → Decided ((k : ℕ) × IsEarliestReader moments g h m k)
   earliest g h m = by_write (are.write g m)
     where
       by_first : (w : ℕ) → moments.writes g m w → ((k : ℕ) × IsFirst (ReadsFrom h w) bound k) ⊎ ((k : ℕ) → k < bound → ReadsFrom h w k → ⊥)
@@ -143,7 +143,7 @@ module _ (moments : Moments) (bound : ℕ) (are : AreDecided moments bound) wher
   abbrev pub HasForward : List Group → (first : ℕ) → Type 0
   HasForward groups first = (jobs : List ℕ) × IsForward groups jobs × (slice_index jobs 0 ≡ first)
 
-  has_written : (g : Group) (m : ℕ) → Decided (HasWritten moments g m)
+  pub has_written : (g : Group) (m : ℕ) → Decided (HasWritten moments g m)
   has_written g m = by_write (are.write g m)
     where
       by_write : Decided ((t : ℕ) × moments.writes g m t) → Decided (HasWritten moments g m)
@@ -206,7 +206,7 @@ module _ (moments : Moments) (bound : ℕ) (are : AreDecided moments bound) wher
     ),
   )
 
-  earliest_once : (g h : Group) (m one other : ℕ) → IsEarliestReader moments g h m one → IsEarliestReader moments g h m other → one ≡ other
+  pub earliest_once : (g h : Group) (m one other : ℕ) → IsEarliestReader moments g h m one → IsEarliestReader moments g h m other → one ≡ other
   earliest_once g h m one other first second =
       let write : first.write ≡ second.write = are.writes_once g m first.write second.write first.writes second.writes in
       omega (

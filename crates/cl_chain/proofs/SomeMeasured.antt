@@ -17,7 +17,7 @@ use Rattle.cl_runs.proofs.FirstBelow.{both_or_not}
 use Rattle.cl_runs.proofs.MomentFacts.{reads_once, writes_once}
 use Rattle.cl_chain.proofs.ChainsByJob.{HasChain, some_count, some_measured}
 use Rattle.cl_chain.proofs.DecidedMoments.{Decided, some_read, some_write}
-use Rattle.cl_chain.proofs.LinkedJobs.{AreDecided, HasForward, forward_or_not, HasBackward, backward_or_not, backward_once}
+use Rattle.cl_chain.proofs.LinkedJobs.{AreDecided, has_written, HasForward, forward_or_not, HasBackward, backward_or_not, backward_once}
 
 module _ (moments : Moments) (bound : ℕ) (are : AreDecided moments bound) (groups : List Group) (some : 0 < length groups) where
   unique : AreUnique moments groups
@@ -25,13 +25,6 @@ module _ (moments : Moments) (bound : ℕ) (are : AreDecided moments bound) (gro
     reads = λ i job s t lt one other. are.reads_once (group_at groups i) job s t one other;
     writes = λ i job s t lt one other. are.writes_once (group_at groups i) job s t one other;
   }
-
-  has_written : (g : Group) (job : ℕ) → Decided (HasWritten moments g job)
-  has_written g job = by_write (are.write g job)
-    where
-      by_write : Decided ((t : ℕ) × moments.writes g job t) → Decided (HasWritten moments g job)
-      by_write (inl found) = inl (record { write = found.0; writes = found.1 })
-      by_write (inr none) = inr (λ has. none (has.write, has.writes))
 
   last_place : (jobs : List ℕ) → length jobs ≡ length groups → slice_index jobs (length groups - 1) ≡ slice_index jobs (length jobs - 1)
   last_place jobs size = ap (λ n. slice_index jobs (n - 1)) (sym size)
@@ -83,7 +76,7 @@ module _ (moments : Moments) (bound : ℕ) (are : AreDecided moments bound) (gro
   HasEnds last = HasWritten moments (last_group groups) last × HasWritten moments (last_group groups) (last + 1)
 
   ends_or_not : (last : ℕ) → Decided (HasEnds last)
-  ends_or_not last = both_or_not (has_written (last_group groups) last) (has_written (last_group groups) (last + 1))
+  ends_or_not last = both_or_not (has_written moments bound are (last_group groups) last) (has_written moments bound are (last_group groups) (last + 1))
 
   abbrev HasRest : (last : ℕ) → Type 0
   HasRest last = (links : HasBackward moments bound are groups last) × ((t : ℕ) × moments.reads (first_group groups) (slice_index links.0 0) t)
@@ -176,7 +169,7 @@ module _ (moments : Moments) (bound : ℕ) (are : AreDecided moments bound) (gro
 -- ---- of a run
 
 -- all jobs together are more than those of a task
-most_jobs : (run : Run) → ℕ
+pub most_jobs : (run : Run) → ℕ
 most_jobs run = sum_by length run.table.jobs
 
 jobs_few : (run : Run) (task job : ℕ) → job < length (jobs_of run task) → job < most_jobs run
@@ -186,7 +179,7 @@ jobs_few run task job lt = elim (cases_lt task (length run.table.jobs)) [
   | inr past ↦ absurd (omega (arith, lt, ap length (get_or_past run.table.jobs task [] past)))
 ]
 
-run_decided : (system : System) (run : Run) → AreDecided (run_moments system run) (most_jobs run)
+pub run_decided : (system : System) (run : Run) → AreDecided (run_moments system run) (most_jobs run)
 unfolding run_moments
 run_decided system run = record {
   read = λ group job. some_read system run group.task job group.first;

@@ -3,7 +3,7 @@ use Rattle.std.specs.Prelude.{ℕ, List, if◌then◌else◌, Option, Some, None
 use Rattle.std.specs.Str.{bytes_eq}
 use Rattle.cl_help.specs.declared.topic.Topic.{Topic}
 use Rattle.cl_help.specs.declared.topic.Topic.TheVariants as topic
-use Rattle.cl_help.specs.declared.texts.TheConstants.{ANALYSE, TIGHTEN, VERIFY, EXPLAIN, WITNESS, WHY, CHECK, CUT, ORDER, HEADROOM, MARGIN, MIGRATE, EDIT, APPLY, SIMULATE, REPLAY, DRAW, GENERATE, SURVEY, HELP, VERSION}
+use Rattle.cl_help.specs.declared.texts.TheConstants.{ANALYSE, TIGHTEN, VERIFY, EXPLAIN, WITNESS, WHY, CHECK, CUT, ORDER, HEADROOM, MARGIN, MIGRATE, EDIT, APPLY, SIMULATE, REPLAY, OBSERVE, DRAW, GENERATE, SURVEY, HELP, VERSION}
 
 -- the command of a verb
 abbrev pub topic_of : List ℕ → Option Topic
@@ -24,6 +24,7 @@ topic_of verb =
     else if bytes_eq verb (codes "apply") then Some topic.Apply
     else if bytes_eq verb (codes "simulate") then Some topic.Simulate
     else if bytes_eq verb (codes "replay") then Some topic.Replay
+    else if bytes_eq verb (codes "observe") then Some topic.Observe
     else if bytes_eq verb (codes "draw") then Some topic.Draw
     else if bytes_eq verb (codes "generate") then Some topic.Generate
     else if bytes_eq verb (codes "survey") then Some topic.Survey
@@ -49,6 +50,7 @@ about topic.Edit = EDIT.now
 about topic.Apply = APPLY.now
 about topic.Simulate = SIMULATE.now
 about topic.Replay = REPLAY.now
+about topic.Observe = OBSERVE.now
 about topic.Draw = DRAW.now
 about topic.Generate = GENERATE.now
 about topic.Survey = SURVEY.now

@@ -20,6 +20,7 @@ edit MODEL EDITS            what is found of a model as a list of edits changes 
 apply MODEL EDITS           the model after a list of edits, as such a file\n\
 simulate MODEL TICKS SEED   the trace of a run, drawn by a seed\n\
 replay MODEL TRACE          what is measured in the run of a trace\n\
+observe MODEL TRACE         what the run of a trace shows, legal or not, beside the sharp bounds\n\
 draw MODEL TRACE FROM TO    the run of a trace from one tick to another, as a picture (SVG)\n\
 generate SEED TASKS         a model that is drawn by a seed\n\
 survey SEED TASKS           the sums of what is found of such a model\n\

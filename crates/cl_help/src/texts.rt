@@ -25,6 +25,7 @@ pub fn about(topic: Topic) -> &'static str
         Topic::Apply => APPLY,
         Topic::Simulate => SIMULATE,
         Topic::Replay => REPLAY,
+        Topic::Observe => OBSERVE,
         Topic::Draw => DRAW,
         Topic::Generate => GENERATE,
         Topic::Survey => SURVEY,
@@ -332,6 +333,26 @@ Statuses:\n\
 10 memory ran out\n\
 \n\
 Example: chainlat replay model.toml drawn.trace\n";
+
+const OBSERVE: &str = "chainlat observe MODEL TRACE\n\
+\n\
+Writes what the run of a trace shows, legal or not: missed deadlines, responses, times, and the longest\n\
+job chains of each chain, beside the sharp bounds.\n\
+\n\
+MODEL is a model file of at most 16777216 bytes.\n\
+TRACE is a trace of at most 268435456 bytes.\n\
+\n\
+Statuses:\n\
+0  what is shown is written\n\
+2  the words are no command\n\
+3  a file can't be read\n\
+4  a file is too long\n\
+5  the model is refused\n\
+6  the trace is refused\n\
+9  the output failed\n\
+10 memory ran out\n\
+\n\
+Example: chainlat observe model.toml recorded.trace\n";
 
 const DRAW: &str = "chainlat draw MODEL TRACE FROM TO\n\
 \n\

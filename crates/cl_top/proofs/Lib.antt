@@ -17,7 +17,6 @@ pub mod AnswersOfRuns
 pub mod TracesOnce
 pub mod Simulations
 pub mod CountedExecutions
-pub mod LegalOrBroken
 pub mod SimulationsReplayed
 pub mod WellMeant
 pub mod Answers

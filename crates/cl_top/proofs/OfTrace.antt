@@ -1,17 +1,9 @@
 -- What the text of a trace comes to, by what comes of a legal run.
-use Rattle.std.proofs.Common.{◌≡◌, ℕ, ◌≤◌, inl, inr, List, Some, [], length, get_or, None, sym, ap, ◌∙◌, subst, arith}
+use Rattle.std.proofs.Common.{◌≡◌, ℕ, inl, inr, List, sym, ap, subst, arith}
 use Rattle.std.specs.Prelude.{Result, IfOk}
-use Rattle.std.specs.List.{slice_get}
 use Rattle.std.proofs.lemmas.Result.{IfOk-weaker}
 use Rattle.cl_time.specs.declared.no_memory.NoMemory.{NoMemory}
-use Rattle.std.proofs.Math.ListN.{length-map}
-use Rattle.std.proofs.lemmas.List.{get_or_past}
-use Rattle.std.proofs.lemmas.Option.{slice_get_cases}
 use Rattle.cl_model.specs.declared.model.SystemModel.{SystemModel}
-use Rattle.cl_model.specs.declared.model.CoreDef.{CoreDef}
-use Rattle.cl_model.specs.declared.task.TaskDef.{TaskDef}
-use Rattle.cl_model.specs.ByNumber.{no_task, task_at}
-use Rattle.cl_model.specs.Named.{core_names}
 use Rattle.cl_runs.specs.Legal.{IsLegal}
 use Rattle.cl_runs.specs.Run.{Run}
 use Rattle.cl_runs.specs.SystemOf.{system_of}
@@ -76,22 +68,3 @@ pub checked_traced : (model : SystemModel) (text : List ℕ) (run : Run) → IsT
 checked_traced model text run trace (legal_run.Legal legal) (same, is) = (subst (λ (r : Run). IsTraceOf model text r) (sym same) trace, is)
 checked_traced model text run trace (legal_run.Stopped found) (inl legal) = absurd legal.outcome
 checked_traced model text run trace (legal_run.Stopped found) (inr illegal) = inl (record { run = run; trace = trace; of_run = inr illegal })
-
--- the name of a task or a core past the last one
-none_at : {X : Type 0} (xs : List X) (i : ℕ) → None ≡ slice_get xs i → length xs ≤ i
-none_at xs i none = elim (slice_get_cases xs i).1 [
-  | inl found ↦ absurd (some_is_none found.0 (sym found.2 ∙ sym none))
-  | inr past ↦ past.0
-]
-  where
-    some_is_none : {X : Type 0} (x : X) → Some x ≡ None → ⊥
-    some_is_none x is = cc
-
-pub no_task_name : (model : SystemModel) (i : ℕ) → None ≡ slice_get model.tasks i → [] ≡ (task_at model i).name
-unfolding no_task
-no_task_name model i none = sym (ap (λ (task : TaskDef). task.name) (get_or_past model.tasks i no_task (none_at model.tasks i none)))
-
-pub no_core_name : (model : SystemModel) (i : ℕ) → None ≡ slice_get model.cores i → [] ≡ get_or (core_names model) i []
-no_core_name model i none =
-    let past : length (core_names model) ≤ i = omega (arith, none_at model.cores i none, length-map model.cores (λ (core : CoreDef). core.name)) in
-    sym (get_or_past (core_names model) i [] past)

@@ -14,7 +14,7 @@ use Rattle.cl_trace.proofs.SomeAnswer.{HasAnswer, some_answer}
 use Rattle.cl_engine.specs.declared.outcome.Outcome.{Outcome}
 use Rattle.cl_top.specs.OfTrace.{trace_refused, trace_illegal, IsOfRun, IsOfTrace}
 use Rattle.cl_top.proofs.AnswersOfRuns.{of_run_once}
-use Rattle.cl_top.proofs.LegalOrBroken.{IsBroken, legal_or_broken}
+use Rattle.cl_observe.proofs.LegalOrBroken.{IsBroken, legal_or_broken}
 
 module _ (model : SystemModel) (valid : IsValid model) (next : Run → Outcome → Type 0) where
   -- ---- there is one

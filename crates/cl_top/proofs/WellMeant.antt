@@ -5,6 +5,7 @@ pub mod Simulate
 pub mod Witness
 pub mod Why
 pub mod Replay
+pub mod Observe
 pub mod Draw
 pub mod Edit
 pub mod Apply
@@ -36,6 +37,7 @@ use Rattle.cl_top.proofs.WellMeant.Check.{checking_well}
 use Rattle.cl_top.proofs.WellMeant.CheckFile.{checking_file_well}
 use Rattle.cl_top.proofs.WellMeant.Draw.{drawing_well, drawn_once}
 use Rattle.cl_top.proofs.WellMeant.Edit.{editing_well}
+use Rattle.cl_top.proofs.WellMeant.Observe.{observing_well}
 use Rattle.cl_top.proofs.WellMeant.OnModels.{analysing_well, migrating_well, cutting_well, ordering_well, headroom_well, margin_well, tightening_well, verifying_well, explaining_well}
 use Rattle.cl_top.proofs.WellMeant.Replay.{replaying_well, replayed_once}
 use Rattle.cl_top.proofs.WellMeant.Simulate.{simulating_well}
@@ -59,6 +61,7 @@ meant_well (command.Witness what name) = witnessing_well what name (AsksForFew (
 meant_well (command.Why what name) = reasoning_well what name (AsksForFew (command.Why what name))
 meant_well (command.Simulate ticks seed) = simulating_well ticks seed (AsksForFew (command.Simulate ticks seed))
 meant_well command.Replay = replaying_well
+meant_well command.Observe = observing_well
 meant_well (command.Draw from to) = drawing_well from to (AsksForFew (command.Draw from to))
 meant_well command.Edit = editing_well
 meant_well command.Apply = applying_well
@@ -106,6 +109,7 @@ module _ (P : Option Command → Type 0) (words : List (List ℕ)) (of_whole : (
       cond_both (bytes_eq verb (codes "why")) _ _ P (λ _. why) (λ _.
       cond_both (bytes_eq verb (codes "simulate")) _ _ P (λ _. simulate) (λ _.
       cond_both (bytes_eq verb (codes "replay")) _ _ P (λ _. of_whole command.Replay tt) (λ _.
+      cond_both (bytes_eq verb (codes "observe")) _ _ P (λ _. of_whole command.Observe tt) (λ _.
       cond_both (bytes_eq verb (codes "draw")) _ _ P (λ _. draw) (λ _.
       cond_both (bytes_eq verb (codes "edit")) _ _ P (λ _. of_whole command.Edit tt) (λ _.
       cond_both (bytes_eq verb (codes "apply")) _ _ P (λ _. of_whole command.Apply tt) (λ _.
@@ -113,7 +117,7 @@ module _ (P : Option Command → Type 0) (words : List (List ℕ)) (of_whole : (
       cond_both (bytes_eq verb (codes "survey")) _ _ P (λ _. survey) (λ _.
       cond_both (bytes_eq verb (codes "help")) _ _ P (λ _. help) (λ _.
       cond_both (asks_help verb) _ _ P (λ _. of_whole command.Help tt) (λ _.
-      cond_both (asks_version verb) _ _ P (λ _. of_whole command.Version tt) (λ _. none))))))))))))))))))))))
+      cond_both (asks_version verb) _ _ P (λ _. of_whole command.Version tt) (λ _. none)))))))))))))))))))))))
 
 by_words : (words : List (List ℕ)) → IsGood AsksForFew words (command_of words)
 unfolding command_of AsksForFew

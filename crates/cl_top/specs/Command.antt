@@ -26,6 +26,7 @@ abbrev pub files_read : Command → Files
 files_read command.Check = files.Content
 files_read command.CheckFile = files.ContentAnd TRACE_LIMIT
 files_read command.Replay = files.ModelAnd TRACE_LIMIT
+files_read command.Observe = files.ModelAnd TRACE_LIMIT
 files_read (command.Draw from to) = files.ModelAnd TRACE_LIMIT
 files_read command.Edit = files.ModelAnd FILE_LIMIT
 files_read command.Apply = files.ModelAnd FILE_LIMIT
@@ -103,6 +104,7 @@ by_other_verb verb words =
     else if bytes_eq verb (codes "why") then with_subject command.Why words
     else if bytes_eq verb (codes "simulate") then with_two_numbers command.Simulate 2 (upto MOST_RUN_TICKS) any_seed words
     else if bytes_eq verb (codes "replay") then whole command.Replay words
+    else if bytes_eq verb (codes "observe") then whole command.Observe words
     else if bytes_eq verb (codes "draw") then with_two_numbers command.Draw 3 (upto MOST_WINDOW) (upto MOST_WINDOW) words
     else if bytes_eq verb (codes "edit") then whole command.Edit words
     else if bytes_eq verb (codes "apply") then whole command.Apply words

@@ -3,6 +3,7 @@ pub mod Simulate
 pub mod Witness
 pub mod Why
 pub mod Replay
+pub mod Observe
 pub mod Draw
 pub mod Edit
 pub mod Apply
@@ -36,6 +37,7 @@ use Rattle.cl_top.specs.Commands.Check.{checking}
 use Rattle.cl_top.specs.Commands.CheckFile.{checking_file}
 use Rattle.cl_top.specs.Commands.Draw.{drawing, IsDrawn}
 use Rattle.cl_top.specs.Commands.Edit.{editing}
+use Rattle.cl_top.specs.Commands.Observe.{observing}
 use Rattle.cl_top.specs.Commands.Replay.{replaying, IsReplayed}
 use Rattle.cl_top.specs.Commands.Simulate.{simulating}
 use Rattle.cl_top.specs.Commands.Why.{reasoning}
@@ -54,9 +56,9 @@ saying text = record {
   same = equal;
 }
 
--- What each command comes to, its steps, what it promises of its text, and when two outcomes of it say the same. Sixteen
+-- What each command comes to, its steps, what it promises of its text, and when two outcomes of it say the same. Seventeen
 -- promise something of every legal run, or of the model or the run that they print: `analyse`, `cut`, `order`, `headroom`,
--- `margin`, `tighten`, `verify`, `explain`, `witness`, `why`, `check` (of one file and of two), `replay`, `draw`, `edit` and `apply`. The others print no
+-- `margin`, `tighten`, `verify`, `explain`, `witness`, `why`, `check` (of one file and of two), `replay`, `observe`, `draw`, `edit` and `apply`. The others print no
 -- bound of a given model.
 unfoldable pub meaning_of : Command → Meaning
 meaning_of command.Analyse = printing IsReportOf (at_most model_steps) (promises IsSafeReportOf)
@@ -77,6 +79,7 @@ meaning_of (command.Witness what name) = witnessing what name
 meaning_of (command.Why what name) = reasoning what name
 meaning_of (command.Simulate ticks seed) = simulating ticks seed
 meaning_of command.Replay = replaying
+meaning_of command.Observe = observing
 meaning_of (command.Draw from to) = drawing from to
 meaning_of command.Edit = editing
 meaning_of command.Apply = applying

@@ -1,17 +1,15 @@
 -- Commands on a model and a trace: the first bad line of the trace, or the first rule that its run breaks, or what comes
 -- of a legal run, which each command says.
-use Rattle.std.specs.Prelude.{◌≡◌, ◌⊎◌, ℕ, List, [], ◌++◌, slice_index_or, codes, decimal}
+use Rattle.std.specs.Prelude.{◌≡◌, ◌⊎◌, ℕ, List, ◌++◌, codes, decimal}
 use Rattle.cl_text.specs.Line.{line}
 use Rattle.cl_model.specs.declared.model.SystemModel.{SystemModel}
-use Rattle.cl_model.specs.ByNumber.{task_at}
-use Rattle.cl_model.specs.Named.{core_names}
 use Rattle.cl_runs.specs.Run.{Run}
 use Rattle.cl_runs.specs.SystemOf.{system_of}
 use Rattle.cl_runs.specs.Legal.{IsLegal}
 use Rattle.cl_check.specs.declared.run_fault.Rule.{Rule}
-use Rattle.cl_check.specs.declared.run_fault.Rule.TheVariants.{Arrival, Release, Time, Missing, Schedule}
 use Rattle.cl_check.specs.declared.run_fault.RunFault.TheVariants.{Illegal}
 use Rattle.cl_check.specs.Legality.{IsFirstBroken}
+use Rattle.cl_observe.specs.Rules.{rule_words, breaker}
 use Rattle.cl_trace.specs.Rules.{IsTraceOf, IsBadTraceLine}
 use Rattle.cl_engine.specs.declared.outcome.Outcome.{Outcome}
 use Rattle.cl_engine.specs.declared.status.TheConstants.{TRACE_REFUSED}
@@ -23,19 +21,6 @@ abbrev pub trace_refused : (number : ℕ) → Outcome
 trace_refused number = record { status = TRACE_REFUSED; text = line (codes "trace refused line " ++ decimal number) }
 
 -- ---- a run that isn't legal
-
--- a rule, and what breaks it: a core its schedule, and a task every other rule
-abbrev pub rule_words : Rule → List ℕ
-rule_words Arrival = codes "arrival task "
-rule_words Release = codes "release task "
-rule_words Time = codes "time task "
-rule_words Missing = codes "missing task "
-rule_words Schedule = codes "schedule core "
-
--- the name of the task or core of a number that breaks a rule
-abbrev pub breaker : SystemModel → Rule → (place : ℕ) → List ℕ
-breaker model Schedule core = slice_index_or (core_names model) core []
-breaker model rule task = (task_at model task).name
 
 -- this rule is the first that the run breaks
 abbrev pub trace_illegal : SystemModel → Rule → (place tick : ℕ) → Outcome

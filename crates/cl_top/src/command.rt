@@ -53,6 +53,9 @@ pub enum Command {
     Simulate { ticks: u64, seed: u64 },
     /// `replay MODEL TRACE`: measures every chain in the run of a trace.
     Replay,
+    /// `observe MODEL TRACE`: writes what the run of a trace shows, legal or not, beside what is
+    /// found of the model.
+    Observe,
     /// `draw MODEL TRACE FROM TO`: draws the run of a trace, from tick FROM to tick TO.
     Draw { from: u64, to: u64 },
     /// `edit MODEL EDITS`: makes the edits of a list one after the other, and writes a report of
@@ -86,7 +89,9 @@ pub(crate) fn files_read(command: &Command) -> Files
     match command {
         Command::Check => Files::Content,
         Command::CheckFile => Files::ContentAnd { limit: TRACE_LIMIT },
-        Command::Replay | Command::Draw { .. } => Files::ModelAnd { limit: TRACE_LIMIT },
+        Command::Replay | Command::Observe | Command::Draw { .. } => {
+            Files::ModelAnd { limit: TRACE_LIMIT }
+        }
         Command::Edit | Command::Apply => Files::ModelAnd { limit: FILE_LIMIT },
         Command::Generate { .. }
         | Command::Survey { .. }
@@ -154,6 +159,7 @@ fn read_other(words: &Words, verb: &str) -> Option<Command>
         "why" => read_why(words),
         "simulate" => read_simulate(words),
         "replay" => read_whole(words, Command::Replay),
+        "observe" => read_whole(words, Command::Observe),
         "draw" => read_draw(words),
         "edit" => read_whole(words, Command::Edit),
         "apply" => read_whole(words, Command::Apply),

@@ -20,6 +20,7 @@ mod help;
 mod legal_run;
 mod margin;
 mod migrate;
+mod observe;
 mod order;
 mod replay;
 mod simulate;
@@ -47,6 +48,7 @@ use headroom::headroom;
 use help::{helped, helped_on, named_version};
 use margin::margined;
 use migrate::migrated;
+use observe::observed;
 use order::ordered;
 use replay::replayed;
 use simulate::simulated;
@@ -108,6 +110,10 @@ fn answered<L: Ledger>(
         Command::Replay => {
             let (model, trace) = given.both();
             replayed(alloc, &model, trace.as_slice(), steps)
+        }
+        Command::Observe => {
+            let (model, trace) = given.both();
+            observed(alloc, &model, trace.as_slice(), steps)
         }
         Command::Draw { from, to } => {
             let (model, trace) = given.both();

@@ -70,7 +70,7 @@ pub fn run<S: Shelf, K: Sink, L: Ledger>(
         → TellsFiles (files_of commands words.now) words.now (S.held shelf.old) contents
         → HasDecided (sink_call K.written K.faults K.last_failed sink.old sink.new) contents }
 
-    // It follows, of files that the shelf tells: what is printed at status 0 is safe. Sixteen commands
+    // It follows, of files that the shelf tells: what is printed at status 0 is safe. Seventeen commands
     // promise something of their text, each named at `meaning_of` in specs/Commands.antt; the others
     // print no bound of a given model.
     ensures safe { result ≡ DONE → (asked : AnyCommand) → command_of words.now ≡ Some asked

@@ -1,8 +1,7 @@
 -- `check` with a second file: what to mend in a list of edits or a trace.
-use Rattle.std.proofs.Common.{◌≡◌, ◌⊎◌, ℕ, ◌+◌, ◌≤◌, ◌<◌, inl, inr, Bool, true, false, List, length, Option, Some, None, Ok, refl, sym, ap, ◌∙◌, subst, arith}
+use Rattle.std.proofs.Common.{◌≡◌, ◌⊎◌, ℕ, ◌+◌, ◌≤◌, inl, inr, Bool, true, false, List, length, Option, Some, None, refl, sym, ap, ◌∙◌, subst, arith}
 use Rattle.std.specs.Prelude.{nat_lt}
 use Rattle.std.proofs.lemmas.Bool.{ltb-true}
-use Rattle.std.proofs.lemmas.List.{take_all}
 use Rattle.cl_model.specs.AreNamed.{AreNamed}
 use Rattle.cl_model.specs.declared.model.SystemModel.{SystemModel}
 use Rattle.cl_model.specs.Reading.{model_of}
@@ -15,7 +14,7 @@ use Rattle.cl_runs.specs.SystemOf.{system_of}
 use Rattle.cl_runs.proofs.ModelSystem.{system_sound}
 use Rattle.cl_check.specs.declared.run_fault.RunFault.{RunFault}
 use Rattle.cl_check.specs.declared.run_fault.RunFault.TheVariants.{Illegal, NoMemory}
-use Rattle.cl_check.specs.Legality.{IsFirstBroken}
+use Rattle.cl_observe.proofs.OneRule.{fault_once}
 use Rattle.cl_trace.specs.Rules.{IsTraceOf}
 use Rattle.cl_trace.proofs.OneReading.{bad_once}
 use Rattle.cl_trace.proofs.OneTrace.{one_run, no_bad_line}
@@ -30,21 +29,18 @@ use Rattle.cl_engine.specs.declared.files.TheConstants.{FILE_LIMIT}
 use Rattle.cl_engine.specs.declared.outcome.Outcome.{Outcome}
 use Rattle.cl_engine.specs.declared.status.TheConstants.{DONE}
 use Rattle.cl_engine.specs.Content.{Bytes, ModelAnd}
-use Rattle.cl_engine.specs.Done.{IsDone}
 use Rattle.cl_engine.specs.Language.{IsOfContent}
 use Rattle.cl_engine.specs.Outcome.{long_file, MayEnd}
 use Rattle.cl_engine.proofs.Outcomes.{SomeOutcome}
 use Rattle.cl_top.specs.declared.command.TheConstants.{TRACE_LIMIT}
 use Rattle.cl_top.specs.Commands.Check.{IsChecked, ChecksTheSame, read_steps, IsSafeAdvice}
-use Rattle.cl_top.specs.Commands.CheckFile.{accepted_file, IsAcceptedFile, with_said, all_accepted, edit_mended, line_mended, IsOfListFile, IsOfLimitedList, HasMendedRule, HasLegalRun, IsCheckedRun, IsOfTraceFile, no_title, FileChecks, IsFileChecked, IsRightFile, checking_file}
+use Rattle.cl_top.specs.Commands.CheckFile.{accepted_file, IsAcceptedFile, with_said, all_accepted, edit_mended, line_mended, IsOfListFile, IsOfLimitedList, HasMendedRule, IsCheckedRun, IsOfTraceFile, no_title, FileChecks, IsFileChecked, IsRightFile, checking_file}
 use Rattle.cl_top.specs.OfEdits.{line_at, edit_at}
 use Rattle.cl_top.specs.OfTrace.{trace_refused, trace_illegal}
 use Rattle.cl_top.specs.Meaning.{of_either}
-use Rattle.cl_top.proofs.AnswersOfRuns.{fault_once, none_broken}
+use Rattle.cl_top.proofs.AnswersOfRuns.{none_broken}
 use Rattle.cl_top.proofs.Applied.{some_applied, applied_alike}
-use Rattle.cl_top.proofs.EditPieces.{valid_after}
-use Rattle.cl_top.proofs.EditsAlike.{listed_in_range}
-use Rattle.cl_top.proofs.LegalOrBroken.{IsBroken, legal_or_broken}
+use Rattle.cl_observe.proofs.LegalOrBroken.{IsBroken, legal_or_broken}
 use Rattle.cl_top.proofs.Meanings.{IsMeantWell, done_some, done_once, either_well}
 use Rattle.cl_top.proofs.OfTrace.{six_content}
 use Rattle.cl_top.proofs.WellMeant.Apply.{all_valid}

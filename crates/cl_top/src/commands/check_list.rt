@@ -1,12 +1,11 @@
 ghost use Rattle.std.specs.Prelude.{◌≡◌, nat_lt, length, All, IfOk, Err};
-ghost use Rattle.cl_edit.specs.Changing.{with_change, MayBeMade};
 ghost use Rattle.cl_edit.specs.Edited.{edited};
 ghost use Rattle.cl_edit.specs.Ranges.{IsEditInRange};
 ghost use Rattle.cl_edit.specs.Reading.{edits_of};
 ghost use Rattle.cl_engine.specs.declared.files.TheConstants.{FILE_LIMIT};
 ghost use Rattle.cl_top.specs.Commands.CheckFile.{IsAcceptedFile, all_accepted, edit_mended, line_mended, IsOfListFile, IsOfLimitedList};
-ghost use Rattle.cl_top.specs.Inner.Applying.{ApplyTo, OrRefused};
-ghost use Rattle.cl_top.specs.Inner.ListsMade.{IsTriedAs};
+ghost use Rattle.cl_top.specs.Inner.Applying.{ApplyTo};
+ghost use Rattle.cl_top.specs.Inner.ListsMade.{IsTriedAs, IsLeftBy};
 
 use super::edit::{bad_line, refused};
 use cl_edit::{Change, EditLines, EditsFault, ListedEdit, Version, check_edit};
@@ -24,6 +23,15 @@ pub(crate) enum Tried {
     Accepted(Change),
     /// It is refused, and this is the outcome of the command.
     Stopped(Outcome),
+}
+
+/// What an edit of a list leaves.
+#[derive(Drop)]
+pub(crate) enum Left {
+    /// It is accepted, and this is the changed model.
+    Model(ValidModel),
+    /// It is refused, and this is the outcome of the command.
+    Outcome(Outcome),
 }
 
 /// Finds the outcome of `check` for a valid model and a list of edits of this version: that it is
@@ -86,33 +94,44 @@ fn try_lines(
     ensures { IfOk result (ApplyTo all_accepted (edit_mended text.now) model lines.entry) }
 {
     while let Some(listed) = lines.next(alloc)? {
-        match try_listed(alloc, &model, listed, text)? {
-            Tried::Accepted(change) => model = made(alloc, model, change)?,
-            Tried::Stopped(outcome) => return Ok(outcome),
+        match make_listed(alloc, model, listed, text)? {
+            Left::Model(changed) => model = changed,
+            Left::Outcome(outcome) => return Ok(outcome),
         }
     }
     accepted_file(alloc)
 }
 
-/// Makes a change of a model, and drops it.
-fn made(alloc: Global, model: ValidModel, change: Change) -> Result<ValidModel, NoMemory>
-    requires { MayBeMade model change }
-    ensures { IfOk result (λ changed. changed ≡ with_change model change) }
-{
-    change.make(alloc, model)
-}
-
-/// Checks an edit of a list, and drops it.
-fn try_listed(
+/// Makes an edit of a list, and drops it.
+fn make_listed(
     alloc: Global,
-    model: &ValidModel,
+    model: ValidModel,
     listed: ListedEdit,
     text: &[u8],
-) -> Result<Tried, NoMemory>
+) -> Result<Left, NoMemory>
     requires { IsEditInRange listed.edit }
-    ensures { IfOk result (IsTriedAs text.now model.now listed) }
+    ensures { IfOk result (IsLeftBy text.now model listed) }
 {
-    try_edit(alloc, model, &listed, text)
+    make_tried(alloc, model, &listed, text)
+}
+
+/// Makes an edit of a list, or the outcome of its refusal.
+fn make_tried(
+    alloc: Global,
+    model: ValidModel,
+    listed: &ListedEdit,
+    text: &[u8],
+) -> Result<Left, NoMemory>
+    requires { IsEditInRange listed.now.edit }
+    ensures { IfOk result (IsLeftBy text.now model listed.now) }
+{
+    match try_edit(alloc, &model, listed, text)? {
+        Tried::Accepted(change) => {
+            let changed = change.make(alloc, model)?;
+            Ok(Left::Model(changed))
+        }
+        Tried::Stopped(outcome) => Ok(Left::Outcome(outcome)),
+    }
 }
 
 /// Finds which change of the model an edit of a list is, or makes the outcome of its refusal.

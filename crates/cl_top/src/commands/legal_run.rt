@@ -1,14 +1,13 @@
-ghost use Rattle.std.specs.Prelude.{◌≡◌, [], slice_index_or, IfOk};
-ghost use Rattle.cl_model.specs.ByNumber.{task_at};
-ghost use Rattle.cl_model.specs.Named.{core_names};
+ghost use Rattle.std.specs.Prelude.{◌≡◌, IfOk};
 ghost use Rattle.cl_runs.specs.SystemOf.{system_of};
 ghost use Rattle.cl_runs.specs.Run.{IsInForm};
 ghost use Rattle.cl_top.specs.Inner.LegalRuns.{IsCheckedAs, IsTracedAs};
-ghost use Rattle.cl_top.specs.OfTrace.{trace_refused, rule_words, breaker, trace_illegal};
+ghost use Rattle.cl_top.specs.OfTrace.{trace_refused, trace_illegal};
 
 use cl_check::{Rule, RunFault, check_run};
 use cl_engine::{Outcome, status};
 use cl_model::ValidModel;
+use cl_observe::{breaker, rule_words};
 use cl_run_data::RunData;
 use cl_text::Text;
 use cl_time::NoMemory;
@@ -90,49 +89,4 @@ pub(super) fn illegal(
         status: status::TRACE_REFUSED,
         text,
     })
-}
-
-/// Returns the words of a rule, up to the name of the task or the core that breaks it.
-fn rule_words(rule: Rule) -> &'static [u8]
-    ensures { result.now ≡ rule_words rule }
-{
-    match rule {
-        Rule::Arrival => b"arrival task ",
-        Rule::Release => b"release task ",
-        Rule::Time => b"time task ",
-        Rule::Missing => b"missing task ",
-        Rule::Schedule => b"schedule core ",
-    }
-}
-
-/// Returns the name of what breaks a rule: for a schedule the core of number `place`, and for every
-/// other rule the task of that number. Empty past the last one.
-fn breaker(model: &ValidModel, rule: Rule, place: u32) -> &[u8]
-    ensures { result.now ≡ breaker model.now rule place }
-{
-    if rule == Rule::Schedule {
-        core_name(model, place)
-    } else {
-        task_name(model, place)
-    }
-}
-
-/// Returns the name of the core of this number, empty past the last one.
-fn core_name(model: &ValidModel, core: u32) -> &[u8]
-    ensures { result.now ≡ slice_index_or (core_names model.now) core [] }
-{
-    match model.plain().cores.at(core as usize) {
-        Some(core) => core.name.as_slice(),
-        None => b"",
-    }
-}
-
-/// Returns the name of the task of this number, empty past the last one.
-fn task_name(model: &ValidModel, task: u32) -> &[u8]
-    ensures { result.now ≡ (task_at model.now task).name }
-{
-    match model.plain().tasks.at(task as usize) {
-        Some(task) => task.name.as_slice(),
-        None => b"",
-    }
 }

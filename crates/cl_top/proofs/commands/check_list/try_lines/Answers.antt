@@ -1,13 +1,13 @@
-use Rattle.std.proofs.Common.{sym, ap, ◌∙◌, subst, Ok, Err}
+use Rattle.std.proofs.Common.{sym, subst}
 use Rattle.std.proofs.lemmas.Result.{IfOk-weaker}
-use Rattle.std.specs.Prelude.{◌≡◌, Option}
+use Rattle.std.specs.Prelude.{Option}
 use Rattle.cl_edit.specs.declared.edit_lines.ListedEdit.{ListedEdit}
 use Rattle.cl_edit.specs.Listed.{GivesNext}
 use Rattle.cl_engine.specs.declared.outcome.Outcome.{Outcome}
 use Rattle.cl_top.specs.Commands.CheckFile.{all_accepted, edit_mended}
-use Rattle.cl_top.specs.declared.commands.check_list.Tried.{Tried}
+use Rattle.cl_top.specs.declared.commands.check_list.Left.{Left}
 use Rattle.cl_top.specs.Inner.Applying.{ApplyTo}
-use Rattle.cl_top.specs.Inner.ListsMade.{IsTriedAs}
+use Rattle.cl_top.specs.Inner.ListsMade.{IsLeftBy}
 use Rattle.cl_top.proofs.LinesApplied.{all_left, next_in_range, next_applied, next_refused, none_left}
 use Rattle.cl_top.proofs.LinesMade.{next_fewer}
 use Rattle.cl_top.proofs.commands.check_list.try_lines.Goals as goal
@@ -16,14 +16,14 @@ pub loop-model-init : goal.loop-model-init
 loop-model-init c = all_left all_accepted (edit_mended c.args.text.now) c.args.model c.args.lines c.requires
 
 -- an edit that is read is in range
-pub try_listed-requires : goal.try_listed-requires
-try_listed-requires c =
+pub make_listed-requires : goal.make_listed-requires
+make_listed-requires c =
     next_in_range all_accepted (edit_mended c.args.text.now) c.args.model c.args.lines c.loop-model.model c.loop-model.lines c.loop-model.invariant
     c.in-Some.listed c.next.new.self (subst (λ (next : Option ListedEdit). GivesNext next c.loop-model.lines c.next.new.self) c.in-Some.is c.in_ok-listed.ensures.next)
 
-pub returns-in-Stopped : goal.returns-in-Stopped
-returns-in-Stopped c =
-    let stopped = subst (λ (it : Tried). IsTriedAs c.args.text.now c.loop-model.model c.in-Some.listed it) c.in-Stopped.is c.in_ok-change.ensures in
+pub returns-in-Outcome : goal.returns-in-Outcome
+returns-in-Outcome c =
+    let stopped = subst (λ (it : Left). IsLeftBy c.args.text.now c.loop-model.model c.in-Some.listed it) c.in-Outcome.is c.in_ok-changed.ensures in
     subst (λ (found : Outcome). ApplyTo all_accepted (edit_mended c.args.text.now) c.args.model c.args.lines found) (sym stopped.2)
     (next_refused all_accepted (edit_mended c.args.text.now) c.args.model c.args.lines c.loop-model.model c.loop-model.lines c.loop-model.invariant
     c.in-Some.listed c.next.new.self (subst (λ (next : Option ListedEdit). GivesNext next c.loop-model.lines c.next.new.self) c.in-Some.is c.in_ok-listed.ensures.next)
@@ -41,7 +41,6 @@ loop-model-smaller c =
 
 pub loop-model-preserved : goal.loop-model-preserved
 loop-model-preserved c =
-    let accepted = subst (λ (it : Tried). IsTriedAs c.args.text.now c.loop-model.model c.in-Some.listed it) c.in-Accepted.is c.in_ok-change.ensures in
     next_applied all_accepted (edit_mended c.args.text.now) c.args.model c.args.lines c.loop-model.model c.loop-model.lines c.loop-model.invariant
     c.in-Some.listed c.next.new.self (subst (λ (next : Option ListedEdit). GivesNext next c.loop-model.lines c.next.new.self) c.in-Some.is c.in_ok-listed.ensures.next)
-    c.in_ok-model-in-Accepted.model (accepted.1 ∙ ap Ok (sym c.in_ok-model-in-Accepted.ensures))
+    c.in-Model.changed (subst (λ (it : Left). IsLeftBy c.args.text.now c.loop-model.model c.in-Some.listed it) c.in-Model.is c.in_ok-changed.ensures)

@@ -1,5 +1,5 @@
-use Rattle.cl_top.proofs.OfTrace.{no_core_name}
-use Rattle.cl_top.proofs.commands.legal_run.core_name.Goals as goal
+use Rattle.cl_observe.proofs.NamesPast.{no_core_name}
+use Rattle.cl_observe.proofs.rules.core_name.Goals as goal
 
 pub returns-in-None : goal.returns-in-None
 returns-in-None c = no_core_name c.args.model.now c.args.core (rw c.plain.ensures.plain at c.in-None.ensures)

@@ -1,0 +1,15 @@
+pub mod OneValue
+pub mod ListedJobs
+pub mod ShownTasks
+pub mod MadeTexts
+pub mod NamesPast
+pub mod PutTexts
+pub mod OneRule
+pub mod OneObservation
+pub mod LegalValues
+pub mod Unmarked
+pub mod LegalOrBroken
+pub mod SomeValue
+pub mod DecidedJobs
+pub mod DecidedOrder
+pub mod SomeObservation

@@ -1,0 +1,9 @@
+use Rattle.std.proofs.Common.{rules}
+use Rattle.std.proofs.lemmas.List.{append_assoc}
+use Rattle.std.proofs.lemmas.Result.{IfOk-equal}
+use Rattle.cl_observe.specs.Observed.{kind_length_line}
+use Rattle.cl_observe.proofs.chain_lines.put_length.Goals as goal
+
+pub returns : goal.returns
+unfolding kind_length_line
+returns c = search (rules, IfOk-equal, append_assoc)
