@@ -11,25 +11,50 @@ ghost use Rattle.cl_runs.specs.Run.{IsInForm};
 ghost use Rattle.cl_runs.specs.Legal.{IsLegal};
 ghost use Rattle.cl_runs.specs.Chains.{first_job};
 ghost use Rattle.cl_runs.specs.Delays.{IsDelayChain};
-ghost use Rattle.cl_runs.specs.Measured.{IsMeasuredBy};
+ghost use Rattle.cl_runs.specs.RunChains.{run_moments};
+ghost use Rattle.cl_runs.specs.Measured.{IsMeasured, IsMeasuredBy};
 ghost use Rattle.cl_run_data.specs.Parts.{ShowsGroups};
 ghost use Rattle.cl_check.specs.Apart.{StandApart};
 ghost use Rattle.cl_check.specs.InOrder.{AreGroupsInOrder};
 ghost use Rattle.cl_chain.specs.GreatestDelays.{IsGreatestDelayBy};
-ghost use Rattle.cl_chain.specs.JobChains.{option_of};
+ghost use Rattle.cl_chain.specs.JobChains.{option_of, measured_of};
 ghost use Rattle.cl_chain.specs.Inner.ChainsOver.{IsForwardOver, AreForwardOrdered};
+ghost use Rattle.cl_chain.specs.Inner.GroupTables.{AreTables};
 ghost use Rattle.cl_chain.specs.Inner.Events.{AreEventTables, IsDelayOver};
 
 use crate::forward_jobs::forward_over;
 use crate::group_moments::{GroupMoments, arrivals_of, moments_of_groups_apart};
-use crate::job_chain::JobChain;
-use crate::measuring::{forward_rows, moments_before};
+use crate::job_chain::{JobChain, Measured};
+use crate::measuring::{forward_rows, measured_over, moments_before};
 use crate::rows::greatest;
 use cl_check::tasks_apart;
 use cl_model::{List, ValidModel};
 use cl_run_data::RunData;
 use cl_time::NoMemory;
 use std::alloc::Global;
+
+/// Puts an event before each job of the first of the groups of a chain.
+fn with_events(
+    alloc: Global,
+    model: &ValidModel,
+    run: &RunData,
+    chain: u32,
+    groups: List<GroupMoments>,
+) -> Result<List<GroupMoments>, NoMemory>
+    requires is_chain { chain < length model.now.chains }
+    requires in_form { IsInForm (system_of model.now) run.now }
+    requires tables { AreTables (system_of model.now) run.now (groups_at model.now chain) groups }
+    requires some { 0 < length (groups_at model.now chain) }
+    ensures { IfOk result
+        (AreEventTables (system_of model.now) run.now (groups_at model.now chain)) }
+{
+    let mut groups = groups;
+    let task = model.group(chain, 0).task;
+    let reads = arrivals_of(alloc, run.table().jobs_of(task))?;
+    let writes = moments_before(alloc, groups.as_slice()[0].writes.as_slice())?;
+    *groups.item_mut(0) = GroupMoments { reads, writes };
+    Ok(groups)
+}
 
 /// Finds when the jobs of each group of a chain read and write, with an event before each job of
 /// the first.
@@ -49,12 +74,8 @@ fn moments_after_events(
     ensures some { 0 < length (groups_at model.now chain) }
     ensures valid { IsValid model.now }
 {
-    let mut groups = moments_of_groups_apart(alloc, model, run, apart, chain)?;
-    let task = model.group(chain, 0).task;
-    let reads = arrivals_of(alloc, run.table().jobs_of(task))?;
-    let writes = moments_before(alloc, groups.as_slice()[0].writes.as_slice())?;
-    *groups.item_mut(0) = GroupMoments { reads, writes };
-    Ok(groups)
+    let groups = moments_of_groups_apart(alloc, model, run, apart, chain)?;
+    with_events(alloc, model, run, chain, groups)
 }
 
 /// Gives the first job of a chain that begins with an event its number in the run.
@@ -151,4 +172,34 @@ pub fn measure_delay_apart(
 {
     let groups = moments_after_events(alloc, model, run, apart, chain)?;
     delay_over(alloc, groups.as_slice())
+}
+
+/// Measures a chain of the model in a run as `measure` does, and finds its greatest delay as
+/// `measure_delay` does, for the same runs and with the same errors. `apart` has a list of entries
+/// for each task, as `tasks_apart` returns it.
+///
+/// Looks up the moments of the chain's groups once for both. Takes time linear, for each group of
+/// the chain, in the stretches of the list of its task and the execution times of the jobs of that
+/// task.
+pub fn measure_with_delay_apart(
+    alloc: Global,
+    model: &ValidModel,
+    run: &RunData,
+    apart: &RunData,
+    chain: u32,
+) -> Result<(Measured, Option<JobChain>), NoMemory>
+    requires is_chain { chain < length model.now.chains }
+    requires in_form { IsInForm (system_of model.now) run.now }
+    requires ordered { AreGroupsInOrder (groups_at model.now chain) run.now }
+    requires apart { StandApart (system_of model.now) run.now apart.now }
+    ensures measured { IfOk result (λ found.
+        IsMeasured (run_moments (system_of model.now) run.now) (groups_at model.now chain) (measured_of found.0)) }
+    ensures greatest { IfOk result (λ found.
+        IsGreatestDelayBy (IsDelayChain (system_of model.now) run.now (groups_at model.now chain)) (option_of found.1)) }
+{
+    let groups = moments_of_groups_apart(alloc, model, run, apart, chain)?;
+    let measured = measured_over(alloc, groups.as_slice())?;
+    let events = with_events(alloc, model, run, chain, groups)?;
+    let delay = delay_over(alloc, events.as_slice())?;
+    Ok((measured, delay))
 }

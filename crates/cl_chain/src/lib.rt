@@ -14,6 +14,6 @@ mod rows;
 mod tails;
 
 pub use chains_of_jobs::{backward, forward};
-pub use delays::{measure_delay, measure_delay_apart};
+pub use delays::{measure_delay, measure_delay_apart, measure_with_delay_apart};
 pub use job_chain::{JobChain, Measured};
 pub use measuring::{measure, measure_apart};

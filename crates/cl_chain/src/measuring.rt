@@ -220,7 +220,7 @@ fn reduced_measured(
 }
 
 /// Measures the chains over the moments of groups.
-fn measured_over(alloc: Global, groups: &[GroupMoments]) -> Result<Measured, NoMemory>
+pub(crate) fn measured_over(alloc: Global, groups: &[GroupMoments]) -> Result<Measured, NoMemory>
     requires { AreOrdered groups.now }
     ensures { IfOk result (λ measured. IsMeasuredOver groups.now (measured_of measured)) }
 {

@@ -11,7 +11,7 @@ ghost use Rattle.cl_observe.specs.Observed.{length_of, length_words, kind_length
 use crate::values::since;
 use crate::words::put_bound_beside;
 use cl_analyse::ChainAnswer;
-use cl_chain::{JobChain, Measured, measure_apart, measure_delay_apart};
+use cl_chain::{JobChain, Measured, measure_with_delay_apart};
 use cl_explain::put_signed;
 use cl_model::{LengthKind, RequirementKind, ValidModel};
 use cl_report::{kind_word, put_chain_name};
@@ -62,8 +62,7 @@ fn put_chain(
 {
     // So that it is known that the model is valid.
     let _valid = model.plain();
-    let measured = measure_apart(alloc, model, run, apart, chain)?;
-    let delay = measure_delay_apart(alloc, model, run, apart, chain)?;
+    let (measured, delay) = measure_with_delay_apart(alloc, model, run, apart, chain)?;
     put_lengths(text, model, answer, chain, &measured, &delay)
 }
 

@@ -6,9 +6,10 @@ ghost use Rattle.cl_runs.specs.Run.{IsInForm};
 ghost use Rattle.cl_check.specs.Apart.{StandApart};
 ghost use Rattle.cl_check.specs.InOrder.{IsRunInOrder};
 ghost use Rattle.cl_bound.specs.Answers.{answer_at};
+ghost use Rattle.cl_observe.specs.Inner.JobLists.{AreFinishes};
 ghost use Rattle.cl_observe.specs.Observed.{response_number, response_words, response_bound, shown_line, jitter_line, runnable_line, GoesOnWith, IsMadeOf, IsTimeLine, IsTaskText};
 
-use crate::task_shown::{ShownTask, shown_task, shown_time};
+use crate::task_shown::{ShownTask, finishes, shown_task, shown_time};
 use crate::values::{GreatestResponse, Spread};
 use crate::words::{is_outside, put_bound_beside, put_range};
 use cl_bound::TaskAnswer;
@@ -68,11 +69,12 @@ fn put_task(
     requires apart { StandApart (system_of model.now) run.now apart.now }
     ensures { OnOk result (GoesOnWith (IsTaskText model.now run.now answer.now task) text.old text.new) }
 {
-    let shown = shown_task(alloc, model, run, apart, task)?;
+    let finishes = finishes(alloc, model, run, apart, task)?;
+    let shown = shown_task(model, run, task, finishes.as_slice());
     let jobs = run.table().jobs_of(task).len();
     put_shown(text, model, answer, task, jobs as u64, shown)?;
     put_jitter(text, model, task, shown.jitter)?;
-    put_times(alloc, text, model, run, apart, task)
+    put_times(alloc, text, model, run, apart, task, finishes.as_slice())
 }
 
 /// Puts what is shown of the jobs of a task that has this answer.
@@ -160,7 +162,8 @@ fn put_jitter(
     }
 }
 
-/// Puts the lines of the times of the runnables of a task, in the order of its jobs.
+/// Puts the lines of the times of the runnables of a task, in the order of its jobs, which finish as
+/// this list says.
 fn put_times(
     alloc: Global,
     text: &mut Text,
@@ -168,17 +171,19 @@ fn put_times(
     run: &RunData,
     apart: &RunData,
     task: u32,
+    finishes: &[Option<u64>],
 ) -> Result<(), NoMemory>
     requires task { task < length model.now.tasks }
     requires in_form { IsInForm (system_of model.now) run.now }
     requires in_order { IsRunInOrder (system_of model.now) run.now }
     requires apart { StandApart (system_of model.now) run.now apart.now }
+    requires finishes { AreFinishes (system_of model.now) run.now task finishes.now }
     ensures { OnOk result
         (GoesOnWith (IsMadeOf (IsTimeLine model.now run.now task) (length (task_at model.now task).runnables)) text.old text.new) }
 {
     let runnables = model.task(task).runnables.len() as u32;
     for place in 0..runnables {
-        let time = shown_time(alloc, model, run, apart, task, place)?;
+        let time = shown_time(alloc, model, run, apart, task, place, finishes)?;
         put_time(text, model, task, place, time)?;
     }
     Ok(())

@@ -3,17 +3,14 @@
 ghost use Rattle.std.specs.Prelude.{◌≡◌, pos, ◌-ℤ◌, ◌-◌, ◌+◌, ◌<◌, length, All, IfOk};
 ghost use Rattle.cl_model.specs.ByNumber.{task_at};
 ghost use Rattle.cl_runs.specs.declared.job.Job.{Job};
-ghost use Rattle.cl_runs.specs.TaskTiming.{timing_at};
 ghost use Rattle.cl_runs.specs.SystemOf.{system_of};
 ghost use Rattle.cl_runs.specs.Run.{IsInForm};
 ghost use Rattle.cl_check.specs.Apart.{StandApart};
 ghost use Rattle.cl_check.specs.InOrder.{IsRunInOrder};
-ghost use Rattle.cl_check.specs.declared.job_ends.End.TheVariants.{Finish};
-ghost use Rattle.cl_check.specs.JobMoments.{AreEndsOfJobs};
 ghost use Rattle.cl_observe.specs.Values.{CountsBelow, IsGreatestResponseOf, IsSpreadOf};
 ghost use Rattle.cl_observe.specs.Shown.{IsShownTask, IsShownTime};
 ghost use Rattle.cl_observe.specs.Inner.Choices.{or_number, or_finish, or_time};
-ghost use Rattle.cl_observe.specs.Inner.JobLists.{is_unfinished, IsJobUnfinished, HasListedResponse, HasListedJitter, HasListedTime};
+ghost use Rattle.cl_observe.specs.Inner.JobLists.{AreFinishes, is_unfinished, IsJobUnfinished, HasListedResponse, HasListedJitter, HasListedTime};
 
 use crate::values::{GreatestResponse, Spread, or_number, or_response, since};
 use cl_check::{End, ends_apart};
@@ -138,8 +135,11 @@ fn times(jobs: &[Job], finishes: &[Option<u64>], place: usize) -> Option<Spread>
     spread
 }
 
-/// Finds when the jobs of a task finish in a run.
-fn finishes(
+/// Finds when the jobs of a task finish in a run in order. `apart` has a list of entries for each
+/// task, as `tasks_apart` returns it.
+///
+/// `NoMemory` comes where there is no memory for the finishes; it leaves nothing.
+pub(crate) fn finishes(
     alloc: Global,
     model: &ValidModel,
     run: &RunData,
@@ -150,46 +150,37 @@ fn finishes(
     requires in_form { IsInForm (system_of model.now) run.now }
     requires in_order { IsRunInOrder (system_of model.now) run.now }
     requires apart { StandApart (system_of model.now) run.now apart.now }
-    ensures { IfOk result
-        (AreEndsOfJobs Finish (system_of model.now) run.now task (length (timing_at (system_of model.now) task).ranges - 1)) }
+    ensures { IfOk result (AreFinishes (system_of model.now) run.now task) }
 {
     let runnables = model.task(task).runnables.len();
     let last = runnables as u32 - 1;
     ends_apart(alloc, model, run, apart, task, last, End::Finish)
 }
 
-/// Finds what a run in order shows of a task. `apart` has a list of entries for each task, as
-/// `tasks_apart` returns it.
-///
-/// `NoMemory` comes where there is no memory for the finishes of the task's jobs; it leaves
-/// nothing.
+/// Finds what a run shows of a task whose jobs finish as this list says.
 pub(crate) fn shown_task(
-    alloc: Global,
     model: &ValidModel,
     run: &RunData,
-    apart: &RunData,
     task: u32,
-) -> Result<ShownTask, NoMemory>
+    finishes: &[Option<u64>],
+) -> ShownTask
     requires task { task < length model.now.tasks }
     requires in_form { IsInForm (system_of model.now) run.now }
-    requires in_order { IsRunInOrder (system_of model.now) run.now }
-    requires apart { StandApart (system_of model.now) run.now apart.now }
-    ensures { IfOk result (IsShownTask (system_of model.now) run.now task) }
+    requires finishes { AreFinishes (system_of model.now) run.now task finishes.now }
+    ensures { IsShownTask (system_of model.now) run.now task result }
 {
-    let finishes = finishes(alloc, model, run, apart, task)?;
-    let finishes = finishes.as_slice();
     let table = run.table();
     let jobs = table.jobs_of(task);
     let deadline = model.deadline_of(task);
-    Ok(ShownTask {
+    ShownTask {
         misses: count_misses(jobs, finishes, deadline, table.ticks),
         response: greatest_response(jobs, finishes),
         jitter: jitters(jobs),
-    })
+    }
 }
 
 /// Finds the least and the greatest time of a runnable of a task, in the jobs of a run in order in
-/// which it has finished.
+/// which it has finished. The jobs finish as the list says, and so does their last runnable.
 ///
 /// `NoMemory` comes where there is no memory for its finishes; it leaves nothing.
 pub(crate) fn shown_time(
@@ -199,15 +190,21 @@ pub(crate) fn shown_time(
     apart: &RunData,
     task: u32,
     place: u32,
+    finishes: &[Option<u64>],
 ) -> Result<Option<Spread>, NoMemory>
     requires task { task < length model.now.tasks }
     requires place { place < length (task_at model.now task).runnables }
     requires in_form { IsInForm (system_of model.now) run.now }
     requires in_order { IsRunInOrder (system_of model.now) run.now }
     requires apart { StandApart (system_of model.now) run.now apart.now }
+    requires finishes { AreFinishes (system_of model.now) run.now task finishes.now }
     ensures { IfOk result (IsShownTime (system_of model.now) run.now task place) }
 {
-    let finishes = ends_apart(alloc, model, run, apart, task, place, End::Finish)?;
     let jobs = run.table().jobs_of(task);
-    Ok(times(jobs, finishes.as_slice(), place as usize))
+    let runnables = model.task(task).runnables.len();
+    if place as usize + 1 == runnables {
+        return Ok(times(jobs, finishes, place as usize));
+    }
+    let own = ends_apart(alloc, model, run, apart, task, place, End::Finish)?;
+    Ok(times(jobs, own.as_slice(), place as usize))
 }

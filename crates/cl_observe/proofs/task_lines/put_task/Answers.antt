@@ -14,5 +14,5 @@ pub returns : goal.returns
 returns c =
     let count = ap length (c.jobs_of-jobs.ensures ∙ ap (λ (t : JobTable). table_jobs t c.args.task) c.table.ensures) in
     on_ok_weaker c.put_times.result (λ last.
-    task_put c.args.model.now c.args.run.now c.args.answer.now c.args.task (length c.jobs_of-jobs.result.now) c.in_ok-shown.shown c.in_ok-shown.ensures count
+    task_put c.args.model.now c.args.run.now c.args.answer.now c.args.task (length c.jobs_of-jobs.result.now) c.shown_task-shown.result c.shown_task-shown.ensures count
     c.args.text.now c.put_shown.new.text c.put_jitter.new.text c.put_times.new.text c.in_ok-put_shown.ensures c.in_ok-put_jitter.ensures last) c.put_times.ensures

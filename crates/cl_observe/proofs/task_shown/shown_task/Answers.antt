@@ -1,13 +1,11 @@
-use Rattle.std.proofs.Common.{◌≡◌, ℕ, ◌-◌, Option, List, length, sym, ap, subst, ◌∙◌, arith}
+use Rattle.std.proofs.Common.{◌≡◌, sym, ap, ◌∙◌, length, arith}
 use Rattle.cl_runs.specs.declared.job.JobTable.{JobTable}
 use Rattle.cl_runs.specs.SystemOf.{system_of}
 use Rattle.cl_runs.specs.Run.{jobs_of}
 use Rattle.cl_runs.specs.Table.{table_jobs}
-use Rattle.cl_runs.specs.TaskTiming.{Timing, timing_at}
-use Rattle.cl_check.specs.declared.job_ends.End.TheVariants.{Finish}
-use Rattle.cl_check.specs.JobMoments.{AreEndsOfJobs}
-use Rattle.cl_observe.proofs.ShownTasks.{task_shown}
+use Rattle.cl_runs.specs.TaskTiming.{Timing}
 use Rattle.cl_runs.proofs.ModelSystem.{timing_is, count_is}
+use Rattle.cl_observe.proofs.ShownTasks.{task_shown}
 use Rattle.cl_observe.proofs.task_shown.shown_task.Goals as goal
 
 pub jobs_of-jobs-requires : goal.jobs_of-jobs-requires
@@ -20,8 +18,6 @@ returns c =
     let task = c.args.task in
     let jobs : c.jobs_of-jobs.result.now ≡ jobs_of c.args.run.now task = c.jobs_of-jobs.ensures ∙ ap (λ (t : JobTable). table_jobs t task) c.table-table.ensures in
     let deadline = c.deadline_of-deadline.ensures ∙ sym (ap (λ (t : Timing). t.deadline) (timing_is model task c.requires.task)) in
-    task_shown (system_of model) c.args.run.now task c.as_slice-finishes.result.now
-    (subst (λ (list : List (Option ℕ)). AreEndsOfJobs Finish (system_of model) c.args.run.now task (length (timing_at (system_of model) task).ranges - 1) list)
-    (sym c.as_slice-finishes.ensures) c.in_ok-finishes.ensures)
+    task_shown (system_of model) c.args.run.now task c.args.finishes.now c.requires.finishes
     c.jobs_of-jobs.result.now c.deadline_of-deadline.result c.table-table.result.now.ticks _ jobs deadline (ap (λ (t : JobTable). t.ticks) c.table-table.ensures)
     c.count_misses.ensures c.greatest_response.ensures c.jitters.ensures

@@ -8,7 +8,7 @@ use Rattle.cl_chain.specs.Inner.GroupTables.{AreMomentsAt, writes_in}
 use Rattle.cl_chain.specs.Inner.Events.{JobArrives}
 use Rattle.cl_chain.proofs.TailFacts.{writes_looked_up}
 use Rattle.cl_chain.proofs.EventTables.{arrivals_listed}
-use Rattle.cl_chain.proofs.delays.moments_after_events.Goals as goal
+use Rattle.cl_chain.proofs.delays.with_events.Goals as goal
 
 pub jobs_of-requires : goal.jobs_of-requires
 jobs_of-requires c = omega (
@@ -19,17 +19,17 @@ jobs_of-requires c = omega (
   ap (λ (t : JobTable). length t.jobs) c.table.ensures,
 )
 
-pub returns-clause-tables : goal.returns-clause-tables
-returns-clause-tables c =
-    let plain = c.in_ok-groups.groups in
+pub returns : goal.returns
+returns c =
+    let plain = c.args.groups in
     let some : 0 < length c.as_slice.result.now
-    = omega (arith, c.in_ok-groups.ensures.some, c.in_ok-groups.ensures.tables.one_a_group, ap length c.as_slice.ensures) in
+    = omega (arith, c.requires.some, c.requires.tables.one_a_group, ap length c.as_slice.ensures) in
     let writes : c.in_ok-writes.writes ≡ None ∷ writes_in plain 0
     = c.in_ok-writes.ensures ∙ ap (λ (ws : List (Option ℕ)). None ∷ ws)
     (writes_looked_up c.as_slice.result.now 0 some _ _ c.as_slice-2.ensures ∙ ap (λ (ts : List GroupMoments). writes_in ts 0) c.as_slice.ensures) in
     record {
       plain = plain;
-      are_tables = c.in_ok-groups.ensures.tables;
+      are_tables = c.requires.tables;
       arrivals = c.in_ok-reads.reads;
       arrive = subst (λ (g : Group). AreMomentsAt (JobArrives c.args.run.now g.task) c.in_ok-reads.reads) c.group-task.ensures.group
           (arrivals_listed c.args.run.now c.group-task.result.task c.jobs_of.result.now
