@@ -4,6 +4,9 @@ pub mod RunPaces
 pub mod Stepped
 pub mod WalkRanges
 pub mod LongestWalks
+pub mod EvenHops
+pub mod LongestStrides
+pub mod StridesCover
 pub mod ScannedStarts
 pub mod FewestArrivals
 pub mod KeptPhases

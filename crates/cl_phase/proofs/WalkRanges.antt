@@ -3,12 +3,12 @@ use Rattle.std.proofs.Common.{◌≡◌, ℕ, suc, ◌+◌, ◌-◌, ◌*◌, �
 use Rattle.std.proofs.lemmas.Int.{ints}
 use Rattle.std.proofs.lemmas.List.{get_or_default}
 use Rattle.cl_phase.specs.declared.stop.Stop.{Stop}
-use Rattle.cl_phase.specs.Pace.{first_from, last_by}
+use Rattle.cl_phase.specs.Pace.{IsPace, first_from, last_by}
 use Rattle.cl_model.specs.declared.limits.TheConstants.{MOST_TICKS}
 use Rattle.cl_stim.specs.Integers.{IsIntegerWithin}
 use Rattle.cl_stim.specs.Phase.{IsMoment}
 use Rattle.cl_phase.specs.declared.pace.Pace.{Pace}
-use Rattle.cl_phase.specs.declared.pace.Pace.TheVariants.{Kept}
+use Rattle.cl_phase.specs.declared.pace.Pace.TheVariants.{Kept, Free}
 use Rattle.cl_phase.specs.Walks.{no_stop, pace_at, lag_at, onward, back}
 use Rattle.cl_phase.specs.Inner.Ranges.{FARTHEST_START, FARTHEST_WALKED, AreStopsInRange, IsPaceInRange}
 
@@ -58,6 +58,11 @@ module _ (stops : List Stop) (are : AreStopsInRange stops) (place : ℕ) (within
 
   pub lag_in_range : IsIntegerWithin MOST_TICKS (slice_index_or stops place unset).lag
   lag_in_range = subst (IsIntegerWithin MOST_TICKS) (sym lag_here) (are.lags place within)
+
+-- a pace of a valid model goes on
+pub goes_on : (pace : Pace) → IsPaceInRange pace → IsPace pace
+goes_on (Kept phase) range = range.is_phase
+goes_on (Free greatest) range = range.0
 
 -- what a hop is given, and where it comes to
 pub given_onward : (hops : ℕ) (moment lag : ℤ) → hops ≤ 65 → IsIntegerWithin (FARTHEST_START + hops * HOP) moment → IsIntegerWithin MOST_TICKS lag

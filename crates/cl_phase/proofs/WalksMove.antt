@@ -20,7 +20,7 @@ same_length : (last moved_last first moved_first more span : ℤ) → moved_last
     → ((moved_last -ℤ moved_first) +ℤ span) ≡ ((last -ℤ first) +ℤ span)
 same_length last moved_last first moved_first more span one other = omega (arith, ints, one, other)
 
-previous_moves : (pace : Pace) → IsStepped pace → (ticks : ℕ) → ComesRound ticks pace → (moved arrival : ℤ) → moved ≡ (arrival +ℤ pos ticks)
+pub previous_moves : (pace : Pace) → IsStepped pace → (ticks : ℕ) → ComesRound ticks pace → (moved arrival : ℤ) → moved ≡ (arrival +ℤ pos ticks)
     → previous pace moved ≡ (previous pace arrival +ℤ pos ticks)
 previous_moves pace stepped ticks round moved arrival is =
     ap (last_by pace) (with_less moved arrival (pos ticks) (pos 1) is) ∙ stepped.last_moves ticks round (arrival -ℤ pos 1)

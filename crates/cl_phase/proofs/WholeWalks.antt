@@ -10,15 +10,13 @@ use Rattle.std.proofs.lemmas.Int.{ints}
 use Rattle.std.proofs.lemmas.List.FromFn.{map-range_with_len_more}
 use Rattle.cl_model.specs.declared.chain.RequirementKind.{RequirementKind}
 use Rattle.cl_stim.specs.Integers.{IsIntegerWithin}
-use Rattle.cl_phase.specs.declared.pace.Pace.{Pace}
-use Rattle.cl_phase.specs.declared.pace.Pace.TheVariants.{Kept, Free}
 use Rattle.cl_phase.specs.declared.stop.Stop.{Stop}
 use Rattle.cl_phase.specs.declared.whole.WholeWalk.{WholeWalk}
-use Rattle.cl_phase.specs.Pace.{IsPace, previous, next}
+use Rattle.cl_phase.specs.Pace.{previous, next}
 use Rattle.cl_phase.specs.Walks.{pace_at, onward, back}
 use Rattle.cl_phase.specs.TightBounds.{slowest, hyperperiod_in}
 use Rattle.cl_phase.specs.Whole.{is_kept, missed_at, taken_at, counted_at, LATEST_STEADY, IsLeastTurns, IsMovedWalk}
-use Rattle.cl_phase.specs.Inner.Ranges.{FARTHEST_JOB, FARTHEST_MOVE, LONGEST_HYPERPERIOD, IsPaceInRange, AreStopsInRange}
+use Rattle.cl_phase.specs.Inner.Ranges.{FARTHEST_JOB, FARTHEST_MOVE, LONGEST_HYPERPERIOD, AreStopsInRange}
 use Rattle.cl_phase.proofs.SlowestFacts.{hyperperiod_is_some}
 
 module _ (stops : List Stop) (place : ℕ) (start : ℤ) (group : ℕ) where
@@ -129,11 +127,7 @@ moves_few {moment} {goal} {ticks} {turn} moved near late short = by moved.turns 
 
 -- the hyperperiod of the groups of a valid model is some
 pub some_hyperperiod : (stops : List Stop) → AreStopsInRange stops → 1 ≤ hyperperiod_in stops
-some_hyperperiod stops are = hyperperiod_is_some stops (λ place within. paced (pace_at stops place) (are.paces place within))
-  where
-    paced : (pace : Pace) → IsPaceInRange pace → IsPace pace
-    paced (Kept phase) range = range.is_phase
-    paced (Free greatest) range = range.0
+some_hyperperiod stops are = hyperperiod_is_some stops (λ place within. goes_on (pace_at stops place) (are.paces place within))
 
 -- ---- the whole walk
 

@@ -147,7 +147,7 @@ module _ (stops others : List Stop) (are : AreCloser stops others) where
 
 -- ---- the greatest
 
-ticks_rise : (less more : ℤ) → less ≤ℤ more → ticks_or_none less ≤ ticks_or_none more
+pub ticks_rise : (less more : ℤ) → less ≤ℤ more → ticks_or_none less ≤ ticks_or_none more
 ticks_rise (pos m) (pos n) le = omega (arith, ints, le)
 ticks_rise (pos m) (negsuc n) le = absurd (omega (arith, ints, le))
 ticks_rise (negsuc m) more le = omega arith

@@ -20,8 +20,9 @@ use cl_model::{Group, ValidModel};
 /// and the delay of each chain of these groups in each legal run, of any length, if what is known
 /// of the groups always holds.
 ///
-/// It takes no memory, counts no step, and never fails. Its time grows with the number of arrivals
-/// of the slowest group in the hyperperiod, at most a million, times the number of groups.
+/// It takes no memory, counts no step, and never fails. Its time grows at most with the number of
+/// arrivals of the slowest group in the hyperperiod, at most a million, times the number of groups,
+/// and where phases shift evenly against each other only with how often their order changes.
 pub fn tight_bounds(model: &ValidModel, groups: &[Group], timings: &[GroupTiming]) -> Bounds
     requires some { 0 < length groups.now }
     requires few { length groups.now ≤ MOST_STEPS }

@@ -6,11 +6,13 @@
 
 mod bounding;
 mod course;
+mod even;
 mod keeping;
 pub mod laws;
 mod pace;
 mod scanning;
 mod stop;
+mod stride;
 mod walk;
 mod walked;
 mod whole;
