@@ -6,7 +6,7 @@ ghost use Rattle.cl_runs.specs.Run.{IsInForm};
 ghost use Rattle.cl_check.specs.Apart.{StandApart};
 ghost use Rattle.cl_check.specs.InOrder.{IsRunInOrder};
 ghost use Rattle.cl_bound.specs.Answers.{answer_at};
-ghost use Rattle.cl_observe.specs.Inner.JobLists.{AreFinishes};
+ghost use Rattle.cl_observe.specs.Inner.JobLists.{AreFinishTimes};
 ghost use Rattle.cl_observe.specs.Observed.{response_number, response_words, response_bound, shown_line, jitter_line, runnable_line, GoesOnWith, IsMadeOf, IsTimeLine, IsTaskText};
 
 use crate::task_shown::{ShownTask, finishes, shown_task, shown_time};
@@ -177,7 +177,7 @@ fn put_times(
     requires in_form { IsInForm (system_of model.now) run.now }
     requires in_order { IsRunInOrder (system_of model.now) run.now }
     requires apart { StandApart (system_of model.now) run.now apart.now }
-    requires finishes { AreFinishes (system_of model.now) run.now task finishes.now }
+    requires finishes { AreFinishTimes (system_of model.now) run.now task finishes.now }
     ensures { OnOk result
         (GoesOnWith (IsMadeOf (IsTimeLine model.now run.now task) (length (task_at model.now task).runnables)) text.old text.new) }
 {

@@ -10,7 +10,7 @@ ghost use Rattle.cl_check.specs.InOrder.{IsRunInOrder};
 ghost use Rattle.cl_observe.specs.Values.{CountsBelow, IsGreatestResponseOf, IsSpreadOf};
 ghost use Rattle.cl_observe.specs.Shown.{IsShownTask, IsShownTime};
 ghost use Rattle.cl_observe.specs.Inner.Choices.{or_number, or_finish, or_time};
-ghost use Rattle.cl_observe.specs.Inner.JobLists.{AreFinishes, is_unfinished, IsJobUnfinished, HasListedResponse, HasListedJitter, HasListedTime};
+ghost use Rattle.cl_observe.specs.Inner.JobLists.{AreFinishTimes, is_unfinished, IsJobUnfinished, HasListedResponse, HasListedJitter, HasListedTime};
 
 use crate::values::{GreatestResponse, Spread, or_number, or_response, since};
 use cl_check::{End, ends_apart};
@@ -150,7 +150,7 @@ pub(crate) fn finishes(
     requires in_form { IsInForm (system_of model.now) run.now }
     requires in_order { IsRunInOrder (system_of model.now) run.now }
     requires apart { StandApart (system_of model.now) run.now apart.now }
-    ensures { IfOk result (AreFinishes (system_of model.now) run.now task) }
+    ensures { IfOk result (AreFinishTimes (system_of model.now) run.now task) }
 {
     let runnables = model.task(task).runnables.len();
     let last = runnables as u32 - 1;
@@ -166,7 +166,7 @@ pub(crate) fn shown_task(
 ) -> ShownTask
     requires task { task < length model.now.tasks }
     requires in_form { IsInForm (system_of model.now) run.now }
-    requires finishes { AreFinishes (system_of model.now) run.now task finishes.now }
+    requires finishes { AreFinishTimes (system_of model.now) run.now task finishes.now }
     ensures { IsShownTask (system_of model.now) run.now task result }
 {
     let table = run.table();
@@ -197,7 +197,7 @@ pub(crate) fn shown_time(
     requires in_form { IsInForm (system_of model.now) run.now }
     requires in_order { IsRunInOrder (system_of model.now) run.now }
     requires apart { StandApart (system_of model.now) run.now apart.now }
-    requires finishes { AreFinishes (system_of model.now) run.now task finishes.now }
+    requires finishes { AreFinishTimes (system_of model.now) run.now task finishes.now }
     ensures { IfOk result (IsShownTime (system_of model.now) run.now task place) }
 {
     let jobs = run.table().jobs_of(task);

@@ -8,8 +8,8 @@ use Rattle.cl_check.specs.JobMoments.{AreEndsOfJobs}
 use Rattle.cl_runs.specs.Table.{job_at}
 
 -- when the jobs of a task finish: its last runnable does
-abbrev pub AreFinishes : System → Run → (task : ℕ) → List (Option ℕ) → Type 0
-AreFinishes system run task finishes = AreEndsOfJobs Finish system run task (length (timing_at system task).ranges - 1) finishes
+abbrev pub AreFinishTimes : System → Run → (task : ℕ) → List (Option ℕ) → Type 0
+AreFinishTimes system run task finishes = AreEndsOfJobs Finish system run task (length (timing_at system task).ranges - 1) finishes
 
 -- when a job finishes
 abbrev pub finish_at : List (Option ℕ) → (job : ℕ) → Option ℕ
