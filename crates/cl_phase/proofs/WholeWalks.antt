@@ -18,6 +18,7 @@ use Rattle.cl_phase.specs.TightBounds.{slowest, hyperperiod_in}
 use Rattle.cl_phase.specs.Whole.{is_kept, missed_at, taken_at, counted_at, LATEST_STEADY, IsLeastTurns, IsMovedWalk}
 use Rattle.cl_phase.specs.Inner.Ranges.{FARTHEST_JOB, FARTHEST_MOVE, LONGEST_HYPERPERIOD, AreStopsInRange}
 use Rattle.cl_phase.proofs.SlowestFacts.{hyperperiod_is_some}
+use Rattle.cl_phase.proofs.WalkRanges.{goes_on}
 
 module _ (stops : List Stop) (place : ℕ) (start : ℤ) (group : ℕ) where
   abbrev on_the_way_back : ℤ
